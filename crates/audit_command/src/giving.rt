@@ -2,7 +2,7 @@
 
 ghost use Rattle.std.specs.Prelude.{◌≡◌, IfOk, IsErrOf, reverse};
 ghost use Rattle.audit_command.specs.VerdictText.{verdict_text};
-ghost use Rattle.io_edges.specs.Faults.{HasCause};
+ghost use Rattle.io_edges.specs.inner.Faults.{HasCause};
 ghost use Rattle.io_edges.specs.Sinks.{GivesPart, followed_by};
 ghost use Rattle.trace_auditor.specs.declared.verdict.Verdict.{Verdict};
 ghost use Rattle.trace_auditor.specs.Judged.{Judges};

@@ -19,26 +19,26 @@ use Rattle.cached_translations.specs.declared.processor.Mode.TheVariants.{Inside
 use Rattle.job_grammar.specs.Jobs.{JobView}
 use Rattle.turn_rules.specs.declared.steps.BuildStep.{BuildStep}
 use Rattle.turn_rules.specs.Script.{build_of, built, replied, script_of}
-use Rattle.paging_laws.specs.Columns.{seat_of_stay}
-use Rattle.paging_machine.specs.Parts.{Parts, cpu_at, seat_of_mode}
-use Rattle.driver_rules.specs.Decided.{are_done, is_done, is_ended, is_outside}
+use Rattle.paging_laws.specs.inner.Columns.{seat_of_stay}
+use Rattle.paging_machine.specs.inner.Parts.{Parts, cpu_at, seat_of_mode}
+use Rattle.driver_rules.specs.inner.Decided.{are_done, is_done, is_ended, is_outside}
 use Rattle.driver_rules.specs.Dues.{IsNext, Stopped}
 use Rattle.driver_rules.specs.Scripts.{IsActors, ScriptRule}
 use Rattle.driver_rules.specs.Stops.{has_bus, is_bus, is_spent}
 use Rattle.driver_rules.specs.Turns.{Last, Loads, Fails, Other, WasEnded, cpu_due, due_after, is_last, last_by, last_of, turn_due}
 use Rattle.driver_tables.specs.declared.driver.Driver.{Driver}
-use Rattle.driver_steps.specs.Agrees.{Agrees}
+use Rattle.driver_steps.specs.inner.Agrees.{Agrees}
 use Rattle.turn_tables.specs.declared.cpu_turns.Last as kept
 use Rattle.turn_tables.specs.declared.cpu_turns.Last.TheVariants as ways
 use Rattle.turn_tables.specs.declared.turns.Turns.{Turns}
-use Rattle.turn_tables.specs.Asked.{next_step}
-use Rattle.turn_tables.specs.CpuTurns.{last_told, turn_at}
-use Rattle.turn_tables.specs.Ending.{EndsAreTold}
-use Rattle.turn_tables.specs.Shown.{ShowsTurns}
+use Rattle.turn_tables.specs.inner.Asked.{next_step}
+use Rattle.turn_tables.specs.inner.CpuTurns.{last_told, turn_at}
+use Rattle.turn_tables.specs.inner.Ending.{EndsAreTold}
+use Rattle.turn_tables.specs.inner.Shown.{ShowsTurns}
 use Rattle.turn_tables.proofs.DueLaws.{head_left}
 use Rattle.turn_tables.proofs.EndLaws.{built_few, past_all}
 use Rattle.turn_tables.proofs.LookLaws.{looks_are}
-use Rattle.audit_dues.specs.Ends.{are_done_by, is_done_by, is_ended_by, none_left, stands_outside, was_ended}
+use Rattle.audit_dues.specs.inner.Ends.{are_done_by, is_done_by, is_ended_by, none_left, stands_outside, was_ended}
 
 -- no step is left exactly where the build is whole
 build_is : (j : JobView) (past : List Entry) (t : Turns) → ShowsTurns j past t → Along (ScriptRule j) past

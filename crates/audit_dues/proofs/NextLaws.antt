@@ -10,31 +10,31 @@ use Rattle.sgx_types.specs.declared.names.Page.{Page}
 use Rattle.sgx_rules.specs.Frames.{content, least_free}
 use Rattle.sgx_types.specs.Making.{Making}
 use Rattle.job_grammar.specs.Jobs.{JobView}
-use Rattle.active_list.specs.Places.{IsPlaced}
-use Rattle.active_list.specs.States.{state_of as page_state}
+use Rattle.active_list.specs.inner.Places.{IsPlaced}
+use Rattle.active_list.specs.inner.States.{state_of as page_state}
 use Rattle.active_list.specs.declared.page_states.PageState.{PageState}
 use Rattle.active_list.specs.declared.page_states.PageState.TheVariants as states
-use Rattle.paging_laws.specs.Columns.{FrameColumns}
-use Rattle.paging_machine.specs.Parts.{Parts, state_of}
-use Rattle.driver_rules.specs.Decided.{is_actors, is_next, keeps_script}
+use Rattle.paging_laws.specs.inner.Columns.{FrameColumns}
+use Rattle.paging_machine.specs.inner.Parts.{Parts, state_of}
+use Rattle.driver_rules.specs.inner.Decided.{is_actors, is_next, keeps_script}
 use Rattle.driver_rules.specs.Dues.{Due}
 use Rattle.driver_rules.specs.Places.{Absent, Away, Here, Leaving, Loading, Place, place}
 use Rattle.driver_rules.specs.Stops.{is_spent}
 use Rattle.driver_rules.specs.Turns.{builder_due, cpu_due, fetches}
-use Rattle.driver_laws.specs.Sound.{is_absent}
+use Rattle.driver_laws.specs.inner.Sound.{is_absent}
 use Rattle.driver_tables.specs.declared.driver.Driver.{Driver}
-use Rattle.driver_tables.specs.Tables.{place_in}
-use Rattle.driver_steps.specs.Agrees.{Agrees}
+use Rattle.driver_tables.specs.inner.Tables.{place_in}
+use Rattle.driver_steps.specs.inner.Agrees.{Agrees}
 use Rattle.turn_tables.specs.declared.dues.BuilderDue.{BuilderDue}
 use Rattle.turn_tables.specs.declared.dues.BuilderDue.TheVariants as builders
 use Rattle.turn_tables.specs.declared.dues.CpuDue.{CpuDue}
 use Rattle.turn_tables.specs.declared.dues.CpuDue.TheVariants as dues
 use Rattle.turn_tables.specs.declared.turns.Turns.{Turns}
-use Rattle.turn_tables.specs.Due.{building_in, due_in}
-use Rattle.turn_tables.specs.Shown.{ShowsTurns}
-use Rattle.turn_tables.specs.TcsTurns.{has_place}
+use Rattle.turn_tables.specs.inner.Due.{building_in, due_in}
+use Rattle.turn_tables.specs.inner.Shown.{ShowsTurns}
+use Rattle.turn_tables.specs.inner.TcsTurns.{has_place}
 use Rattle.turn_tables.proofs.LookLaws.{places_same}
-use Rattle.audit_dues.specs.Next.{built_by, fetch_by, next_by, slot_if, slot_seen}
+use Rattle.audit_dues.specs.inner.Next.{built_by, fetch_by, next_by, slot_if, slot_seen}
 
 module _ (made : Making) (j : JobView) (past : List Entry) (d : Driver) (m : Parts) (t : Turns) (a : Agrees made j past d m)
     (s : ShowsTurns j past t) where

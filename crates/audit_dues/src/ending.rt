@@ -4,16 +4,16 @@ ghost use Rattle.std.specs.Prelude.{◌≡◌, ◌<◌, ◌≤◌, List, length}
 ghost use Rattle.sgx_types.specs.Making.{Making};
 ghost use Rattle.sgx_rules.specs.Rules.{Along};
 ghost use Rattle.sgx_rules.specs.declared.entries.Entry.{Entry};
-ghost use Rattle.turn_rules.specs.Cursor.{IsCursor};
+ghost use Rattle.turn_rules.specs.inner.Cursor.{IsCursor};
 ghost use Rattle.turn_rules.specs.Script.{script_of};
-ghost use Rattle.driver_rules.specs.Decided.{is_ended};
+ghost use Rattle.driver_rules.specs.inner.Decided.{is_ended};
 ghost use Rattle.driver_rules.specs.Scripts.{ScriptRule};
-ghost use Rattle.driver_steps.specs.Agrees.{Agrees};
-ghost use Rattle.turn_tables.specs.Asked.{next_step};
-ghost use Rattle.turn_tables.specs.Due.{IsReady};
-ghost use Rattle.turn_tables.specs.Ending.{EndsAreTold};
-ghost use Rattle.turn_tables.specs.Shown.{ShowsTurns};
-ghost use Rattle.audit_dues.specs.Ends.{are_done_by, is_done_by, none_left};
+ghost use Rattle.driver_steps.specs.inner.Agrees.{Agrees};
+ghost use Rattle.turn_tables.specs.inner.Asked.{next_step};
+ghost use Rattle.turn_tables.specs.inner.Due.{IsReady};
+ghost use Rattle.turn_tables.specs.inner.Ending.{EndsAreTold};
+ghost use Rattle.turn_tables.specs.inner.Shown.{ShowsTurns};
+ghost use Rattle.audit_dues.specs.inner.Ends.{are_done_by, is_done_by, none_left};
 
 use cached_translations::processor::Mode;
 use driver_tables::driver::Driver;

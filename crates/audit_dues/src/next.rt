@@ -4,9 +4,9 @@ ghost use Rattle.std.specs.Prelude.{◌≡◌, length, map, option_map};
 ghost use Rattle.sgx_rules.specs.declared.entries.Event.{Event};
 ghost use Rattle.sgx_rules.specs.Frames.{least_free};
 ghost use Rattle.turn_rules.specs.Script.{action_of};
-ghost use Rattle.paging_machine.specs.Parts.{state_of};
-ghost use Rattle.driver_rules.specs.Decided.{is_action, is_fetch, is_stop};
-ghost use Rattle.audit_dues.specs.Next.{built_by, ends_fetch, next_by, slot_seen};
+ghost use Rattle.paging_machine.specs.inner.Parts.{state_of};
+ghost use Rattle.driver_rules.specs.inner.Decided.{is_action, is_fetch, is_stop};
+ghost use Rattle.audit_dues.specs.inner.Next.{built_by, ends_fetch, next_by, slot_seen};
 
 use crate::same::same_action;
 use active_list::page_states::PageState;

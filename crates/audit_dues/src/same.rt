@@ -1,7 +1,7 @@
 //! Whether two instructions are the same. The comparison that is derived for `Action` says too little of its operands.
 
 ghost use Rattle.std.specs.Prelude.{◌≡◌};
-ghost use Rattle.driver_rules.specs.Same.{same_action, same_perm};
+ghost use Rattle.driver_rules.specs.inner.Same.{same_action, same_perm};
 
 use sgx_rules::entries::Action;
 use sgx_types::names::Perm;

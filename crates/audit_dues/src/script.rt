@@ -3,11 +3,11 @@
 ghost use Rattle.std.specs.Prelude.{◌≡◌, List};
 ghost use Rattle.sgx_types.specs.Making.{Making};
 ghost use Rattle.sgx_rules.specs.declared.entries.Entry.{Entry};
-ghost use Rattle.driver_rules.specs.Decided.{keeps_script};
+ghost use Rattle.driver_rules.specs.inner.Decided.{keeps_script};
 ghost use Rattle.driver_rules.specs.Scripts.{is_load};
-ghost use Rattle.driver_steps.specs.Agrees.{Agrees};
-ghost use Rattle.turn_tables.specs.Due.{IsOrderly, IsReady};
-ghost use Rattle.turn_tables.specs.Shown.{ShowsTurns};
+ghost use Rattle.driver_steps.specs.inner.Agrees.{Agrees};
+ghost use Rattle.turn_tables.specs.inner.Due.{IsOrderly, IsReady};
+ghost use Rattle.turn_tables.specs.inner.Shown.{ShowsTurns};
 
 use crate::next::{is_build_step, is_next};
 use driver_tables::driver::Driver;

@@ -11,32 +11,34 @@ use Rattle.sgx_rules.specs.declared.refusals.Refusal.{Refusal}
 use Rattle.sgx_rules.specs.declared.refusals.Refusal.TheVariants as why
 use Rattle.sgx_rules.specs.Ends.{DoesNotFit, IsNotBack}
 use Rattle.sgx_types.specs.Making.{Making}
-use Rattle.sgx_rules.specs.Rules.{KeepsRules, RefusalRule}
-use Rattle.sgx_rules.specs.Starts.{LoadsAreApart, Start, is_load_of, open_start}
+use Rattle.sgx_rules.specs.Rules.{RefusalRule}
+use Rattle.sgx_rules.specs.inner.Rules.{KeepsRules}
+use Rattle.sgx_rules.specs.Starts.{Start, is_load_of, open_start}
+use Rattle.sgx_rules.specs.inner.Starts.{LoadsAreApart}
 use Rattle.job_grammar.specs.Jobs.{JobView}
 use Rattle.turn_rules.specs.Machines.{machine_of}
-use Rattle.paging_machine.specs.Parts.{Parts}
+use Rattle.paging_machine.specs.inner.Parts.{Parts}
 use Rattle.driver_rules.specs.Places.{Loading, Place, place}
 use Rattle.driver_rules.specs.Turns.{WasEnded, fails_with, load_of}
-use Rattle.driver_laws.specs.Counted.{CountMoves, CountsSlots}
-use Rattle.driver_laws.specs.Driven.{IsDriven}
-use Rattle.driver_laws.specs.Kinds.{CanMove}
-use Rattle.driver_laws.specs.Sound.{IsSound, load_slot, slot_if, stands_in}
-use Rattle.driver_laws.specs.Used.{StartTells}
+use Rattle.driver_laws.specs.inner.Counted.{CountMoves, CountsSlots}
+use Rattle.driver_laws.specs.inner.Driven.{IsDriven}
+use Rattle.driver_laws.specs.inner.Kinds.{CanMove}
+use Rattle.driver_laws.specs.inner.Sound.{IsSound, load_slot, slot_if, stands_in}
+use Rattle.driver_laws.specs.inner.Used.{StartTells}
 use Rattle.driver_laws.proofs.BuiltLaws.{driven_built}
 use Rattle.driver_laws.proofs.CountLaws.{stays_counted}
 use Rattle.driver_laws.proofs.HistoryLaws.{can_move, driven_before, driven_pages, driven_sound, loading_is}
 use Rattle.driver_laws.proofs.LoadLaws.{driven_theirs}
 use Rattle.driver_laws.proofs.ReadyLaws.{driven_used, start_tells}
 use Rattle.driver_tables.specs.declared.driver.Driver.{Driver}
-use Rattle.driver_steps.specs.Agrees.{Agrees}
-use Rattle.run_history.specs.Histories.{GoesOn}
+use Rattle.driver_steps.specs.inner.Agrees.{Agrees}
+use Rattle.run_history.specs.inner.Histories.{GoesOn}
 use Rattle.run_history.proofs.HistoryLaws.{driven}
-use Rattle.turn_tables.specs.Ending.{EndsAreTold, IsForRecord}
+use Rattle.turn_tables.specs.inner.Ending.{EndsAreTold, IsForRecord}
 use Rattle.turn_tables.specs.declared.turns.Turns.{Turns}
 use Rattle.turn_tables.proofs.EndLaws.{ends_go_on}
-use Rattle.version_array.specs.Keeper.{Keeper, count_out}
-use Rattle.audit_laws.specs.Shown.{ShowsTrace}
+use Rattle.version_array.specs.inner.Keeper.{Keeper, count_out}
+use Rattle.audit_laws.specs.inner.Shown.{ShowsTrace}
 
 -- ---- loads
 

@@ -3,23 +3,23 @@
 ghost use Rattle.std.specs.Prelude.{ℕ, ◌≤◌, ◌∷◌, List};
 ghost use Rattle.sgx_types.specs.Making.{Making};
 ghost use Rattle.sgx_rules.specs.Rules.{RefusalRule};
-ghost use Rattle.sgx_rules.specs.Starts.{LoadsAreApart};
+ghost use Rattle.sgx_rules.specs.inner.Starts.{LoadsAreApart};
 ghost use Rattle.sgx_rules.specs.declared.entries.Entry.{Entry};
 ghost use Rattle.job_grammar.specs.Jobs.{JobView};
 ghost use Rattle.turn_rules.specs.Machines.{machine_of};
-ghost use Rattle.paging_machine.specs.Parts.{Parts};
-ghost use Rattle.driver_laws.specs.Counted.{CountMoves, CountsSlots};
-ghost use Rattle.driver_laws.specs.Kinds.{CanMove};
-ghost use Rattle.driver_laws.specs.Sound.{IsSound};
-ghost use Rattle.driver_laws.specs.Three.{IsApart, TcsAreApart};
-ghost use Rattle.driver_laws.specs.Used.{StartTells};
-ghost use Rattle.driver_steps.specs.Agrees.{Agrees};
+ghost use Rattle.paging_machine.specs.inner.Parts.{Parts};
+ghost use Rattle.driver_laws.specs.inner.Counted.{CountMoves, CountsSlots};
+ghost use Rattle.driver_laws.specs.inner.Kinds.{CanMove};
+ghost use Rattle.driver_laws.specs.inner.Sound.{IsSound};
+ghost use Rattle.driver_laws.specs.inner.Three.{IsApart, TcsAreApart};
+ghost use Rattle.driver_laws.specs.inner.Used.{StartTells};
+ghost use Rattle.driver_steps.specs.inner.Agrees.{Agrees};
 ghost use Rattle.driver_tables.specs.declared.driver.Driver.{Driver};
-ghost use Rattle.run_history.specs.Histories.{GoesOn};
-ghost use Rattle.turn_tables.specs.Ending.{EndsAreTold};
+ghost use Rattle.run_history.specs.inner.Histories.{GoesOn};
+ghost use Rattle.turn_tables.specs.inner.Ending.{EndsAreTold};
 ghost use Rattle.turn_tables.specs.declared.turns.Turns.{Turns};
-ghost use Rattle.version_array.specs.Keeper.{Keeper, count_out};
-ghost use Rattle.audit_laws.specs.Shown.{ShowsTrace};
+ghost use Rattle.version_array.specs.inner.Keeper.{Keeper, count_out};
+ghost use Rattle.audit_laws.specs.inner.Shown.{ShowsTrace};
 
 /// Driver and machine agree on a trace that kept each rule, where the tables show it: nothing else is asked of who made it.
 pub fn lawful_traces_agree()

@@ -18,15 +18,15 @@ use Rattle.job_grammar.specs.Jobs.{JobView}
 use Rattle.turn_rules.specs.Machines.{machine_of}
 use Rattle.turn_rules.specs.Script.{action_of}
 use Rattle.driver_rules.specs.Scripts.{ScriptRule}
-use Rattle.paging_laws.specs.Histories.{StandsWithAllRules}
-use Rattle.paging_laws.specs.State.{State, row_of}
-use Rattle.paging_laws.specs.Steps.{CanApply, IsDone, IsStep, refused_by}
+use Rattle.paging_laws.specs.inner.Histories.{StandsWithAllRules}
+use Rattle.paging_laws.specs.inner.State.{State, row_of}
+use Rattle.paging_laws.specs.inner.Steps.{CanApply, IsDone, IsStep, refused_by}
 use Rattle.run_history.specs.declared.rules.Rule.{Rule}
 use Rattle.run_history.specs.Histories.{FailsHere}
-use Rattle.audit_rules.specs.Rivals.{AreRivals, KeepsMachines, is_load_refused}
-use Rattle.audit_rules.specs.Same.{same_end}
+use Rattle.audit_rules.specs.inner.Rivals.{AreRivals, KeepsMachines, is_load_refused}
+use Rattle.audit_rules.specs.inner.Same.{same_end}
 use Rattle.audit_rules.proofs.SameLaws.{ends_alike, ends_apart}
-use Rattle.audit_machine.specs.Asked.{Breaks, GoesOnWith}
+use Rattle.audit_machine.specs.inner.Asked.{Breaks, GoesOnWith}
 use Rattle.audit_machine.proofs.KeptLaws.{last_kept}
 
 -- ---- the machine's entry is of the instruction that it was asked for

@@ -23,21 +23,22 @@ use Rattle.sgx_rules.specs.Frames.{content}
 use Rattle.sgx_types.specs.Making.{Making}
 use Rattle.sgx_rules.specs.Rules.{RefusalRule}
 use Rattle.sgx_types.specs.Sealed.{Sealed}
-use Rattle.sgx_rules.specs.Starts.{Start, BareStart, bare_start, without_place}
+use Rattle.sgx_rules.specs.Starts.{Start}
+use Rattle.sgx_rules.specs.inner.Starts.{BareStart, bare_start, without_place}
 use Rattle.sgx_rules.specs.Table.{first_of_row, is_loading}
 use Rattle.sgx_types.proofs.Truths.{both_true, not_false, tested}
 use Rattle.seal_record.specs.Cipher.{tag}
 use Rattle.seal_record.specs.Records.{Made}
-use Rattle.seal_record.specs.Row.{same_header}
+use Rattle.seal_record.specs.inner.Row.{same_header}
 use Rattle.job_grammar.specs.Jobs.{JobView}
 use Rattle.page_history.proofs.StartLaws.{starts_apart}
 use Rattle.turn_rules.specs.Machines.{machine_of}
 use Rattle.turn_rules.specs.Script.{action_of}
 use Rattle.driver_rules.specs.Scripts.{ScriptRule}
-use Rattle.paging_laws.specs.Histories.{BringsBack, BringsIn, StandsWithAllRules}
-use Rattle.paging_laws.specs.Notes.{IsDone}
-use Rattle.paging_laws.specs.State.{State}
-use Rattle.paging_laws.specs.Steps.{IsComing, IsReloaded, commit_row, did_by, refused_by}
+use Rattle.paging_laws.specs.inner.Histories.{BringsBack, BringsIn, StandsWithAllRules}
+use Rattle.paging_laws.specs.inner.Notes.{IsDone}
+use Rattle.paging_laws.specs.inner.State.{State}
+use Rattle.paging_laws.specs.inner.Steps.{IsComing, IsReloaded, commit_row, did_by, refused_by}
 use Rattle.paging_laws.proofs.ColumnLaws.{content_is, start_is}
 use Rattle.paging_laws.proofs.MoveEnds.{coming_header}
 use Rattle.paging_laws.proofs.ReloadLaws.{keeps_moves, row_allows}
@@ -46,9 +47,9 @@ use Rattle.run_history.specs.declared.rules.Rule.TheVariants as rules
 use Rattle.run_history.specs.Histories.{FailsHere}
 use Rattle.audit_rules.proofs.OrderLaws.{refusal_fails}
 use Rattle.audit_rules.proofs.SameLaws.{ends_apart}
-use Rattle.audit_rules.specs.Rivals.{AreRivals, is_load_refused}
-use Rattle.audit_rules.specs.Same.{same_end}
-use Rattle.audit_machine.specs.Asked.{Breaks, IsDoneBack, IsOwnRecord, is_unfit, other_number}
+use Rattle.audit_rules.specs.inner.Rivals.{AreRivals, is_load_refused}
+use Rattle.audit_rules.specs.inner.Same.{same_end}
+use Rattle.audit_machine.specs.inner.Asked.{Breaks, IsDoneBack, IsOwnRecord, is_unfit, other_number}
 use Rattle.audit_machine.proofs.AskLaws.{IsMadeOf, Tells, alike, made_of_it}
 use Rattle.audit_machine.proofs.KeptLaws.{last_kept}
 use Rattle.audit_machine.proofs.OtherRefusal.{other_refusal}

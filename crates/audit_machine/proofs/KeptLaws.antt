@@ -2,18 +2,20 @@
 use Rattle.std.specs.Prelude.{true}
 use Rattle.std.proofs.Common.{◌≡◌, subst, List, ◌∷◌, Some}
 use Rattle.sgx_rules.specs.declared.entries.Entry.{Entry}
-use Rattle.sgx_rules.specs.Rules.{KeepsRules, NoPageTwice, NoneStale}
+use Rattle.sgx_rules.specs.Rules.{NoPageTwice, NoneStale}
+use Rattle.sgx_rules.specs.inner.Rules.{KeepsRules}
 use Rattle.sgx_types.specs.Making.{Making}
 use Rattle.seal_record.specs.Records.{Made}
 use Rattle.job_grammar.specs.Jobs.{JobView}
 use Rattle.turn_rules.specs.Machines.{machine_of}
-use Rattle.paging_laws.specs.Histories.{StandsWithAllRules}
-use Rattle.paging_laws.specs.State.{State}
+use Rattle.paging_laws.specs.inner.Histories.{StandsWithAllRules}
+use Rattle.paging_laws.specs.inner.State.{State}
 use Rattle.paging_laws.proofs.TestLaws.{last_place}
 use Rattle.run_history.specs.declared.rules.Rule.{Rule}
 use Rattle.run_history.specs.declared.rules.Rule.TheVariants as rules
-use Rattle.run_history.specs.Histories.{Says, is_machines}
-use Rattle.audit_rules.specs.Rivals.{KeepsMachines}
+use Rattle.run_history.specs.Histories.{Says}
+use Rattle.run_history.specs.inner.Histories.{is_machines}
+use Rattle.audit_rules.specs.inner.Rivals.{KeepsMachines}
 
 -- its rules, of the machine that it was made as
 pub own_rules : (k : Making) (s : State) (past : List Entry) (records : List Made) → StandsWithAllRules k s past records → KeepsRules k past

@@ -19,7 +19,8 @@ use Rattle.sgx_rules.specs.Ends.{EndsOut}
 use Rattle.sgx_types.specs.declared.names.Page.{Page}
 use Rattle.sgx_rules.specs.Frames.{is_sealing, sealing_after}
 use Rattle.sgx_rules.specs.Rules.{RefusalRule}
-use Rattle.sgx_rules.specs.Starts.{Start, open_start, opened_by, version_told, BareStart}
+use Rattle.sgx_rules.specs.Starts.{Start, open_start, opened_by, version_told}
+use Rattle.sgx_rules.specs.inner.Starts.{BareStart}
 use Rattle.sgx_types.proofs.Truths.{tested}
 use Rattle.seal_record.specs.Cipher.{cipher, sealed, tag}
 use Rattle.seal_record.specs.Records.{Made}
@@ -29,16 +30,16 @@ use Rattle.seal_record.proofs.CipherLaws.{cipher_twice}
 use Rattle.job_grammar.specs.Jobs.{JobView}
 use Rattle.turn_rules.specs.Machines.{machine_of}
 use Rattle.turn_rules.specs.Script.{action_of}
-use Rattle.paging_laws.specs.Histories.{StandsWithAllRules, given_out}
-use Rattle.paging_laws.specs.State.{State}
-use Rattle.paging_laws.specs.Steps.{IsWrittenOut, SealsPage, did_by}
+use Rattle.paging_laws.specs.inner.Histories.{StandsWithAllRules, given_out}
+use Rattle.paging_laws.specs.inner.State.{State}
+use Rattle.paging_laws.specs.inner.Steps.{IsWrittenOut, SealsPage, did_by}
 use Rattle.paging_laws.proofs.ColumnLaws.{sealing_is}
 use Rattle.run_history.specs.declared.rules.Rule.{Rule}
 use Rattle.run_history.specs.declared.rules.Rule.TheVariants as rules
 use Rattle.audit_rules.proofs.OrderLaws.{refusal_fails}
-use Rattle.audit_rules.specs.Rivals.{is_load_refused}
-use Rattle.audit_rules.specs.Same.{same_end}
-use Rattle.audit_machine.specs.Asked.{Breaks, GoesOnWith, HasLeft}
+use Rattle.audit_rules.specs.inner.Rivals.{is_load_refused}
+use Rattle.audit_rules.specs.inner.Same.{same_end}
+use Rattle.audit_machine.specs.inner.Asked.{Breaks, GoesOnWith, HasLeft}
 use Rattle.audit_machine.proofs.AskLaws.{IsMadeOf, Tells, alike, broken, made_of_it, taken}
 
 -- ---- a frame with an open start of a write-out is on its way out

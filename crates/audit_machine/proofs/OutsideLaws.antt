@@ -7,11 +7,13 @@ use Rattle.sgx_rules.specs.declared.entries.Event.{Event}
 use Rattle.sgx_rules.specs.declared.entries.Event.TheVariants.{Did, Refused}
 use Rattle.sgx_types.specs.declared.names.Actor.TheVariants as actors
 use Rattle.sgx_rules.specs.declared.entries.Action.{Action}
-use Rattle.sgx_rules.specs.declared.entries.Action.TheVariants.{Init, Enter, Resume, OutLoad, OutStore, Track, EwbStart, Ewb, EldStart, Eld}
+use Rattle.sgx_rules.specs.declared.entries.Action.TheVariants.{Init, Enter, Resume, OutLoad, OutStore, Track, EwbStart, Ewb}
+use Rattle.sgx_rules.specs.declared.entries.Action.TheVariants.{EldStart, Eld}
 use Rattle.sgx_rules.specs.declared.entries.Answer.{Answer}
 use Rattle.sgx_types.specs.declared.names.Page.{Page}
 use Rattle.sgx_rules.specs.declared.refusals.Refusal.{Refusal}
-use Rattle.sgx_rules.specs.Rules.{FlatRule, KeepsRules, NoPageTwice, NoneStale, RefusalRule}
+use Rattle.sgx_rules.specs.Rules.{FlatRule, NoPageTwice, NoneStale, RefusalRule}
+use Rattle.sgx_rules.specs.inner.Rules.{KeepsRules}
 use Rattle.sgx_rules.specs.Sights.{row_at}
 use Rattle.sgx_rules.specs.Table.{first_of_row}
 use Rattle.measure_log.specs.Rule.{MeasureRule}
@@ -21,21 +23,22 @@ use Rattle.turn_rules.specs.Script.{action_of}
 use Rattle.driver_rules.specs.Ages.{InPass, IsInTries}
 use Rattle.driver_rules.specs.Passes.{Between, Blocking, Pass, Scan, Tries, pass}
 use Rattle.driver_rules.specs.Scripts.{ScriptRule}
-use Rattle.paging_laws.specs.State.{State, row_outside}
-use Rattle.paging_laws.specs.Steps.{is_of_cpus}
+use Rattle.paging_laws.specs.inner.State.{State, row_outside}
+use Rattle.paging_laws.specs.inner.Steps.{is_of_cpus}
 use Rattle.paging_laws.proofs.RowLaws.{row_outside_agrees}
 use Rattle.paging_laws.proofs.TestLaws.{last_place}
 use Rattle.run_history.specs.declared.rules.Rule.{Rule}
 use Rattle.run_history.specs.declared.rules.Rule.TheVariants as rules
-use Rattle.run_history.specs.Histories.{FailsHere, Says, is_machines}
-use Rattle.audit_rules.specs.Forms.{has_form}
-use Rattle.audit_rules.specs.Same.{same_refusal}
+use Rattle.run_history.specs.Histories.{FailsHere, Says}
+use Rattle.run_history.specs.inner.Histories.{is_machines}
+use Rattle.audit_rules.specs.inner.Forms.{has_form}
+use Rattle.audit_rules.specs.inner.Same.{same_refusal}
 use Rattle.audit_rules.proofs.FormLaws.{has_its_form, is_apart, is_of_its_form}
 use Rattle.audit_rules.proofs.OrderLaws.{age_fails, flat_fails, refusal_fails}
 use Rattle.audit_rules.proofs.SameLaws.{ends_apart, refusal_same}
-use Rattle.audit_machine.specs.Asked.{Breaks}
-use Rattle.audit_machine.specs.Outside.{rule_outside}
-use Rattle.audit_machine.specs.Outside as outside
+use Rattle.audit_machine.specs.inner.Asked.{Breaks}
+use Rattle.audit_machine.specs.inner.Outside.{rule_outside}
+use Rattle.audit_machine.specs.inner.Outside as outside
 use Rattle.audit_machine.proofs.KeptLaws.{own_rules}
 
 abbrev done : Action → Answer → Entry

@@ -1,10 +1,10 @@
 //! The instructions but the ends of starts.
 
 ghost use Rattle.std.specs.Prelude.{◌≡◌, IfOk, OnErr, None, Some, length};
-ghost use Rattle.audit_machine.specs.Asked.{Takes};
-ghost use Rattle.paging_laws.specs.State.{making_of};
-ghost use Rattle.paging_laws.specs.Steps.{CanApply, IsStep, MayNeedMemory};
-ghost use Rattle.paging_machine.specs.Parts.{state_of};
+ghost use Rattle.audit_machine.specs.inner.Asked.{Takes};
+ghost use Rattle.paging_laws.specs.inner.State.{making_of};
+ghost use Rattle.paging_laws.specs.inner.Steps.{CanApply, IsStep, MayNeedMemory};
+ghost use Rattle.paging_machine.specs.inner.Parts.{state_of};
 ghost use Rattle.turn_rules.specs.Script.{action_of};
 
 use audit_rules::rivals::first_broken;

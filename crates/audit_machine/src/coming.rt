@@ -1,10 +1,10 @@
 //! The end of a load.
 
 ghost use Rattle.std.specs.Prelude.{◌≡◌, true, IfOk, OnErr, Some, length};
-ghost use Rattle.audit_machine.specs.Asked.{IsDoneBack, TakesBack, is_unfit, other_number};
-ghost use Rattle.paging_laws.specs.State.{making_of};
-ghost use Rattle.paging_laws.specs.Steps.{refused_by};
-ghost use Rattle.paging_machine.specs.Parts.{state_of};
+ghost use Rattle.audit_machine.specs.inner.Asked.{IsDoneBack, TakesBack, is_unfit, other_number};
+ghost use Rattle.paging_laws.specs.inner.State.{making_of};
+ghost use Rattle.paging_laws.specs.inner.Steps.{refused_by};
+ghost use Rattle.paging_machine.specs.inner.Parts.{state_of};
 ghost use Rattle.sgx_rules.specs.declared.entries.Action.TheVariants as actions;
 ghost use Rattle.sgx_rules.specs.Table.{is_loading};
 ghost use Rattle.turn_rules.specs.Script.{action_of};

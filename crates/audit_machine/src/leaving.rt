@@ -1,9 +1,9 @@
 //! The end of a write-out.
 
 ghost use Rattle.std.specs.Prelude.{◌≡◌, IfOk, OnErr, Some, length};
-ghost use Rattle.audit_machine.specs.Asked.{TakesOut};
-ghost use Rattle.paging_laws.specs.State.{making_of};
-ghost use Rattle.paging_machine.specs.Parts.{state_of};
+ghost use Rattle.audit_machine.specs.inner.Asked.{TakesOut};
+ghost use Rattle.paging_laws.specs.inner.State.{making_of};
+ghost use Rattle.paging_machine.specs.inner.Parts.{state_of};
 ghost use Rattle.sgx_rules.specs.declared.entries.Action.TheVariants as actions;
 ghost use Rattle.turn_rules.specs.Script.{action_of};
 

@@ -1,10 +1,10 @@
 //! Instructions of processors that the reclaimer made.
 
 ghost use Rattle.std.specs.Prelude.{◌≡◌, true, Some};
-ghost use Rattle.audit_machine.specs.Asked.{Breaks};
-ghost use Rattle.audit_machine.specs.Outside.{rule_of_done, rule_of_refused, rule_outside};
-ghost use Rattle.paging_laws.specs.Steps.{is_of_cpus};
-ghost use Rattle.paging_machine.specs.Parts.{state_of};
+ghost use Rattle.audit_machine.specs.inner.Asked.{Breaks};
+ghost use Rattle.audit_machine.specs.inner.Outside.{rule_of_done, rule_of_refused, rule_outside};
+ghost use Rattle.paging_laws.specs.inner.Steps.{is_of_cpus};
+ghost use Rattle.paging_machine.specs.inner.Parts.{state_of};
 ghost use Rattle.sgx_types.specs.declared.names.Actor.TheVariants as actors;
 ghost use Rattle.turn_rules.specs.Script.{action_of};
 

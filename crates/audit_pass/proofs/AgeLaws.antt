@@ -14,25 +14,25 @@ use Rattle.sgx_types.specs.declared.names.Frame.{Frame}
 use Rattle.sgx_types.specs.declared.names.Page.{Page}
 use Rattle.sgx_types.specs.Pages.{same_page}
 use Rattle.job_grammar.specs.Jobs.{JobView}
-use Rattle.active_list.specs.Holds.{is_held as is_held_by}
-use Rattle.active_list.specs.Listing as listing
-use Rattle.driver_rules.specs.Decided as decided
-use Rattle.driver_rules.specs.Decided.{is_in_pass, is_some_page, keeps_age, looks_at, looks_of, pass_of}
+use Rattle.active_list.specs.inner.Holds.{is_held as is_held_by}
+use Rattle.active_list.specs.inner.Listing as listing
+use Rattle.driver_rules.specs.inner.Decided as decided
+use Rattle.driver_rules.specs.inner.Decided.{is_in_pass, is_some_page, keeps_age, looks_at, looks_of, pass_of}
 use Rattle.driver_rules.specs.Dues.{is_look}
 use Rattle.driver_rules.specs.Holds.{is_held}
 use Rattle.driver_rules.specs.Passes as passes
 use Rattle.driver_rules.specs.Places.{Leaving, active, is_young, place}
 use Rattle.driver_tables.proofs.HeldLaws.{held_same}
 use Rattle.driver_tables.specs.declared.driver.Driver.{Driver}
-use Rattle.driver_tables.specs.Held.{ShowsHolds}
-use Rattle.driver_tables.specs.Tables.{ShowsTables}
+use Rattle.driver_tables.specs.inner.Held.{ShowsHolds}
+use Rattle.driver_tables.specs.inner.Tables.{ShowsTables}
 use Rattle.driver_tables.proofs.ListLaws.{head_marks, heads}
 use Rattle.audit_pass.specs.declared.stages.Stage.{Stage}
 use Rattle.audit_pass.specs.declared.stages.Stage.TheVariants as stages
 use Rattle.audit_pass.specs.declared.stages.Taken.{Taken}
-use Rattle.audit_pass.specs.Standing.{AreInFrames, StandsAt}
-use Rattle.audit_pass.specs.Told.{age_told, in_pass, in_tries, is_in_block, is_in_tries, look_is_right, looks_right}
-use Rattle.audit_pass.specs.Viewed.{TraceView, form_in, pages_in, pass_by, tries_of, waiting_by}
+use Rattle.audit_pass.specs.inner.Standing.{AreInFrames, StandsAt}
+use Rattle.audit_pass.specs.inner.Told.{age_told, in_pass, in_tries, is_in_block, is_in_tries, look_is_right, looks_right}
+use Rattle.audit_pass.specs.inner.Viewed.{TraceView, form_in, pages_in, pass_by, tries_of, waiting_by}
 use Rattle.audit_pass.proofs.ListLaws.{get_drop, head}
 
 -- ---- looks

@@ -19,17 +19,17 @@ use Rattle.driver_rules.specs.Places.{Leaving, place}
 use Rattle.driver_laws.proofs.MoveLaws.{place-quiet}
 use Rattle.driver_laws.proofs.SoundLaws.{entry_of}
 use Rattle.driver_laws.proofs.StillLaws.{frames_apart, still}
-use Rattle.driver_laws.specs.Kinds.{CanMove, is_quiet}
-use Rattle.driver_laws.specs.Sound.{IsSound}
-use Rattle.driver_laws.specs.Stages.{touches}
-use Rattle.driver_laws.specs.Tracks.{OwnRule, is_reclaimers}
+use Rattle.driver_laws.specs.inner.Kinds.{CanMove, is_quiet}
+use Rattle.driver_laws.specs.inner.Sound.{IsSound}
+use Rattle.driver_laws.specs.inner.Stages.{touches}
+use Rattle.driver_laws.specs.inner.Tracks.{OwnRule, is_reclaimers}
 use Rattle.audit_pass.specs.declared.stages.Form.{Form}
 use Rattle.audit_pass.specs.declared.stages.Form.TheVariants as forms
 use Rattle.audit_pass.specs.declared.stages.Stage.{Stage}
 use Rattle.audit_pass.specs.declared.stages.Stage.TheVariants as stages
 use Rattle.audit_pass.specs.declared.stages.Taken.{Taken}
-use Rattle.audit_pass.specs.Standing.{AreInFrames, IsForm, IsStage, StandsFor}
-use Rattle.audit_pass.specs.Viewed.{TraceView, pages_in, waiting_by}
+use Rattle.audit_pass.specs.inner.Standing.{AreInFrames, IsForm, IsStage, StandsFor}
+use Rattle.audit_pass.specs.inner.Viewed.{TraceView, pages_in, waiting_by}
 
 -- ---- frames
 

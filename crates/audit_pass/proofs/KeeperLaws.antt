@@ -4,8 +4,8 @@ use Rattle.std.proofs.Common.{List, [], ◌∷◌, ◌++◌}
 use Rattle.std.proofs.Common.{append_assoc, Some, arith}
 use Rattle.std.proofs.lemmas.List.{append-nil}
 use Rattle.sgx_types.specs.declared.names.Cpu.{Cpu}
-use Rattle.audit_pass.specs.Keeping.{first_of, passing_from}
-use Rattle.audit_pass.specs.Viewed.{numbers_in}
+use Rattle.audit_pass.specs.inner.Keeping.{first_of, passing_from}
+use Rattle.audit_pass.specs.inner.Viewed.{numbers_in}
 
 -- the first of some that are left
 next : (test : ℕ → Bool) (n len : ℕ) → n < len

@@ -1,7 +1,7 @@
 -- The place in a list up to which something is done.
 use Rattle.std.proofs.Common.{◌≡◌, ℕ, zero, suc, ◌+◌, ◌<◌, ◌≤◌, nat_lt, true, false, refl, ap, List, [], ◌∷◌}
 use Rattle.std.proofs.Common.{Option, Some, None, drop, length, slice_get, arith}
-use Rattle.audit_pass.specs.Noted.{behind}
+use Rattle.audit_pass.specs.inner.Noted.{behind}
 
 abbrev pub head : {A : Type 0} → List A → Option A
 head [] = None

@@ -11,24 +11,24 @@ use Rattle.sgx_rules.specs.declared.entries.Look.{Look}
 use Rattle.sgx_rules.specs.declared.entries.Look.TheVariants as looks
 use Rattle.sgx_types.specs.declared.names.Page.{Page}
 use Rattle.job_grammar.specs.Jobs.{JobView}
-use Rattle.active_list.specs.States.{state_of}
+use Rattle.active_list.specs.inner.States.{state_of}
 use Rattle.driver_rules.specs.Ages.{head_of}
 use Rattle.driver_rules.specs.Passes as passes
 use Rattle.driver_rules.specs.Passes.{scan_on}
 use Rattle.driver_rules.specs.Places.{Here, Leaving, active, place}
 use Rattle.driver_laws.proofs.MoveLaws.{place-taken}
 use Rattle.driver_laws.proofs.SoundLaws.{entry_of, head_here}
-use Rattle.driver_laws.specs.Sound.{IsSound, is_absent}
+use Rattle.driver_laws.specs.inner.Sound.{IsSound, is_absent}
 use Rattle.driver_tables.specs.declared.driver.Driver.{Driver}
-use Rattle.driver_tables.specs.Tables.{ShowsTables}
+use Rattle.driver_tables.specs.inner.Tables.{ShowsTables}
 use Rattle.driver_tables.proofs.ListLaws.{heads}
-use Rattle.driver_tables.specs.Moves.{frame_in}
+use Rattle.driver_tables.specs.inner.Moves.{frame_in}
 use Rattle.driver_tables.proofs.ShowLaws.{here_frame}
 use Rattle.audit_pass.specs.declared.stages.Stage.{Stage}
 use Rattle.audit_pass.specs.declared.stages.Taken.{Taken}
-use Rattle.audit_pass.specs.Noted.{after_look, looked_on, taken_by, with_frame, with_taken}
-use Rattle.audit_pass.specs.Standing.{AreInFrames, StandsFor}
-use Rattle.audit_pass.specs.Viewed.{pages_in}
+use Rattle.audit_pass.specs.inner.Noted.{after_look, looked_on, taken_by, with_frame, with_taken}
+use Rattle.audit_pass.specs.inner.Standing.{AreInFrames, StandsFor}
+use Rattle.audit_pass.specs.inner.Viewed.{pages_in}
 use Rattle.audit_pass.proofs.FrameLaws.{frames_stay}
 
 pages_append : (xs ys : List Taken) → pages_in (xs ++ ys) ≡ pages_in xs ++ pages_in ys

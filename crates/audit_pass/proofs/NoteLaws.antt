@@ -21,32 +21,33 @@ use Rattle.sgx_rules.specs.Frames.{content, is_free}
 use Rattle.sgx_types.specs.Making.{Making}
 use Rattle.sgx_rules.specs.Rules.{RefusalRule}
 use Rattle.sgx_rules.specs.Sights.{drain_sight_at, sight_at, slot_sight_at}
-use Rattle.sgx_rules.specs.Table.{DrainSight, FrameSight, SlotSight, ewbstart_row, first_of_row, is_busy, is_out_of_range, is_secs, is_va}
+use Rattle.sgx_rules.specs.Table.{DrainSight, FrameSight, SlotSight, ewbstart_row, first_of_row, is_busy, is_out_of_range}
+use Rattle.sgx_rules.specs.Table.{is_secs, is_va}
 use Rattle.sgx_rules.proofs.Contents.{page_enclave}
 use Rattle.job_grammar.specs.declared.jobs.Marks.{Marks}
 use Rattle.job_grammar.specs.Jobs.{JobView}
-use Rattle.paging_machine.specs.Parts.{Parts}
+use Rattle.paging_machine.specs.inner.Parts.{Parts}
 use Rattle.driver_rules.specs.Ages.{AgeRule, InPass, IsInTries}
 use Rattle.driver_rules.specs.Passes as passes
 use Rattle.driver_rules.specs.Passes.{Between, Blocking, Pass, Tries, free_count, keepers, kicks_on, pass, pass_after, scan_on}
 use Rattle.driver_rules.specs.Places.{Leaving, active, place}
 use Rattle.driver_laws.proofs.SoundLaws.{entry_of}
 use Rattle.driver_laws.proofs.StillLaws.{holds_here}
-use Rattle.driver_laws.specs.Kinds.{CanMove}
-use Rattle.driver_laws.specs.Stages.{HasPages}
-use Rattle.driver_laws.specs.Tracks.{OwnRule}
+use Rattle.driver_laws.specs.inner.Kinds.{CanMove}
+use Rattle.driver_laws.specs.inner.Stages.{HasPages}
+use Rattle.driver_laws.specs.inner.Tracks.{OwnRule}
 use Rattle.driver_tables.specs.declared.driver.Driver.{Driver}
 use Rattle.driver_tables.proofs.ListLaws.{lengths}
-use Rattle.driver_steps.specs.Agrees.{Agrees}
+use Rattle.driver_steps.specs.inner.Agrees.{Agrees}
 use Rattle.audit_pass.specs.declared.stages.Form.{Form}
 use Rattle.audit_pass.specs.declared.stages.Form.TheVariants as forms
 use Rattle.audit_pass.specs.declared.stages.Stage.{Stage}
 use Rattle.audit_pass.specs.declared.stages.Stage.TheVariants as stages
 use Rattle.audit_pass.specs.declared.stages.Taken.{Taken}
-use Rattle.audit_pass.specs.Keeping.{keepers_by}
-use Rattle.audit_pass.specs.Noted.{after_kick, behind, decided, gone_by, gone_on, kicked_with, noted}
-use Rattle.audit_pass.specs.Standing.{AreInFrames, IsForm, StandsAt, StandsFor}
-use Rattle.audit_pass.specs.Viewed.{TraceView, form_in, pages_in, pass_by, tries_of}
+use Rattle.audit_pass.specs.inner.Keeping.{keepers_by}
+use Rattle.audit_pass.specs.inner.Noted.{after_kick, behind, decided, gone_by, gone_on, kicked_with, noted}
+use Rattle.audit_pass.specs.inner.Standing.{AreInFrames, IsForm, StandsAt, StandsFor}
+use Rattle.audit_pass.specs.inner.Viewed.{TraceView, form_in, pages_in, pass_by, tries_of}
 use Rattle.audit_pass.proofs.FrameLaws.{form_stays, frames_behind, frames_quiet, others_stand}
 use Rattle.audit_pass.proofs.ListLaws.{behind_last, behind_more, drop_next, get_drop, head}
 use Rattle.audit_pass.proofs.LookLaws.{look_stands}

@@ -5,14 +5,15 @@ use Rattle.std.proofs.Common.{List, [], ◌∷◌, ◌++◌, Option, Some, None,
 use Rattle.std.proofs.lemmas.List.{get_or_past}
 use Rattle.std.proofs.Math.Bool.{and-true}
 use Rattle.paging_laws.proofs.ColumnLaws.{inside_is, noted_is}
-use Rattle.sgx_rules.specs.ByEpochs.{IsTrackedBlock, notes}
+use Rattle.sgx_rules.specs.inner.ByEpochs.{IsTrackedBlock, notes}
 use Rattle.sgx_types.specs.declared.names.Actor.{Actor}
 use Rattle.sgx_types.specs.declared.names.Actor.TheVariants as actors
 use Rattle.sgx_rules.specs.declared.entries.Entry.{Entry}
 use Rattle.sgx_rules.specs.declared.entries.Event.{Event}
 use Rattle.sgx_rules.specs.declared.entries.Event.TheVariants.{Kick}
 use Rattle.sgx_types.specs.declared.names.Page.{Page}
-use Rattle.sgx_rules.specs.Epochs.{block_epoch, epoch, noted}
+use Rattle.sgx_rules.specs.Epochs.{epoch}
+use Rattle.sgx_rules.specs.inner.Epochs.{block_epoch, noted}
 use Rattle.sgx_rules.specs.Frames.{content}
 use Rattle.sgx_types.specs.Making.{Making}
 use Rattle.sgx_rules.specs.Processors.{Stay, stay}
@@ -21,28 +22,29 @@ use Rattle.job_grammar.specs.Jobs.{JobView}
 use Rattle.cached_translations.specs.declared.processor.Mode.{Mode}
 use Rattle.cached_translations.specs.declared.processor.Mode.TheVariants as modes
 use Rattle.cached_translations.specs.declared.processor.Processor.{Processor}
-use Rattle.paging_laws.specs.Columns.{HasColumns, noted_inside, seat_of_stay}
-use Rattle.paging_laws.specs.State.{is_noting}
-use Rattle.paging_machine.specs.Parts.{Parts, cpu_at, idle, noted_by, seat_of_mode, state_of}
-use Rattle.driver_rules.specs.Decided as decided
-use Rattle.driver_rules.specs.Decided.{beside_of, form_of, is_in_form, is_kick_of, keeps_kick}
-use Rattle.driver_rules.specs.Passes.{Tries, keepers, noting_from, pass}
+use Rattle.paging_laws.specs.inner.Columns.{HasColumns, noted_inside, seat_of_stay}
+use Rattle.paging_laws.specs.inner.State.{is_noting}
+use Rattle.paging_machine.specs.inner.Parts.{Parts, cpu_at, idle, noted_by, seat_of_mode, state_of}
+use Rattle.driver_rules.specs.inner.Decided as decided
+use Rattle.driver_rules.specs.inner.Decided.{beside_of, form_of, is_in_form, is_kick_of, keeps_kick}
+use Rattle.driver_rules.specs.Passes.{Tries, keepers, pass}
+use Rattle.driver_rules.specs.inner.Passes.{noting_from}
 use Rattle.driver_laws.proofs.EpochLaws.{block_epoch_before}
 use Rattle.driver_laws.proofs.KickLaws.{keepers_by_epochs}
 use Rattle.driver_laws.proofs.TrackLaws.{waiting_holds}
-use Rattle.driver_laws.specs.Sound.{IsSound}
-use Rattle.driver_laws.specs.Tracks.{IsTracked, KeepsTracks}
+use Rattle.driver_laws.specs.inner.Sound.{IsSound}
+use Rattle.driver_laws.specs.inner.Tracks.{IsTracked, KeepsTracks}
 use Rattle.driver_tables.specs.declared.driver.Driver.{Driver}
-use Rattle.driver_steps.specs.Agrees.{Agrees}
+use Rattle.driver_steps.specs.inner.Agrees.{Agrees}
 use Rattle.audit_pass.specs.declared.stages.Form.{Form}
 use Rattle.audit_pass.specs.declared.stages.Form.TheVariants as forms
 use Rattle.audit_pass.specs.declared.stages.Stage.{Stage}
 use Rattle.audit_pass.specs.declared.stages.Stage.TheVariants as stages
 use Rattle.audit_pass.specs.declared.stages.Taken.{Taken}
-use Rattle.audit_pass.specs.Keeping.{first_of, is_older, keepers_by, passing_from}
-use Rattle.audit_pass.specs.Standing.{IsForm, StandsAt, StandsFor}
-use Rattle.audit_pass.specs.Told.{by_actor, in_form, is_beside, is_kick_or_try, kick_by, kick_is, kick_told, with_page}
-use Rattle.audit_pass.specs.Viewed.{TraceView, form_in, pages_in, pass_by, tries_of}
+use Rattle.audit_pass.specs.inner.Keeping.{first_of, is_older, keepers_by, passing_from}
+use Rattle.audit_pass.specs.inner.Standing.{IsForm, StandsAt, StandsFor}
+use Rattle.audit_pass.specs.inner.Told.{by_actor, in_form, is_beside, is_kick_or_try, kick_by, kick_is, kick_told, with_page}
+use Rattle.audit_pass.specs.inner.Viewed.{TraceView, form_in, pages_in, pass_by, tries_of}
 use Rattle.audit_pass.proofs.ListLaws.{get_drop, head}
 
 -- ---- who keeps a page back

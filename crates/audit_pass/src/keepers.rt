@@ -2,9 +2,9 @@
 
 ghost use Rattle.std.specs.Prelude.{◌≡◌, ◌≤◌, ◌<◌, length, vec_capacity};
 ghost use Rattle.std.specs.Option.{option_map};
-ghost use Rattle.paging_machine.specs.Parts.{cpu_at};
-ghost use Rattle.audit_pass.specs.Keeping.{first_of, is_older, keepers_by};
-ghost use Rattle.audit_pass.specs.Viewed.{number_of, numbers_in};
+ghost use Rattle.paging_machine.specs.inner.Parts.{cpu_at};
+ghost use Rattle.audit_pass.specs.inner.Keeping.{first_of, is_older, keepers_by};
+ghost use Rattle.audit_pass.specs.inner.Viewed.{number_of, numbers_in};
 
 use cached_translations::processor::Mode;
 use paging_machine::machine::Machine;

@@ -2,9 +2,9 @@
 
 ghost use Rattle.std.specs.Prelude.{◌≡◌};
 ghost use Rattle.driver_rules.specs.Dues.{is_look};
-ghost use Rattle.active_list.specs.Listing.{head_of};
-ghost use Rattle.audit_pass.specs.Told.{look_is_right, looks_right};
-ghost use Rattle.audit_pass.specs.Noted.{taken_by};
+ghost use Rattle.active_list.specs.inner.Listing.{head_of};
+ghost use Rattle.audit_pass.specs.inner.Told.{look_is_right, looks_right};
+ghost use Rattle.audit_pass.specs.inner.Noted.{taken_by};
 
 use crate::stages::Taken;
 use driver_tables::driver::Driver;

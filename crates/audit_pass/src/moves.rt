@@ -1,7 +1,8 @@
 //! How far a pass is behind an entry.
 
 ghost use Rattle.std.specs.Prelude.{◌≡◌};
-ghost use Rattle.audit_pass.specs.Noted.{after_block, after_done, after_kick, after_look, after_page, after_refused, behind, not_tracked};
+ghost use Rattle.audit_pass.specs.inner.Noted.{after_block, after_done, after_kick, after_look, after_page, after_refused};
+ghost use Rattle.audit_pass.specs.inner.Noted.{behind, not_tracked};
 
 use crate::stages::{Form, Stage};
 use sgx_rules::entries::Action;

@@ -4,15 +4,15 @@ ghost use Rattle.std.specs.Prelude.{ℕ, ◌≡◌, [], List, IfOk, None};
 ghost use Rattle.sgx_rules.specs.declared.entries.Entry.{Entry};
 ghost use Rattle.sgx_types.specs.Making.{Making};
 ghost use Rattle.job_grammar.specs.Jobs.{JobView};
-ghost use Rattle.paging_machine.specs.Parts.{Parts};
-ghost use Rattle.driver_rules.specs.Decided.{keeps_age, keeps_kick};
+ghost use Rattle.paging_machine.specs.inner.Parts.{Parts};
+ghost use Rattle.driver_rules.specs.inner.Decided.{keeps_age, keeps_kick};
 ghost use Rattle.driver_tables.specs.declared.driver.Driver.{Driver};
-ghost use Rattle.driver_tables.specs.Held.{ShowsHolds};
-ghost use Rattle.driver_steps.specs.Agrees.{Agrees};
-ghost use Rattle.audit_pass.specs.Noted.{decided, gone_by, gone_on, kicked, looked, looked_on};
-ghost use Rattle.audit_pass.specs.Standing.{StandsAt};
-ghost use Rattle.audit_pass.specs.Told.{age_told, in_form, in_pass, kick_told};
-ghost use Rattle.audit_pass.specs.Viewed.{new_view};
+ghost use Rattle.driver_tables.specs.inner.Held.{ShowsHolds};
+ghost use Rattle.driver_steps.specs.inner.Agrees.{Agrees};
+ghost use Rattle.audit_pass.specs.inner.Noted.{decided, gone_by, gone_on, kicked, looked, looked_on};
+ghost use Rattle.audit_pass.specs.inner.Standing.{StandsAt};
+ghost use Rattle.audit_pass.specs.inner.Told.{age_told, in_form, in_pass, kick_told};
+ghost use Rattle.audit_pass.specs.inner.Viewed.{new_view};
 
 use crate::keepers::{find_keepers, first_keeper};
 use crate::looks::{looks_right, taken_by};
@@ -47,11 +47,11 @@ pub struct TracePass {
 }
 
 impl Model for TracePass {
-    ghost use Rattle.audit_pass.specs.Viewed.{TraceView};
+    ghost use Rattle.audit_pass.specs.inner.Viewed.{TraceView};
 
     ghost Value = { TraceView };
 
-    ghost use Rattle.audit_pass.specs.Rooms.{HasRoom, view_of};
+    ghost use Rattle.audit_pass.specs.inner.Rooms.{HasRoom, view_of};
 
     ghost view = { view_of };
 

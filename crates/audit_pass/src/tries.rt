@@ -1,10 +1,10 @@
 //! What may stand within the tries of a page.
 
 ghost use Rattle.std.specs.Prelude.{◌≡◌};
-ghost use Rattle.driver_rules.specs.Decided.{is_end, is_last_try, is_track_of, is_try};
+ghost use Rattle.driver_rules.specs.inner.Decided.{is_end, is_last_try, is_track_of, is_try};
 ghost use Rattle.std.specs.Option.{option_map};
-ghost use Rattle.audit_pass.specs.Viewed.{number_of};
-ghost use Rattle.audit_pass.specs.Told.{in_frame, in_tries, is_kick_or_try, kick_is};
+ghost use Rattle.audit_pass.specs.inner.Viewed.{number_of};
+ghost use Rattle.audit_pass.specs.inner.Told.{in_frame, in_tries, is_kick_or_try, kick_is};
 
 use sgx_rules::entries::{Action, Event};
 use sgx_rules::refusals::Refusal;

@@ -7,8 +7,8 @@ use Rattle.sgx_types.specs.Pages.{same_page}
 use Rattle.sgx_types.specs.Sealed.{Sealed}
 use Rattle.seal_record.specs.declared.unseal.UnsealedWork.{UnsealedWork}
 use Rattle.audit_records.specs.declared.old_records.PageKey.{PageKey}
-use Rattle.audit_records.specs.Kept.{rec_of, records_of}
-use Rattle.audit_records.specs.Views.{key_of, pair_of, same_key}
+use Rattle.audit_records.specs.inner.Kept.{rec_of, records_of}
+use Rattle.audit_records.specs.inner.Views.{key_of, pair_of, same_key}
 
 -- the record of a page is that of its key
 pub record_at : (works : List (PageKey × UnsealedWork)) (g : Page)

@@ -9,13 +9,13 @@ use Rattle.sgx_types.specs.Sealed.{Sealed}
 use Rattle.sgx_rules.specs.Slots.{version_in}
 use Rattle.sgx_rules.specs.Starts.{Start, open_start}
 use Rattle.sgx_types.proofs.Pages.{same_page-refl}
-use Rattle.epcm_entry.specs.Words as words
+use Rattle.epcm_entry.specs.inner.Words as words
 use Rattle.seal_record.specs.Cipher.{cipher}
 use Rattle.seal_record.specs.Records.{Made}
 use Rattle.seal_record.specs.Sealing.{made_with}
 use Rattle.seal_record.proofs.CipherLaws.{cipher_twice}
-use Rattle.page_history.specs.Copies.{InSlot, OneLiveCopy, copy}
-use Rattle.page_history.specs.Once.{DrawnOnce, Gone, IsMade, IsOfPage, KeepsMoves, MadeOnce}
+use Rattle.page_history.specs.inner.Copies.{InSlot, OneLiveCopy, copy}
+use Rattle.page_history.specs.inner.Once.{DrawnOnce, Gone, IsMade, IsOfPage, KeepsMoves, MadeOnce}
 use Rattle.page_history.proofs.CopyLaws.{copy_is_last, live_copies, out_is_gone, went_out, whose_copy}
 use Rattle.page_history.proofs.DrawnLaws.{drawn_once}
 use Rattle.page_history.proofs.RecordLaws.{made_once}
@@ -23,15 +23,15 @@ use Rattle.page_history.proofs.StartLaws.{starts_apart}
 use Rattle.job_grammar.specs.Jobs.{JobView}
 use Rattle.turn_rules.specs.Machines.{machine_of}
 use Rattle.driver_rules.specs.Places.{place}
-use Rattle.driver_laws.specs.Sound.{IsSound, load_slot, slot_outside, version_out}
+use Rattle.driver_laws.specs.inner.Sound.{IsSound, load_slot, slot_outside, version_out}
 use Rattle.driver_laws.proofs.HistoryLaws.{loading_is}
-use Rattle.paging_laws.specs.Histories.{StandsWithAllRules}
-use Rattle.paging_laws.specs.State.{State}
+use Rattle.paging_laws.specs.inner.Histories.{StandsWithAllRules}
+use Rattle.paging_laws.specs.inner.State.{State}
 use Rattle.paging_laws.proofs.ReloadLaws.{keeps_moves}
-use Rattle.run_history.specs.Histories.{GoesOn}
+use Rattle.run_history.specs.inner.Histories.{GoesOn}
 use Rattle.run_history.proofs.HistoryLaws.{sound}
-use Rattle.audit_machine.specs.Asked.{IsOwnRecord}
-use Rattle.audit_records.specs.Kept.{HasOwnRecord, KeepsRecords, Records}
+use Rattle.audit_machine.specs.inner.Asked.{IsOwnRecord}
+use Rattle.audit_records.specs.inner.Kept.{HasOwnRecord, KeepsRecords, Records}
 
 -- a page went out last under the version that is told of it
 last_of : (o : Option Out) (v : ℕ) → version_out o ≡ Some v → (x : Out) × (o ≡ Some x) × (x.version ≡ v)

@@ -23,20 +23,21 @@ use Rattle.sgx_types.specs.Sealed.{Sealed}
 use Rattle.sgx_rules.specs.Starts.{Start, open_start}
 use Rattle.sgx_types.proofs.Pages.{same_pages}
 use Rattle.seal_record.specs.Records.{Made}
-use Rattle.seal_record.specs.Sealing.{made_by, made_with}
+use Rattle.seal_record.specs.Sealing.{made_with}
+use Rattle.seal_record.specs.inner.Sealing.{made_by}
 use Rattle.seal_record.specs.declared.unseal.UnsealedWork.{UnsealedWork}
-use Rattle.page_history.specs.Copies.{Copy, InFrame, InSlot, copy, copy_after, in_slot}
-use Rattle.page_history.specs.Once.{IsMade}
+use Rattle.page_history.specs.inner.Copies.{Copy, InFrame, InSlot, copy, copy_after, in_slot}
+use Rattle.page_history.specs.inner.Once.{IsMade}
 use Rattle.page_history.proofs.OpenStarts.{any_front}
 use Rattle.job_grammar.specs.Jobs.{JobView}
 use Rattle.turn_rules.specs.Machines.{machine_of}
 use Rattle.turn_rules.specs.Script.{action_of}
-use Rattle.paging_laws.specs.Histories.{StandsWithAllRules}
-use Rattle.paging_laws.specs.State.{State}
+use Rattle.paging_laws.specs.inner.Histories.{StandsWithAllRules}
+use Rattle.paging_laws.specs.inner.State.{State}
 use Rattle.paging_laws.proofs.OutsideLaws.{not_framed}
-use Rattle.run_history.specs.Histories.{GoesOn}
-use Rattle.audit_machine.specs.Asked.{GoesOnWith, HasLeft, IsDoneBack}
-use Rattle.audit_records.specs.Kept.{HasRecord, KeepsRecords, Records, is_done_ewb, is_ewb, with_record, without_record}
+use Rattle.run_history.specs.inner.Histories.{GoesOn}
+use Rattle.audit_machine.specs.inner.Asked.{GoesOnWith, HasLeft, IsDoneBack}
+use Rattle.audit_records.specs.inner.Kept.{HasRecord, KeepsRecords, Records, is_done_ewb, is_ewb, with_record, without_record}
 
 -- ---- the records that were made
 

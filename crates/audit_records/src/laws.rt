@@ -13,16 +13,18 @@ ghost use Rattle.sgx_rules.specs.declared.entries.Event.{Event};
 ghost use Rattle.sgx_types.specs.declared.names.Frame.{Frame};
 ghost use Rattle.sgx_types.specs.declared.names.Page.{Page};
 ghost use Rattle.seal_record.specs.Records.{Made};
-ghost use Rattle.seal_record.specs.Sealing.{made_by, made_with};
+ghost use Rattle.seal_record.specs.Sealing.{made_with};
+ghost use Rattle.seal_record.specs.inner.Sealing.{made_by};
 ghost use Rattle.seal_record.specs.declared.unseal.UnsealedWork.{UnsealedWork};
 ghost use Rattle.job_grammar.specs.Jobs.{JobView};
 ghost use Rattle.turn_rules.specs.Machines.{machine_of};
 ghost use Rattle.turn_rules.specs.Script.{action_of};
-ghost use Rattle.paging_laws.specs.Histories.{StandsWithAllRules};
-ghost use Rattle.paging_laws.specs.State.{State};
-ghost use Rattle.run_history.specs.Histories.{GoesOn};
-ghost use Rattle.audit_machine.specs.Asked.{GoesOnWith, HasLeft, IsDoneBack};
-ghost use Rattle.audit_records.specs.Kept.{HasOwnRecord, KeepsRecords, Records, is_done_ewb, is_ewb, with_record, without_record};
+ghost use Rattle.paging_laws.specs.inner.Histories.{StandsWithAllRules};
+ghost use Rattle.paging_laws.specs.inner.State.{State};
+ghost use Rattle.run_history.specs.inner.Histories.{GoesOn};
+ghost use Rattle.audit_machine.specs.inner.Asked.{GoesOnWith, HasLeft, IsDoneBack};
+ghost use Rattle.audit_records.specs.inner.Kept.{HasOwnRecord, KeepsRecords, Records, is_done_ewb, is_ewb, with_record};
+ghost use Rattle.audit_records.specs.inner.Kept.{without_record};
 
 /// Nothing is outside before the first entry, so that no record is asked for.
 pub fn nothing_is_out_at_first()

@@ -1,8 +1,8 @@
 //! The records with which pages went out last.
 
 ghost use Rattle.std.specs.Prelude.{◌≡◌, OnErr, OnOk, option_map};
-ghost use Rattle.audit_records.specs.Kept.{no_records, rec_of, records_of, with_record, without_record};
-ghost use Rattle.audit_records.specs.Views.{key_of};
+ghost use Rattle.audit_records.specs.inner.Kept.{no_records, rec_of, records_of, with_record, without_record};
+ghost use Rattle.audit_records.specs.inner.Views.{key_of};
 
 use seal_record::unseal::UnsealedWork;
 use sgx_types::names::{Memory, Page};
@@ -39,7 +39,7 @@ impl Model for OldRecords {
 
     ghost Value = { List (Page × Sealed) };
 
-    ghost use Rattle.audit_records.specs.Views.{pairs_in};
+    ghost use Rattle.audit_records.specs.inner.Views.{pairs_in};
 
     ghost view = { pairs_in };
 }

@@ -28,7 +28,7 @@ use Rattle.job_grammar.specs.Jobs.{JobView}
 use Rattle.driver_rules.specs.Scripts.{ScriptRule}
 use Rattle.run_history.specs.declared.rules.Rule.TheVariants as rules
 use Rattle.run_history.specs.Histories.{FailsHere}
-use Rattle.audit_rules.specs.Rivals.{KeepsMachines, rule_back, rule_out}
+use Rattle.audit_rules.specs.inner.Rivals.{KeepsMachines, rule_back, rule_out}
 use Rattle.audit_rules.proofs.OrderLaws.{evict_fails, fresh_fails, refusal_fails, sealed_fails}
 
 -- ---- what a place has one of

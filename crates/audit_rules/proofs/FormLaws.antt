@@ -2,14 +2,16 @@
 use Rattle.std.proofs.Common.{◌≡◌, ℕ, Bool, true, false, refl, List}
 use Rattle.sgx_rules.specs.declared.entries.Entry.{Entry}
 use Rattle.sgx_rules.specs.declared.entries.Action.{Action}
-use Rattle.sgx_rules.specs.declared.entries.Action.TheVariants.{Epa, Create, Add, Extend, Init, Enter, Resume, Exit, Aex, Fill, Load, Store}
-use Rattle.sgx_rules.specs.declared.entries.Action.TheVariants.{Xadd, Set, Plus, Pf, OutLoad, OutStore, Block, Track, EwbStart, Ewb}
+use Rattle.sgx_rules.specs.declared.entries.Action.TheVariants.{Epa, Create, Add, Extend, Init, Enter, Resume, Exit, Aex, Fill}
+use Rattle.sgx_rules.specs.declared.entries.Action.TheVariants.{Load, Store}
+use Rattle.sgx_rules.specs.declared.entries.Action.TheVariants.{Xadd, Set, Plus, Pf, OutLoad, OutStore, Block, Track, EwbStart}
+use Rattle.sgx_rules.specs.declared.entries.Action.TheVariants.{Ewb}
 use Rattle.sgx_rules.specs.declared.entries.Action.TheVariants.{EldStart, Eld}
 use Rattle.sgx_rules.specs.declared.entries.Answer.{Answer}
 use Rattle.sgx_rules.specs.declared.entries.Answer.TheVariants as answers
 use Rattle.sgx_rules.specs.declared.entries.PfWhy.{PfWhy}
 use Rattle.sgx_rules.specs.Rules.{HasForm}
-use Rattle.audit_rules.specs.Forms.{has_form, is_cssa, is_fault, is_hash, is_plain, is_value, is_version}
+use Rattle.audit_rules.specs.inner.Forms.{has_form, is_cssa, is_fault, is_hash, is_plain, is_value, is_version}
 
 -- ---- one answer
 

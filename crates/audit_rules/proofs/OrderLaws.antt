@@ -12,7 +12,7 @@ use Rattle.driver_rules.specs.Scripts.{ScriptRule}
 use Rattle.run_history.specs.declared.rules.Rule.{Rule}
 use Rattle.run_history.specs.declared.rules.Rule.TheVariants as rules
 use Rattle.run_history.specs.Histories.{FailsHere, Says, rank}
-use Rattle.audit_rules.specs.Rivals.{KeepsMachines}
+use Rattle.audit_rules.specs.inner.Rivals.{KeepsMachines}
 
 module _ (j : JobView) (past : List Entry) (e : Entry) (script : ScriptRule j past e) where
   pub refusal_fails : (RefusalRule (machine_of j) past e → ⊥) → FailsHere j past (Some e) rules.Refusal

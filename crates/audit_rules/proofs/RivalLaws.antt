@@ -8,7 +8,8 @@ use Rattle.sgx_rules.specs.declared.entries.Event.{Event}
 use Rattle.sgx_rules.specs.declared.entries.Event.TheVariants.{Did, Refused}
 use Rattle.sgx_types.specs.declared.names.Actor.{Actor}
 use Rattle.sgx_rules.specs.declared.entries.Action.{Action}
-use Rattle.sgx_rules.specs.declared.entries.Action.TheVariants.{Init, Enter, Resume, Load, Xadd, Plus, Pf, OutLoad, EwbStart, Ewb, EldStart}
+use Rattle.sgx_rules.specs.declared.entries.Action.TheVariants.{Init, Enter, Resume, Load, Xadd, Plus, Pf, OutLoad, EwbStart}
+use Rattle.sgx_rules.specs.declared.entries.Action.TheVariants.{Ewb, EldStart}
 use Rattle.sgx_rules.specs.declared.entries.Action.TheVariants.{Eld}
 use Rattle.sgx_rules.specs.declared.entries.Answer.{Answer}
 use Rattle.sgx_rules.specs.declared.entries.Answer.TheVariants as answers
@@ -26,9 +27,10 @@ use Rattle.turn_rules.specs.Script.{action_of}
 use Rattle.driver_rules.specs.Scripts.{ScriptRule}
 use Rattle.run_history.specs.declared.rules.Rule.TheVariants as rules
 use Rattle.run_history.specs.Histories.{FailsHere}
-use Rattle.audit_rules.specs.Forms.{has_form, is_hash}
-use Rattle.audit_rules.specs.Rivals.{AreRivals, KeepsMachines, is_load_refused, rule_of, rule_of_allowed, rule_of_answer, rule_of_denied}
-use Rattle.audit_rules.specs.Rivals.{rule_of_done, rule_of_formed, rule_of_reasons}
+use Rattle.audit_rules.specs.inner.Forms.{has_form, is_hash}
+use Rattle.audit_rules.specs.inner.Rivals.{AreRivals, KeepsMachines, is_load_refused, rule_of, rule_of_allowed, rule_of_answer}
+use Rattle.audit_rules.specs.inner.Rivals.{rule_of_denied}
+use Rattle.audit_rules.specs.inner.Rivals.{rule_of_done, rule_of_formed, rule_of_reasons}
 use Rattle.audit_rules.proofs.EndLaws.{other_back, other_out}
 use Rattle.audit_rules.proofs.FormLaws.{has_its_form, is_of_its_form}
 use Rattle.audit_rules.proofs.OrderLaws.{flat_fails, fresh_fails, measure_fails, refusal_fails}

@@ -13,11 +13,11 @@ use Rattle.sgx_rules.specs.declared.entries.PfWhy.{PfWhy}
 use Rattle.sgx_rules.specs.declared.entries.PfWhy.TheVariants as faults
 use Rattle.sgx_rules.specs.declared.refusals.Refusal.{Refusal}
 use Rattle.sgx_rules.specs.declared.refusals.Refusal.TheVariants as why
-use Rattle.sgx_rules.specs.Refusal.{code_of}
+use Rattle.sgx_rules.specs.inner.Refusal.{code_of}
 use Rattle.sgx_types.proofs.Pages.{same_pages, same_page-refl}
 use Rattle.sgx_types.proofs.Truths.{tested}
 use Rattle.turn_rules.specs.Script.{action_of}
-use Rattle.audit_rules.specs.Same.{is_bare, same_answer, same_end, same_fault, same_numbers, same_refusal}
+use Rattle.audit_rules.specs.inner.Same.{is_bare, same_answer, same_end, same_fault, same_numbers, same_refusal}
 
 bytes-same : (one other : List ℕ) → bytes_eq one other ≡ true → one ≡ other
 bytes-same one other h = (bytes_eq-Decides one other).0 h

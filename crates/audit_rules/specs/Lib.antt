@@ -1,3 +1,1 @@
-pub mod Same
-pub mod Forms
-pub mod Rivals
+pub mod inner

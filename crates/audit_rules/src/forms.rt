@@ -1,7 +1,7 @@
 //! The form of answers.
 
 ghost use Rattle.std.specs.Prelude.{◌≡◌};
-ghost use Rattle.audit_rules.specs.Forms.{has_form, is_cssa, is_fault, is_hash, is_plain, is_value, is_version};
+ghost use Rattle.audit_rules.specs.inner.Forms.{has_form, is_cssa, is_fault, is_hash, is_plain, is_value, is_version};
 
 use sgx_rules::entries::{Action, Answer};
 

@@ -5,8 +5,8 @@ ghost use Rattle.sgx_rules.specs.declared.entries.Entry.{Entry};
 ghost use Rattle.job_grammar.specs.Jobs.{JobView};
 ghost use Rattle.driver_rules.specs.Scripts.{ScriptRule};
 ghost use Rattle.run_history.specs.Histories.{FailsHere};
-ghost use Rattle.audit_rules.specs.Rivals.{AreRivals, KeepsMachines, rule_back, rule_of, rule_of_allowed, rule_of_answer};
-ghost use Rattle.audit_rules.specs.Rivals.{rule_of_denied, rule_of_done, rule_of_formed, rule_of_reasons, rule_out};
+ghost use Rattle.audit_rules.specs.inner.Rivals.{AreRivals, KeepsMachines, rule_back, rule_of, rule_of_allowed, rule_of_answer};
+ghost use Rattle.audit_rules.specs.inner.Rivals.{rule_of_denied, rule_of_done, rule_of_formed, rule_of_reasons, rule_out};
 
 use crate::forms::has_form;
 use run_history::rules::Rule;

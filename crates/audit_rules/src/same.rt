@@ -1,7 +1,7 @@
 //! Whether two entries of one instruction end alike.
 
 ghost use Rattle.std.specs.Prelude.{◌≡◌};
-ghost use Rattle.audit_rules.specs.Same.{is_bare, same_answer, same_end, same_numbers, same_refusal};
+ghost use Rattle.audit_rules.specs.inner.Same.{is_bare, same_answer, same_end, same_numbers, same_refusal};
 
 use sgx_rules::entries::{Answer, Event};
 use sgx_rules::refusals::{Refusal, code};

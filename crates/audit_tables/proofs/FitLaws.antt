@@ -17,21 +17,22 @@ use Rattle.sgx_rules.specs.Starts.{open_start}
 use Rattle.cached_translations.specs.declared.processor.Mode.{Mode}
 use Rattle.job_grammar.specs.Jobs.{JobView}
 use Rattle.turn_rules.specs.Machines.{machine_of}
-use Rattle.active_list.specs.Places.{IsPlaced}
+use Rattle.active_list.specs.inner.Places.{IsPlaced}
 use Rattle.paging_machine.specs.declared.starts.Start as starts
-use Rattle.paging_machine.specs.Parts.{Parts}
-use Rattle.paging_laws.specs.Steps.{did_by, refused_by}
+use Rattle.paging_machine.specs.inner.Parts.{Parts}
+use Rattle.paging_laws.specs.inner.Steps.{did_by, refused_by}
 use Rattle.driver_rules.specs.Ages.{head_of}
 use Rattle.driver_rules.specs.Places.{active, place}
-use Rattle.driver_laws.specs.Sound.{is_absent, once_here, slot_at}
+use Rattle.driver_laws.specs.inner.Sound.{is_absent, once_here, slot_at}
 use Rattle.driver_laws.proofs.SoundLaws.{head_here}
 use Rattle.driver_tables.specs.declared.driver.Driver.{Driver}
 use Rattle.driver_tables.proofs.ListLaws.{heads, not_listed}
-use Rattle.driver_steps.specs.Agrees.{Agrees}
+use Rattle.driver_steps.specs.inner.Agrees.{Agrees}
 use Rattle.turn_tables.specs.declared.turns.Turns.{Turns}
 use Rattle.audit_laws.proofs.AgreeLaws.{agrees_by_rules}
-use Rattle.audit_tables.specs.Followed.{CanFollow}
-use Rattle.audit_tables.specs.Following.{FitsAway, FitsEnd, FitsEnded, FitsEvent, FitsGone, FitsLoad, FitsLook, FitsMove, FitsRefused}
+use Rattle.audit_tables.specs.inner.Followed.{CanFollow}
+use Rattle.audit_tables.specs.inner.Following.{FitsAway, FitsEnd, FitsEnded, FitsEvent, FitsGone, FitsLoad, FitsLook, FitsMove}
+use Rattle.audit_tables.specs.inner.Following.{FitsRefused}
 use Rattle.audit_tables.proofs.LawfulLaws.{IsLawful, lawful}
 use Rattle.audit_tables.proofs.StartLaws.{IsOfLoad, open_load, slot_left}
 

@@ -24,38 +24,39 @@ use Rattle.job_grammar.specs.Jobs.{JobView}
 use Rattle.turn_rules.specs.Machines.{machine_of}
 use Rattle.active_list.specs.declared.page_states.PageState.{PageState}
 use Rattle.active_list.specs.declared.page_states.PageState.TheVariants as states
-use Rattle.active_list.specs.Places.{IsPlaced}
-use Rattle.active_list.specs.States.{state_of as page_state, with_state}
-use Rattle.version_array.specs.Keeper.{Keeper, count_out}
-use Rattle.paging_laws.specs.Steps.{did_by, refused_by}
+use Rattle.active_list.specs.inner.Places.{IsPlaced}
+use Rattle.active_list.specs.inner.States.{state_of as page_state, with_state}
+use Rattle.version_array.specs.inner.Keeper.{Keeper, count_out}
+use Rattle.paging_laws.specs.inner.Steps.{did_by, refused_by}
 use Rattle.paging_machine.specs.declared.starts.Start as starts
-use Rattle.paging_machine.specs.Parts.{Parts}
+use Rattle.paging_machine.specs.inner.Parts.{Parts}
 use Rattle.driver_rules.specs.Places.{Loading, place, Away}
 use Rattle.driver_rules.specs.Turns.{Fails, Last, Loads, Other, WasEnded, last_of}
-use Rattle.driver_laws.specs.Agrees.{loaded_by}
-use Rattle.driver_laws.specs.Counted.{CountMoves}
-use Rattle.driver_laws.specs.Kinds.{is_quiet}
-use Rattle.driver_laws.specs.Loads.{EndsOwn, load_ended}
-use Rattle.driver_laws.specs.Sound.{is_absent}
-use Rattle.driver_laws.specs.Tracks.{is_reclaimers}
+use Rattle.driver_laws.specs.inner.Agrees.{loaded_by}
+use Rattle.driver_laws.specs.inner.Counted.{CountMoves}
+use Rattle.driver_laws.specs.inner.Kinds.{is_quiet}
+use Rattle.driver_laws.specs.inner.Loads.{EndsOwn, load_ended}
+use Rattle.driver_laws.specs.inner.Sound.{is_absent}
+use Rattle.driver_laws.specs.inner.Tracks.{is_reclaimers}
 use Rattle.driver_laws.proofs.AgreeLaws.{is_slotless}
 use Rattle.driver_laws.proofs.EndLaws.{their_rule}
 use Rattle.driver_laws.proofs.MarkLaws.{is_markless}
 use Rattle.driver_laws.proofs.OwnLaws.{script_own}
 use Rattle.driver_laws.proofs.SoundLaws.{entry_of}
 use Rattle.driver_tables.specs.declared.driver.Driver.{Driver}
-use Rattle.driver_tables.specs.Moves.{IsLoaded, IsLooked, slot_away, with_load}
-use Rattle.driver_tables.specs.Tables.{ShowsTables, place_in}
+use Rattle.driver_tables.specs.inner.Moves.{IsLoaded, IsLooked, slot_away, with_load}
+use Rattle.driver_tables.specs.inner.Tables.{ShowsTables, place_in}
 use Rattle.driver_tables.proofs.LoadShowLaws.{shows_bus, shows_load_end, shows_load_refused, shows_load_start}
 use Rattle.driver_tables.proofs.OtherShowLaws.{shows_others}
 use Rattle.driver_tables.proofs.ShowLaws.{shows_gone, shows_looked, shows_quiet_entry, shows_started}
-use Rattle.driver_steps.specs.Agrees.{Agrees}
+use Rattle.driver_steps.specs.inner.Agrees.{Agrees}
 use Rattle.turn_tables.specs.declared.turns.Turns.{Turns}
-use Rattle.table_notes.specs.Arrays.{KeepsArrays}
+use Rattle.table_notes.specs.inner.Arrays.{KeepsArrays}
 use Rattle.table_notes.proofs.ArrayLaws.{arrays_in_pass, arrays_stay}
 use Rattle.audit_laws.proofs.AgreeLaws.{agrees_by_rules}
-use Rattle.audit_tables.specs.Followed.{CanFollow, IsFollowed}
-use Rattle.audit_tables.specs.Following.{DoesEvent, HasEnded, IsStarted, away_again, forgetting, is_plain_event, with_gone, with_refused}
+use Rattle.audit_tables.specs.inner.Followed.{CanFollow, IsFollowed}
+use Rattle.audit_tables.specs.inner.Following.{DoesEvent, HasEnded, IsStarted, away_again, forgetting, is_plain_event, with_gone}
+use Rattle.audit_tables.specs.inner.Following.{with_refused}
 use Rattle.audit_tables.proofs.FitLaws.{has_place, has_room, head_there}
 use Rattle.audit_tables.proofs.LawfulLaws.{IsLawful, lawful, no_builders_load, not_builders}
 use Rattle.audit_tables.proofs.StartLaws.{open_load, opened_as}

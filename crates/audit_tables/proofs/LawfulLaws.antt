@@ -10,28 +10,29 @@ use Rattle.sgx_rules.specs.declared.entries.Event.{Event}
 use Rattle.sgx_rules.specs.declared.entries.Event.TheVariants.{Did, Refused, Age, Kick, Bus}
 use Rattle.sgx_types.specs.declared.names.Frame.{Frame}
 use Rattle.sgx_rules.specs.Rules.{RefusalRule}
-use Rattle.sgx_rules.specs.Starts.{bare_start, open_start}
+use Rattle.sgx_rules.specs.Starts.{open_start}
+use Rattle.sgx_rules.specs.inner.Starts.{bare_start}
 use Rattle.cached_translations.specs.declared.processor.Mode.{Mode}
 use Rattle.job_grammar.specs.Jobs.{JobView}
 use Rattle.turn_rules.specs.Machines.{machine_of}
 use Rattle.turn_rules.specs.Script.{action_of}
 use Rattle.paging_machine.specs.declared.starts.Start as starts
-use Rattle.paging_machine.specs.Parts.{start_of}
+use Rattle.paging_machine.specs.inner.Parts.{start_of}
 use Rattle.driver_rules.specs.Ages.{AgeRule, InPass, PassOf}
 use Rattle.driver_rules.specs.Passes.{Between, Blocking, Pass, Scan, Tries, pass}
 use Rattle.driver_rules.specs.Scripts.{ScriptRule, is_load}
-use Rattle.driver_laws.specs.Kinds.{CanMove}
-use Rattle.driver_laws.specs.Used.{StartTells}
-use Rattle.driver_laws.specs.Tracks.{is_reclaimers}
+use Rattle.driver_laws.specs.inner.Kinds.{CanMove}
+use Rattle.driver_laws.specs.inner.Used.{StartTells}
+use Rattle.driver_laws.specs.inner.Tracks.{is_reclaimers}
 use Rattle.driver_laws.proofs.EndLaws.{their_rule}
 use Rattle.driver_laws.proofs.OwnLaws.{script_own}
 use Rattle.driver_tables.specs.declared.driver.Driver.{Driver}
 use Rattle.turn_tables.specs.declared.turns.Turns.{Turns}
-use Rattle.table_notes.specs.Noted.{AreNoted, CanNoteTables}
-use Rattle.table_notes.specs.Plain.{is_plain, is_reclaimer}
+use Rattle.table_notes.specs.inner.Noted.{AreNoted, CanNoteTables}
+use Rattle.table_notes.specs.inner.Plain.{is_plain, is_reclaimer}
 use Rattle.audit_laws.proofs.AgreeLaws.{agrees_by_rules, lawful_can, lawful_starts}
-use Rattle.audit_tables.specs.Followed.{CanFollow, IsFollowed, frame_ended}
-use Rattle.audit_tables.specs.Following.{is_plain_event}
+use Rattle.audit_tables.specs.inner.Followed.{CanFollow, IsFollowed, frame_ended}
+use Rattle.audit_tables.specs.inner.Following.{is_plain_event}
 
 -- ---- what the rules say of it
 

@@ -14,16 +14,17 @@ use Rattle.sgx_types.specs.Pages.{same_page}
 use Rattle.sgx_rules.specs.Frames.{content}
 use Rattle.sgx_types.specs.Making.{Making}
 use Rattle.sgx_rules.specs.Sights.{drain_sight_at, row_at, sight_at, slot_sight_at}
-use Rattle.sgx_rules.specs.Starts.{BareStart, Start, bare_start, loads_page, open_start, without_place}
+use Rattle.sgx_rules.specs.Starts.{Start, loads_page, open_start}
+use Rattle.sgx_rules.specs.inner.Starts.{BareStart, bare_start, without_place}
 use Rattle.sgx_rules.specs.Table.{ewbstart_row, first_of_row, is_va}
 use Rattle.job_grammar.specs.Jobs.{JobView}
-use Rattle.version_array.specs.Keeper.{Keeper, is_out}
+use Rattle.version_array.specs.inner.Keeper.{Keeper, is_out}
 use Rattle.paging_machine.specs.declared.starts.Start as starts
-use Rattle.paging_machine.specs.Parts.{start_of}
+use Rattle.paging_machine.specs.inner.Parts.{start_of}
 use Rattle.driver_rules.specs.Places.{Loading, place}
-use Rattle.driver_laws.specs.Agrees.{ShowsSlots}
-use Rattle.driver_laws.specs.Sound.{IsSound, load_slot, slot_if, slot_loading, slot_of}
-use Rattle.audit_tables.specs.Naming.{IsLeft}
+use Rattle.driver_laws.specs.inner.Agrees.{ShowsSlots}
+use Rattle.driver_laws.specs.inner.Sound.{IsSound, load_slot, slot_if, slot_loading, slot_of}
+use Rattle.audit_tables.specs.inner.Naming.{IsLeft}
 
 -- ---- the start that ends
 

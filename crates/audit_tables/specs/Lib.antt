@@ -1,3 +1,1 @@
-pub mod Naming
-pub mod Following
-pub mod Followed
+pub mod inner

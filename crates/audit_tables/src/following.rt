@@ -1,10 +1,11 @@
 //! Tells an entry of a trace to the driver's tables.
 
 ghost use Rattle.std.specs.Prelude.{◌≡◌};
-ghost use Rattle.audit_tables.specs.Followed.{CanFollow, IsFollowed};
-ghost use Rattle.audit_tables.specs.Following.{DoesEvent, DoesMove, FitsBegun, FitsEnded, FitsEvent, FitsGone, FitsMove, FitsRefused};
-ghost use Rattle.audit_tables.specs.Following.{HasEnded, IsStarted, is_plain_event, with_begun, with_gone, with_refused};
-ghost use Rattle.audit_tables.specs.Naming.{IsLeft};
+ghost use Rattle.audit_tables.specs.inner.Followed.{CanFollow, IsFollowed};
+ghost use Rattle.audit_tables.specs.inner.Following.{DoesEvent, DoesMove, FitsBegun, FitsEnded, FitsEvent, FitsGone, FitsMove};
+ghost use Rattle.audit_tables.specs.inner.Following.{FitsRefused};
+ghost use Rattle.audit_tables.specs.inner.Following.{HasEnded, IsStarted, is_plain_event, with_begun, with_gone, with_refused};
+ghost use Rattle.audit_tables.specs.inner.Naming.{IsLeft};
 
 use crate::naming::take_named;
 use active_list::page_states::PageState;

@@ -1,8 +1,8 @@
 //! Takes a slot by its name.
 
 ghost use Rattle.std.specs.Prelude.{◌≡◌, true, false};
-ghost use Rattle.version_array.specs.Keeper.{Takes};
-ghost use Rattle.audit_tables.specs.Naming.{IsLeft, IsSameKeeper};
+ghost use Rattle.version_array.specs.inner.Keeper.{Takes};
+ghost use Rattle.audit_tables.specs.inner.Naming.{IsLeft, IsSameKeeper};
 
 use sgx_types::names::SlotAt;
 use version_array::slot_keeper::SlotKeeper;

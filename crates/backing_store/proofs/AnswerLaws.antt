@@ -13,8 +13,8 @@ use Rattle.sgx_types.specs.declared.names.Page.{Page}
 use Rattle.sgx_types.specs.Sealed.{Sealed}
 use Rattle.backing_store.specs.declared.calls.StoreCall.{StoreCall}
 use Rattle.backing_store.specs.declared.calls.GetAnswer.TheVariants.{Nothing, Given}
-use Rattle.backing_store.specs.Store.{first_of, get_fails, is_dropped, place_given, bit_flipped, get_answer}
-use Rattle.backing_store.specs.Told.{record_at}
+use Rattle.backing_store.specs.inner.Store.{first_of, get_fails, is_dropped, place_given, bit_flipped, get_answer}
+use Rattle.backing_store.specs.inner.Told.{record_at}
 
 pub answer_dropped : (plans : List PlanLine) (calls : List StoreCall) (page : Page) → get_fails plans calls ≡ false
     → is_dropped plans calls page ≡ true

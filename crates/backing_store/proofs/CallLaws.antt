@@ -14,9 +14,9 @@ use Rattle.backing_store.specs.declared.calls.StoreCall.{StoreCall}
 use Rattle.backing_store.specs.declared.calls.StoreCall.TheVariants.{Room, Put, Got}
 use Rattle.backing_store.specs.declared.page_places.PageCounts.{PageCounts}
 use Rattle.backing_store.specs.declared.page_places.PagePlaces.{PagePlaces}
-use Rattle.backing_store.specs.Places.{counts_of, place_of, OnePut}
-use Rattle.backing_store.specs.Store.{is_put, is_get_of, more_of, records_of, nth}
-use Rattle.backing_store.specs.Kept.{Counts, counts_in}
+use Rattle.backing_store.specs.inner.Places.{counts_of, place_of, OnePut}
+use Rattle.backing_store.specs.inner.Store.{is_put, is_get_of, more_of, records_of, nth}
+use Rattle.backing_store.specs.inner.Kept.{Counts, counts_in}
 use Rattle.backing_store.proofs.AnswerLaws.{slice_get-push}
 
 pub one_put_more : (page : Page) (failed : Bool) (calls : List StoreCall)

@@ -4,9 +4,9 @@ use Rattle.std.proofs.Common.{length-take, length-drop}
 use Rattle.std.specs.Int.{w64, from_le_bytes}
 use Rattle.std.proofs.lemmas.Bool.{cases_lt}
 use Rattle.std.proofs.lemmas.List.{get_or-take, get_or-drop, get_or_past}
-use Rattle.sgx_types.specs.Layouts.{long_at}
-use Rattle.sgx_types.specs.Sealed.{IsRecord}
-use Rattle.backing_store.specs.Flips.{record_in}
+use Rattle.sgx_types.specs.inner.Layouts.{long_at}
+use Rattle.sgx_types.specs.inner.Sealed.{IsRecord}
+use Rattle.backing_store.specs.inner.Flips.{record_in}
 
 -- a piece of bytes has bytes
 piece_below : (n i : ℕ) (xs : List ℕ) → ((k : ℕ) → get_or xs k 0 < 256) → (k : ℕ) → get_or (take n (drop i xs)) k 0 < 256

@@ -13,9 +13,10 @@ use Rattle.io_edges.specs.declared.plans.PlanLine.{PlanLine}
 use Rattle.backing_store.specs.declared.calls.StoreCall.{StoreCall}
 use Rattle.backing_store.specs.declared.calls.StoreCall.TheVariants.{Room, Put, Got}
 use Rattle.backing_store.specs.declared.calls.GetAnswer.TheVariants.{Failed, Nothing, Given}
-use Rattle.backing_store.specs.Store.{is_put, records_of, nth, put_at, given, get_answer, place_given, bit_flipped, get_fails, is_dropped}
-use Rattle.backing_store.specs.Store.{replays, first_of, next_get_of, partner_of, AreByRule, GiveGoodPuts}
-use Rattle.backing_store.specs.Told.{record_at}
+use Rattle.backing_store.specs.inner.Store.{is_put, records_of, nth, put_at, given, get_answer, place_given, bit_flipped}
+use Rattle.backing_store.specs.inner.Store.{get_fails, is_dropped}
+use Rattle.backing_store.specs.inner.Store.{replays, first_of, next_get_of, partner_of, AreByRule, GiveGoodPuts}
+use Rattle.backing_store.specs.inner.Told.{record_at}
 use Rattle.std.specs.Prelude.{◌≢◌, is_some}
 use Rattle.std.proofs.lemmas.Bool.Decides.{eqb_tells}
 use Rattle.backing_store.proofs.AnswerLaws.{slice_get-push}

@@ -4,7 +4,7 @@ use Rattle.sgx_types.specs.declared.names.Page.{Page}
 use Rattle.sgx_types.specs.Pages.{same_page}
 use Rattle.backing_store.specs.declared.page_places.PageCounts.{PageCounts}
 use Rattle.backing_store.specs.declared.page_places.PageKey.{PageKey}
-use Rattle.backing_store.specs.Places.{same_key, same_put, key_of, put_key, no_counts}
+use Rattle.backing_store.specs.inner.Places.{same_key, same_put, key_of, put_key, no_counts}
 
 unwrap_or-if : {X : Type 0} (b : Bool) (x d : X) (o : Option X)
     → unwrap_or (if b then Some x else o) d ≡ (if b then x else unwrap_or o d)

@@ -7,9 +7,9 @@ use Rattle.io_edges.specs.declared.plans.PlanLine.{PlanLine}
 use Rattle.backing_store.specs.declared.calls.StoreCall.{StoreCall}
 use Rattle.backing_store.specs.declared.calls.StoreCall.TheVariants.{Room, Put, Got}
 use Rattle.backing_store.specs.declared.ledger.Ledger.{Ledger}
-use Rattle.backing_store.specs.Store.{is_put, AreByRule}
-use Rattle.backing_store.specs.Told.{told_of}
-use Rattle.backing_store.specs.Kept.{IsKeptByRule}
+use Rattle.backing_store.specs.inner.Store.{is_put, AreByRule}
+use Rattle.backing_store.specs.inner.Told.{told_of}
+use Rattle.backing_store.specs.inner.Kept.{IsKeptByRule}
 use Rattle.backing_store.proofs.CallLaws.{one_put_more}
 
 -- where no call is told, none was made

@@ -2,9 +2,10 @@
 
 ghost use Rattle.std.specs.Prelude.{◌≡◌, ◌+◌, ◌≤◌, ℕ, List, [], Option, is_err, IfSome, OnOk, OnErr, OnSome, IsErr};
 ghost use Rattle.std.specs.Prelude.{IsErrOf};
-ghost use Rattle.io_edges.specs.Faults.{HasCause};
+ghost use Rattle.io_edges.specs.inner.Faults.{HasCause};
 ghost use Rattle.io_edges.specs.declared.plans.PlanLine.{PlanLine};
-ghost use Rattle.backing_store.specs.Calls.{Call, Put, with_call, told_room, told_got};
+ghost use Rattle.backing_store.specs.Calls.{Call, Put};
+ghost use Rattle.backing_store.specs.inner.Calls.{with_call, told_room, told_got};
 
 use io_edges::faults::Failed;
 use io_edges::plans::PlanLine;

@@ -1,8 +1,8 @@
 //! Copies of records.
 
 ghost use Rattle.std.specs.Prelude.{◌≡◌, length, IfOk};
-ghost use Rattle.backing_store.specs.Flips.{flipped, record_in, invert_bit};
-ghost use Rattle.sgx_types.specs.Sealed.{record_bytes};
+ghost use Rattle.backing_store.specs.inner.Flips.{flipped, record_in, invert_bit};
+ghost use Rattle.sgx_types.specs.inner.Sealed.{record_bytes};
 
 use sgx_types::names::Memory;
 use sgx_types::record::Record;

@@ -32,10 +32,12 @@ pub struct Ledger {
 }
 
 impl Ledger {
-    ghost use Rattle.backing_store.specs.Kept.{state_of, IsKept, HasRoom};
-    ghost use Rattle.backing_store.specs.Store.{new_store, spare_of, next_get_of, place_given, get_answer, after_room, after_put};
-    ghost use Rattle.backing_store.specs.Store.{after_get};
-    ghost use Rattle.backing_store.specs.Told.{room_answer, put_answer, answer_of, get_answer_of, copy_of, record_at, WhereMade};
+    ghost use Rattle.backing_store.specs.inner.Kept.{state_of, IsKept, HasRoom};
+    ghost use Rattle.backing_store.specs.inner.Store.{new_store, spare_of, next_get_of, place_given, get_answer, after_room};
+    ghost use Rattle.backing_store.specs.inner.Store.{after_put};
+    ghost use Rattle.backing_store.specs.inner.Store.{after_get};
+    ghost use Rattle.backing_store.specs.inner.Told.{room_answer, put_answer, answer_of, get_answer_of, copy_of, record_at};
+    ghost use Rattle.backing_store.specs.inner.Told.{WhereMade};
 
     /// No plan lines and no calls.
     pub fn new(alloc: Global) -> Ledger

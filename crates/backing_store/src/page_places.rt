@@ -48,7 +48,7 @@ pub struct PagePlaces {
 }
 
 impl PagePlaces {
-    ghost use Rattle.backing_store.specs.Places.{no_counts, counts_of, place_of, room_of, SamePlaces, OneGet, OnePut};
+    ghost use Rattle.backing_store.specs.inner.Places.{no_counts, counts_of, place_of, room_of, SamePlaces, OneGet, OnePut};
 
     /// No get and no put.
     pub fn new(alloc: Global) -> PagePlaces

@@ -2,7 +2,7 @@
 
 ghost use Rattle.std.specs.Prelude.{◌≡◌};
 ghost use Rattle.std.specs.List.{list_any};
-ghost use Rattle.backing_store.specs.Store.{fails_room, fails_put, fails_get, drops, flips, replays, first_of, partner_of};
+ghost use Rattle.backing_store.specs.inner.Store.{fails_room, fails_put, fails_get, drops, flips, replays, first_of, partner_of};
 
 use io_edges::plans::PlanLine;
 use sgx_types::names::Page;

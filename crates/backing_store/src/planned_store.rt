@@ -23,8 +23,8 @@ pub struct PlannedStore {
 }
 
 impl Model for PlannedStore {
-    ghost use Rattle.backing_store.specs.Store.{StoreState};
-    ghost use Rattle.backing_store.specs.Kept.{store_of, IsKeptIn};
+    ghost use Rattle.backing_store.specs.inner.Store.{StoreState};
+    ghost use Rattle.backing_store.specs.inner.Kept.{store_of, IsKeptIn};
 
     ghost Value = { StoreState };
 
@@ -34,8 +34,8 @@ impl Model for PlannedStore {
 }
 
 impl PlannedStore {
-    ghost use Rattle.backing_store.specs.Store.{new_store, is_put, get_answer, GiveGoodPuts, IsStore};
-    ghost use Rattle.backing_store.specs.Told.{record_at};
+    ghost use Rattle.backing_store.specs.inner.Store.{new_store, is_put, get_answer, GiveGoodPuts, IsStore};
+    ghost use Rattle.backing_store.specs.inner.Told.{record_at};
     ghost use Rattle.backing_store.specs.declared.calls.GetAnswer.TheVariants.{Given};
     ghost use Rattle.sgx_types.specs.declared.names.Page.{Page};
 
@@ -86,8 +86,8 @@ impl PlannedStore {
 }
 
 impl Backing for PlannedStore {
-    ghost use Rattle.backing_store.specs.Store.{spare_of, count_failed, with_plans, after_room, after_put, after_get};
-    ghost use Rattle.backing_store.specs.Told.{told_of, room_answer, put_answer, get_answer_of, WhereMade};
+    ghost use Rattle.backing_store.specs.inner.Store.{spare_of, count_failed, with_plans, after_room, after_put, after_get};
+    ghost use Rattle.backing_store.specs.inner.Told.{told_of, room_answer, put_answer, get_answer_of, WhereMade};
 
     ghost told = { λ s. Some (told_of s.calls s.puts) };
 

@@ -21,20 +21,20 @@ use Rattle.sgx_rules.specs.Processors.{is_by}
 use Rattle.sgx_types.specs.Sealed.{Sealed}
 use Rattle.sgx_rules.specs.Starts.{Start, open_start}
 use Rattle.backing_store.specs.Calls.{Call, Got, Put, Room}
-use Rattle.active_list.specs.Keeping.{kept_at, record_kept}
-use Rattle.active_list.specs.Places.{IsPlaced}
-use Rattle.active_list.specs.States.{state_of}
+use Rattle.active_list.specs.inner.Keeping.{kept_at, record_kept}
+use Rattle.active_list.specs.inner.Places.{IsPlaced}
+use Rattle.active_list.specs.inner.States.{state_of}
 use Rattle.driver_rules.specs.Turns.{Loads, fails_with, last_by, last_of, load_of}
-use Rattle.driver_laws.specs.Kinds.{CanMove}
-use Rattle.driver_laws.specs.Loads.{IsEndedBy, LoadsAreTheirs, TheirRule, load_ended}
-use Rattle.driver_laws.specs.Sound.{IsSound}
+use Rattle.driver_laws.specs.inner.Kinds.{CanMove}
+use Rattle.driver_laws.specs.inner.Loads.{IsEndedBy, LoadsAreTheirs, TheirRule, load_ended}
+use Rattle.driver_laws.specs.inner.Sound.{IsSound}
 use Rattle.driver_laws.proofs.EndLaws.{ended_by}
 use Rattle.driver_laws.proofs.LoadLaws.{loading_place}
-use Rattle.driver_tables.specs.Counts.{page_counts}
+use Rattle.driver_tables.specs.inner.Counts.{page_counts}
 use Rattle.driver_tables.specs.declared.driver.Driver.{Driver}
-use Rattle.driver_tables.specs.Tables.{IsNew}
+use Rattle.driver_tables.specs.inner.Tables.{IsNew}
 use Rattle.driver_tables.proofs.FirstLaws.{all_same}
-use Rattle.active_list.specs.Places.{place_of}
+use Rattle.active_list.specs.inner.Places.{place_of}
 use Rattle.active_list.specs.declared.page_states.PageState.TheVariants.{Absent}
 use Rattle.job_grammar.specs.Jobs.{JobView}
 use Rattle.driver_rules.specs.Places.{Loading, place}
@@ -42,7 +42,7 @@ use Rattle.run_history.specs.Calls.{ComesWith, IsFailed, IsGiven, IsNothing, IsP
 use Rattle.run_history.specs.Given.{gift, gift_after}
 use Rattle.run_history.specs.Stored.{Tells}
 use Rattle.run_history.proofs.HonestLaws.{free_no_load}
-use Rattle.book_laws.specs.Stores.{StoreMoves, TellsStore, is_lost_state, lost_by}
+use Rattle.book_laws.specs.inner.Stores.{StoreMoves, TellsStore, is_lost_state, lost_by}
 
 -- ---- records that are kept
 

@@ -2,11 +2,11 @@
 
 ghost use Rattle.std.specs.Prelude.{ℕ, List, [], ◌∷◌};
 ghost use Rattle.backing_store.specs.Calls.{Call};
-ghost use Rattle.book_laws.specs.Stores.{StoreMoves, TellsStore};
-ghost use Rattle.driver_laws.specs.Kinds.{CanMove};
-ghost use Rattle.driver_laws.specs.Loads.{LoadsAreTheirs, TheirRule};
-ghost use Rattle.driver_laws.specs.Sound.{IsSound};
-ghost use Rattle.driver_tables.specs.Tables.{IsNew};
+ghost use Rattle.book_laws.specs.inner.Stores.{StoreMoves, TellsStore};
+ghost use Rattle.driver_laws.specs.inner.Kinds.{CanMove};
+ghost use Rattle.driver_laws.specs.inner.Loads.{LoadsAreTheirs, TheirRule};
+ghost use Rattle.driver_laws.specs.inner.Sound.{IsSound};
+ghost use Rattle.driver_tables.specs.inner.Tables.{IsNew};
 ghost use Rattle.driver_tables.specs.declared.driver.Driver.{Driver};
 ghost use Rattle.job_grammar.specs.Jobs.{JobView};
 ghost use Rattle.run_history.specs.Calls.{ComesWith, before};

@@ -2,12 +2,13 @@
 use Rattle.std.proofs.Common.{◌≡◌, ◌≢◌, ℕ, ◌+◌, ◌<◌, ◌≤◌, false, List, [], ◌∷◌, ◌++◌, Option, Some}
 use Rattle.std.proofs.Common.{None, is_some, length, get_or, set, refl, sym, ap, subst, ◌∙◌, ◌⊎◌, inl, inr, arith}
 use Rattle.std.proofs.lemmas.Bool.{cases_lt, cases_eq}
-use Rattle.std.proofs.lemmas.List.{length-set, length_push, get_or-map, get_or_append_left, get_or_push, get_or-set_same, get_or-set_other}
+use Rattle.std.proofs.lemmas.List.{length-set, length_push, get_or-map, get_or_append_left, get_or_push, get_or-set_same}
+use Rattle.std.proofs.lemmas.List.{get_or-set_other}
 use Rattle.cached_translations.specs.declared.cache.Translation.{Translation}
 use Rattle.cached_translations.specs.declared.probe_table.Slot.{Slot}
-use Rattle.cached_translations.specs.Translations.{translation_of}
-use Rattle.cached_translations.specs.Probe.{Leads, IsProbed, Adds, Drops}
-use Rattle.cached_translations.specs.Index.{number_at, IsIndex, IsIndexOnly}
+use Rattle.cached_translations.specs.inner.Translations.{translation_of}
+use Rattle.cached_translations.specs.inner.Probe.{Leads, IsProbed, Adds, Drops}
+use Rattle.cached_translations.specs.inner.Index.{number_at, IsIndex, IsIndexOnly}
 use Rattle.cached_translations.proofs.TranslationLaws.{translation_of-at, translation_of-number, translation_of-none}
 use Rattle.cached_translations.proofs.ProbeLaws.{leads_to_one, used_none}
 

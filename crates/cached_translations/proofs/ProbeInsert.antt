@@ -4,8 +4,9 @@ use Rattle.std.proofs.Common.{sym, ap, subst, ◌∙◌, ◌⊎◌, inl, inr, ar
 use Rattle.std.proofs.lemmas.List.{length-set, get_or-set_same}
 use Rattle.std.proofs.lemmas.List.Sums.{sum_by-set}
 use Rattle.cached_translations.specs.declared.probe_table.Slot.{Slot}
-use Rattle.cached_translations.specs.Probe.{Leads, IsProbed, IsFree, Adds, AreOnce, slot_at}
-use Rattle.cached_translations.proofs.ProbeLaws.{same_steps, ReadAfterSet, written, kept, read_after_set, leads_at, leads_from, kept_in_use}
+use Rattle.cached_translations.specs.inner.Probe.{Leads, IsProbed, IsFree, Adds, AreOnce, slot_at}
+use Rattle.cached_translations.proofs.ProbeLaws.{same_steps, ReadAfterSet, written, kept, read_after_set, leads_at, leads_from}
+use Rattle.cached_translations.proofs.ProbeLaws.{kept_in_use}
 use Rattle.cached_translations.proofs.ProbeLaws.{number_of}
 
 -- a page at the first free place of its run

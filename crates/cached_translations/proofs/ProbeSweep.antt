@@ -4,8 +4,9 @@ use Rattle.std.proofs.Common.{length, get_or, set, sym, ap, ◌∙◌, ◌⊎◌
 use Rattle.std.proofs.lemmas.Bool.{cases_lt}
 use Rattle.std.proofs.lemmas.List.{length-set}
 use Rattle.cached_translations.specs.declared.probe_table.Slot.{Slot}
-use Rattle.cached_translations.specs.Probe.{Leads, IsProbed, IsSwept, slot_at}
-use Rattle.cached_translations.proofs.ProbeLaws.{same_steps, ReadAfterSet, written, kept, read_after_set, leads_at, leads_from, absent}
+use Rattle.cached_translations.specs.inner.Probe.{Leads, IsProbed, IsSwept, slot_at}
+use Rattle.cached_translations.proofs.ProbeLaws.{same_steps, ReadAfterSet, written, kept, read_after_set, leads_at, leads_from}
+use Rattle.cached_translations.proofs.ProbeLaws.{absent}
 
 pub sweep_none : (slots : List (Option Slot)) (n : ℕ) → IsProbed slots → IsSwept slots n 0
 sweep_none slots n is = record {

@@ -6,13 +6,14 @@ use Rattle.std.specs.Prelude.{AllPairs, vec_len}
 use Rattle.std.specs.Option.{option_or}
 use Rattle.std.proofs.lemmas.Bool.{lt-ltb, le-ltb, cases_lt}
 use Rattle.std.proofs.lemmas.List.{append-nil, append_assoc, length_push, length-append, length-take, length-drop, length-set}
-use Rattle.std.proofs.lemmas.List.{take-append-drop, take_more_set, take_all, drop_more, drop_all, drop-set-lt, get_or_append_left}
+use Rattle.std.proofs.lemmas.List.{take-append-drop, take_more_set, take_all, drop_more, drop_all, drop-set-lt}
+use Rattle.std.proofs.lemmas.List.{get_or_append_left}
 use Rattle.std.proofs.lemmas.List.{get_or-append-add}
 use Rattle.std.proofs.lemmas.List.Folds.{find-append}
 use Rattle.cached_translations.specs.declared.cache.Translation.{Translation}
 use Rattle.cached_translations.specs.declared.cache.Cache.TheInside.{Inside}
-use Rattle.cached_translations.specs.Translations.{translation_of, with_translation, FitsCache}
-use Rattle.cached_translations.specs.Ring.{around_from, IsRing}
+use Rattle.cached_translations.specs.inner.Translations.{translation_of, with_translation, FitsCache}
+use Rattle.cached_translations.specs.inner.Ring.{around_from, IsRing}
 use Rattle.cached_translations.proofs.TranslationLaws.{translation_of-at, translation_of-number}
 
 pub length-around_from : (places : List Translation) (first : ℕ) → length (around_from places first) ≡ length places

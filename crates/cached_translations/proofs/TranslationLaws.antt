@@ -7,7 +7,7 @@ use Rattle.std.proofs.lemmas.List.{length_push, length-drop}
 use Rattle.std.proofs.lemmas.List.Elements.{All-nil, All-head, All-tail, All-push, All-drop}
 use Rattle.std.proofs.lemmas.List.Quantifiers.{all_pairs_push, all_pairs_remove}
 use Rattle.cached_translations.specs.declared.cache.Translation.{Translation}
-use Rattle.cached_translations.specs.Translations.{translation_of, newest, with_translation, FitsCache}
+use Rattle.cached_translations.specs.inner.Translations.{translation_of, newest, with_translation, FitsCache}
 
 -- a translation in a list, with its place
 pub record IsAt (held : List Translation) (t : Translation) : Type 0 where

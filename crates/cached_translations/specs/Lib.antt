@@ -1,5 +1,1 @@
-pub mod Translations
-pub mod Probe
-pub mod Index
-pub mod Ring
-pub mod Modes
+pub mod inner

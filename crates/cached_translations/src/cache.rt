@@ -1,9 +1,9 @@
 //! The translations that a processor holds: the newest of them, in the order of their first fills.
 
 ghost use Rattle.std.specs.Prelude.{◌≡◌, ◌↔◌, ℕ, [], length, IsTrue, IfOk};
-ghost use Rattle.cached_translations.specs.Probe.{Leads};
-ghost use Rattle.cached_translations.specs.Index.{IsIndexOnly};
-ghost use Rattle.cached_translations.specs.Translations.{translation_of, with_translation, FitsCache};
+ghost use Rattle.cached_translations.specs.inner.Probe.{Leads};
+ghost use Rattle.cached_translations.specs.inner.Index.{IsIndexOnly};
+ghost use Rattle.cached_translations.specs.inner.Translations.{translation_of, with_translation, FitsCache};
 
 use crate::probe_table::ProbeTable;
 use sgx_types::names::{Frame, Memory, Perm};
@@ -36,7 +36,7 @@ impl Model for Cache {
 
     ghost Value = { List Translation };
 
-    ghost use Rattle.cached_translations.specs.Ring.{from_oldest, IsRing};
+    ghost use Rattle.cached_translations.specs.inner.Ring.{from_oldest, IsRing};
 
     ghost view = { from_oldest };
 

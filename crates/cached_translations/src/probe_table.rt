@@ -1,7 +1,7 @@
 //! A table that leads from page numbers to places, with linear probing.
 
 ghost use Rattle.std.specs.Prelude.{◌≡◌, ◌<◌, ◌+◌, ◌%◌, ℕ, IfSome, IsNone, IsPermutation, length};
-ghost use Rattle.cached_translations.specs.Probe.{Leads, IsProbed, IsGapped, IsOfPage, IsFree, Adds, Drops, used};
+ghost use Rattle.cached_translations.specs.inner.Probe.{Leads, IsProbed, IsGapped, IsOfPage, IsFree, Adds, Drops, used};
 
 /// How many places a table has: twice as many as the pages that it leads from, so that runs stay short (this project's
 /// own).

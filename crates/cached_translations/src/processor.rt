@@ -2,7 +2,7 @@
 
 ghost use Rattle.std.specs.Prelude.{◌≡◌, [], IfOk};
 ghost use Rattle.cached_translations.specs.declared.processor.Mode.TheVariants.{Outside};
-ghost use Rattle.cached_translations.specs.Modes.{is_inside, enclave_inside};
+ghost use Rattle.cached_translations.specs.inner.Modes.{is_inside, enclave_inside};
 
 use crate::cache::Cache;
 use sgx_types::names::{Frame, Memory};

@@ -1,5 +1,5 @@
 -- The command that the words of the command line name, which stand without the program's name.
-use Rattle.std.specs.Prelude.{ℕ, ◌≤◌, ◌&&◌, Bool, if◌then◌else◌, List, [], ◌∷◌, Option, Some, None, bytes_eq, codes}
+use Rattle.std.specs.Prelude.{ℕ, ◌&&◌, Bool, if◌then◌else◌, List, [], ◌∷◌, Option, Some, None, bytes_eq, codes}
 use Rattle.std.specs.Prelude.{length, nat_le, nat_lt}
 use Rattle.std.specs.List.{list_all}
 use Rattle.text_words.specs.Reading.{◌>>=◌, number_of}
@@ -62,12 +62,3 @@ abbrev pub command_in : List (List ℕ) → Option Command
 command_in (name ∷ word ∷ []) = with_word name word
 command_in (name ∷ first ∷ second ∷ []) = with_size name first second
 command_in words = None
-
--- its size, or its rounds, are as many as those words can say
-abbrev pub IsSized : Command → Type 0
-IsSized commands.Run = Unit {0}
-IsSized commands.Least = Unit {0}
-IsSized commands.Audit = Unit {0}
-IsSized (commands.Make number size) = (4 ≤ size) × (size ≤ 2000)
-IsSized (commands.Demo number size) = (4 ≤ size) × (size ≤ 2000)
-IsSized (commands.Gate rounds) = (1 ≤ rounds) × (rounds ≤ 100000)

@@ -1,6 +1,7 @@
 //! The command that the words of the command line name.
 
-ghost use Rattle.command_words.specs.Commands.{IsSized, command_in, count_of, is_digit, path_by, rounds_of, size_of, sized_by, with_path};
+ghost use Rattle.command_words.specs.Commands.{command_in, count_of, is_digit, path_by, rounds_of, size_of, sized_by, with_path};
+ghost use Rattle.command_words.specs.inner.Commands.{IsSized};
 ghost use Rattle.command_words.specs.Commands.{with_rounds, with_size, with_word};
 ghost use Rattle.std.specs.List.{list_all};
 ghost use Rattle.std.specs.Prelude.{◌≡◌, ◌≤◌, IfSome, map, string_bytes};

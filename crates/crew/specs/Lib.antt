@@ -1,3 +1,1 @@
-pub use Rattle.rounds.specs.Views
-pub mod Actors
-pub mod Tallies
+pub mod inner

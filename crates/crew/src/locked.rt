@@ -1,7 +1,7 @@
 //! What lies under the lock.
 
 ghost use Rattle.std.specs.Prelude.{◌≡◌};
-ghost use Rattle.crew.specs.Actors.{IsOf};
+ghost use Rattle.crew.specs.inner.Actors.{IsOf};
 
 use backing_store::backing::Backing;
 use epoch_words::words::Words;
@@ -15,7 +15,7 @@ use std::marker::{Brand, PhantomData};
 /// The name of a run, which fixes its job and its words.
 pub trait Run {
     ghost use Rattle.job_grammar.specs.Jobs.{JobView};
-    ghost use Rattle.crew.specs.Actors.{TableId};
+    ghost use Rattle.crew.specs.inner.Actors.{TableId};
 
     ghost job: { JobView };
 
@@ -23,7 +23,7 @@ pub trait Run {
 }
 
 impl Run for Brand {
-    ghost use Rattle.crew.specs.Actors.{no_job, no_words};
+    ghost use Rattle.crew.specs.inner.Actors.{no_job, no_words};
 
     ghost job = { no_job };
 

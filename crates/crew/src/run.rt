@@ -1,7 +1,7 @@
 //! A run of a book by threads.
 
 ghost use Rattle.std.specs.Prelude.{◌≡◌, ◌≤◌, IfOk, length, reverse};
-ghost use Rattle.crew.specs.Tallies.{IsTally};
+ghost use Rattle.crew.specs.inner.Tallies.{IsTally};
 ghost use Rattle.driver_rules.specs.Scripts.{IsEnded};
 
 use crate::locked::{Locked, Run};

@@ -1,7 +1,7 @@
 //! How many entries each actor made.
 
 ghost use Rattle.std.specs.Prelude.{IfOk};
-ghost use Rattle.crew.specs.Tallies.{IsFew, IsMore, IsTally};
+ghost use Rattle.crew.specs.inner.Tallies.{IsFew, IsMore, IsTally};
 
 use sgx_rules::entries::Entry;
 use sgx_types::names::{Actor, Memory};

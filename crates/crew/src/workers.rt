@@ -1,7 +1,7 @@
 //! What a worker does: turn after turn of its actor, with the work between a start and its end done outside the lock.
 
 ghost use Rattle.std.specs.Prelude.{◌≡◌, IfSome};
-ghost use Rattle.crew.specs.Actors.{IsOf};
+ghost use Rattle.crew.specs.inner.Actors.{IsOf};
 
 use crate::locked::{Locked, Run};
 use crate::taking::take;

@@ -29,8 +29,8 @@ impl<'a> SeenStore<'a> {
 }
 
 impl<'a> Backing for SeenStore<'a> {
-    ghost use Rattle.backing_store.specs.Store.{count_failed, spare_of};
-    ghost use Rattle.backing_store.specs.Told.{told_of};
+    ghost use Rattle.backing_store.specs.inner.Store.{count_failed, spare_of};
+    ghost use Rattle.backing_store.specs.inner.Told.{told_of};
     ghost use Rattle.std.specs.Prelude.{Some};
 
     ghost told = { λ s. Some (told_of s.store.calls s.store.puts) };

@@ -1,8 +1,8 @@
 //! Runs with threads, and a gate at which two processors meet.
 
 ghost use Rattle.std.specs.Prelude.{◌≡◌, IfOk, length, replicate};
-ghost use Rattle.epoch_words.specs.Known.{enclaves};
-ghost use Rattle.epoch_words.specs.Seen.{starting_at};
+ghost use Rattle.epoch_words.specs.inner.Known.{enclaves};
+ghost use Rattle.epoch_words.specs.inner.Seen.{starting_at};
 
 use crate::meeting::Meeting;
 use crate::seen_store::SeenStore;

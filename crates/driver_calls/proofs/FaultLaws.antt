@@ -17,33 +17,33 @@ use Rattle.sgx_rules.specs.declared.refusals.Refusal.{Refusal}
 use Rattle.sgx_rules.specs.Processors.{is_by}
 use Rattle.sgx_types.specs.Sealed.{Sealed}
 use Rattle.sgx_rules.specs.Table.{first_of_row}
-use Rattle.paging_laws.specs.State.{State, row_of}
-use Rattle.paging_laws.specs.Steps.{IsReloaded, IsStep, commit_row, did_by, refused_by}
-use Rattle.paging_machine.specs.Parts.{Parts, state_of}
+use Rattle.paging_laws.specs.inner.State.{State, row_of}
+use Rattle.paging_laws.specs.inner.Steps.{IsReloaded, IsStep, commit_row, did_by, refused_by}
+use Rattle.paging_machine.specs.inner.Parts.{Parts, state_of}
 use Rattle.backing_store.specs.Calls.{Call, Failed, Given, Got, Nothing}
 use Rattle.backing_store.specs.declared.backing.StoreFault.{StoreFault}
 use Rattle.backing_store.specs.declared.backing.StoreFault.TheVariants as faults
-use Rattle.active_list.specs.Keeping.{kept_at, keeping, record_kept}
-use Rattle.active_list.specs.Places.{IsPlaced}
-use Rattle.active_list.specs.States.{state_of as page_state, with_state}
+use Rattle.active_list.specs.inner.Keeping.{kept_at, keeping, record_kept}
+use Rattle.active_list.specs.inner.Places.{IsPlaced}
+use Rattle.active_list.specs.inner.States.{state_of as page_state, with_state}
 use Rattle.active_list.specs.declared.page_states.PageState.{PageState}
 use Rattle.active_list.specs.declared.page_states.PageState.TheVariants as states
-use Rattle.driver_rules.specs.Reclaims.{is_refused}
+use Rattle.driver_rules.specs.inner.Reclaims.{is_refused}
 use Rattle.driver_tables.specs.declared.driver.Driver.{Driver}
-use Rattle.driver_tables.specs.Moves.{with_load}
+use Rattle.driver_tables.specs.inner.Moves.{with_load}
 use Rattle.fault_handler.specs.declared.answers.FaultAnswer.{FaultAnswer}
 use Rattle.fault_handler.specs.declared.answers.Loaded.{Loaded}
-use Rattle.fault_handler.specs.Finishing.{CanFinish, IsFinished, bus_why}
-use Rattle.fault_handler.specs.Resolving.{IsFetch, IsGot, IsResolved, IsStarted}
+use Rattle.fault_handler.specs.inner.Finishing.{CanFinish, IsFinished, bus_why}
+use Rattle.fault_handler.specs.inner.Resolving.{IsFetch, IsGot, IsResolved, IsStarted}
 use Rattle.run_history.specs.Calls.{ComesByBus, ComesWith, before, is_lost}
 use Rattle.sgx_rules.specs.declared.entries.Answer.TheVariants.{Moved}
 use Rattle.sgx_rules.specs.declared.refusals.Refusal.TheVariants as why
 use Rattle.sgx_rules.specs.Frames.{least_free}
 use Rattle.turn_rules.specs.Script.{frame_at}
-use Rattle.backing_store.specs.Calls.{told_got}
-use Rattle.paging_laws.specs.Steps.{IsDone, answer_of}
-use Rattle.book_laws.specs.Stores.{StoreMoves, TellsStore, is_lost_state, lost_by}
-use Rattle.driver_calls.specs.Comes.{AnswerComes, Comes, EndComes, Tells, bus_of}
+use Rattle.backing_store.specs.inner.Calls.{told_got}
+use Rattle.paging_laws.specs.inner.Steps.{IsDone, answer_of}
+use Rattle.book_laws.specs.inner.Stores.{StoreMoves, TellsStore, is_lost_state, lost_by}
+use Rattle.driver_calls.specs.inner.Comes.{AnswerComes, Comes, EndComes, Tells, bus_of}
 use Rattle.driver_calls.proofs.TableLaws.{kept_other, kept_own, lost_same}
 
 -- an entry that starts no load, and writes nothing out, leaves tables that stay

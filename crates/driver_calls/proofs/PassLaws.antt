@@ -24,27 +24,27 @@ use Rattle.sgx_types.specs.Making.{Making}
 use Rattle.sgx_types.specs.Sealed.{Sealed}
 use Rattle.sgx_rules.specs.Table.{first_of_row}
 use Rattle.job_grammar.specs.Jobs.{JobView}
-use Rattle.epcm_entry.specs.Epc.{is_free_frame}
-use Rattle.paging_laws.specs.State.{State, row_of}
-use Rattle.paging_laws.specs.Steps.{IsDone, IsStep, answer_of, did_by, refused_by}
-use Rattle.paging_machine.specs.Parts.{Parts, cpu_at, state_of}
+use Rattle.epcm_entry.specs.inner.Epc.{is_free_frame}
+use Rattle.paging_laws.specs.inner.State.{State, row_of}
+use Rattle.paging_laws.specs.inner.Steps.{IsDone, IsStep, answer_of, did_by, refused_by}
+use Rattle.paging_machine.specs.inner.Parts.{Parts, cpu_at, state_of}
 use Rattle.backing_store.specs.Calls.{Call, Put, Room}
-use Rattle.active_list.specs.Active.{ActiveList, turned}
-use Rattle.active_list.specs.Keeping.{kept_at, record_kept}
-use Rattle.active_list.specs.Listing as listing
-use Rattle.active_list.specs.Places.{IsPlaced}
-use Rattle.active_list.specs.Ring.{is_listed}
+use Rattle.active_list.specs.inner.Active.{ActiveList, turned}
+use Rattle.active_list.specs.inner.Keeping.{kept_at, record_kept}
+use Rattle.active_list.specs.inner.Listing as listing
+use Rattle.active_list.specs.inner.Places.{IsPlaced}
+use Rattle.active_list.specs.inner.Ring.{is_listed}
 use Rattle.active_list.specs.declared.ring.Listed.{Listed}
-use Rattle.active_list.specs.States.{state_of as page_state, with_state}
+use Rattle.active_list.specs.inner.States.{state_of as page_state, with_state}
 use Rattle.active_list.specs.declared.page_states.PageState.{PageState}
 use Rattle.active_list.specs.declared.page_states.PageState.TheVariants as states
 use Rattle.active_list.proofs.StateLaws.{state_of-with_state}
 use Rattle.driver_rules.specs.declared.waits.Why.{Why}
 use Rattle.driver_rules.specs.declared.waits.Why.TheVariants as waits
 use Rattle.driver_rules.specs.Places.{Leaving, place}
-use Rattle.driver_laws.specs.Sound.{is_absent}
+use Rattle.driver_laws.specs.inner.Sound.{is_absent}
 use Rattle.driver_tables.specs.declared.driver.Driver.{Driver}
-use Rattle.driver_tables.specs.Moves.{IsLooked, leaving_of}
+use Rattle.driver_tables.specs.inner.Moves.{IsLooked, leaving_of}
 use Rattle.reclaim_worker.specs.declared.turns.Form.{Form}
 use Rattle.reclaim_worker.specs.declared.turns.Form.TheVariants as forms
 use Rattle.reclaim_worker.specs.declared.turns.Phase.{Phase}
@@ -52,22 +52,22 @@ use Rattle.reclaim_worker.specs.declared.turns.Phase.TheVariants as phases
 use Rattle.reclaim_worker.specs.declared.turns.PassTurn.{PassTurn}
 use Rattle.reclaim_worker.specs.declared.turns.PassTurn.TheVariants as turns
 use Rattle.reclaim_worker.specs.declared.turns.Taken.{Taken}
-use Rattle.reclaim_worker.specs.Answers.{by_reclaimer}
-use Rattle.reclaim_worker.specs.Asked.{look_in, look_told, told_by}
-use Rattle.reclaim_worker.specs.Looked.{told_look}
-use Rattle.reclaim_worker.specs.Moves.{IsBlockTurn, IsTryTurn, turn_of, turn_of_track}
-use Rattle.reclaim_worker.specs.Ready.{Ready}
-use Rattle.reclaim_worker.specs.Rests.{DriverSays, IsWait}
-use Rattle.reclaim_worker.specs.Scans.{IsScanned}
-use Rattle.reclaim_worker.specs.Standing.{AreInFrames}
-use Rattle.reclaim_worker.specs.Stored.{IsStored, StoredSays, gone}
-use Rattle.reclaim_worker.specs.Tried.{count_from, is_kept_by}
-use Rattle.reclaim_worker.specs.Turning.{IsFormTurn, TurnSays, WithPage}
+use Rattle.reclaim_worker.specs.inner.Answers.{by_reclaimer}
+use Rattle.reclaim_worker.specs.inner.Asked.{look_in, look_told, told_by}
+use Rattle.reclaim_worker.specs.inner.Looked.{told_look}
+use Rattle.reclaim_worker.specs.inner.Moves.{IsBlockTurn, IsTryTurn, turn_of, turn_of_track}
+use Rattle.reclaim_worker.specs.inner.Ready.{Ready}
+use Rattle.reclaim_worker.specs.inner.Rests.{DriverSays, IsWait}
+use Rattle.reclaim_worker.specs.inner.Scans.{IsScanned}
+use Rattle.reclaim_worker.specs.inner.Standing.{AreInFrames}
+use Rattle.reclaim_worker.specs.inner.Stored.{IsStored, StoredSays, gone}
+use Rattle.reclaim_worker.specs.inner.Tried.{count_from, is_kept_by}
+use Rattle.reclaim_worker.specs.inner.Turning.{IsFormTurn, TurnSays, WithPage}
 use Rattle.reclaim_worker.proofs.DueLaws.{drop_get}
 use Rattle.reclaim_worker.proofs.StoredLaws.{page_is}
 use Rattle.run_history.specs.Calls.{ComesWith, before}
-use Rattle.book_laws.specs.Stores.{StoreMoves, is_lost_state, lost_by}
-use Rattle.driver_calls.specs.Comes.{Comes, Tells, TurnComes}
+use Rattle.book_laws.specs.inner.Stores.{StoreMoves, is_lost_state, lost_by}
+use Rattle.driver_calls.specs.inner.Comes.{Comes, Tells, TurnComes}
 use Rattle.driver_calls.proofs.TableLaws.{lost_same}
 
 -- ---- entries without a call

@@ -9,12 +9,12 @@ use Rattle.sgx_types.specs.declared.names.Cpu.{Cpu}
 use Rattle.sgx_types.specs.declared.names.Page.{Page}
 use Rattle.sgx_types.specs.Pages.{same_page}
 use Rattle.sgx_rules.specs.Processors.{is_by}
-use Rattle.active_list.specs.Keeping.{Kept, kept_at, record_kept}
-use Rattle.active_list.specs.Places.{IsPlaced}
-use Rattle.active_list.specs.States.{StateTable, state_of, with_state}
+use Rattle.active_list.specs.inner.Keeping.{Kept, kept_at, record_kept}
+use Rattle.active_list.specs.inner.Places.{IsPlaced}
+use Rattle.active_list.specs.inner.States.{StateTable, state_of, with_state}
 use Rattle.active_list.specs.declared.page_states.PageState.{PageState}
 use Rattle.active_list.proofs.StateLaws.{state_of-with_state}
-use Rattle.book_laws.specs.Stores.{is_lost_state}
+use Rattle.book_laws.specs.inner.Stores.{is_lost_state}
 
 -- what is kept for the processor whose record was set
 pub kept_own : (kept : List (Option Kept)) (c : Cpu) (new : Option Kept) (p : ℕ) → c.0 < length kept → is_by p (actors.Cpu c) ≡ true

@@ -1,1 +1,1 @@
-pub mod Comes
+pub mod inner

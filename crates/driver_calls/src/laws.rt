@@ -1,24 +1,24 @@
 //! Laws of the driver's calls. A law is the contract of a function without arguments.
 
 ghost use Rattle.std.specs.Prelude.{ℕ, ◌≡◌, ◌<◌, List, Option, Some, length, sum};
-ghost use Rattle.active_list.specs.Places.{IsPlaced};
-ghost use Rattle.active_list.specs.States.{state_of as page_state};
+ghost use Rattle.active_list.specs.inner.Places.{IsPlaced};
+ghost use Rattle.active_list.specs.inner.States.{state_of as page_state};
 ghost use Rattle.backing_store.specs.Calls.{Call};
-ghost use Rattle.book_laws.specs.Stores.{TellsStore};
-ghost use Rattle.driver_calls.specs.Comes.{AnswerComes, Comes, EndComes, Tells, TurnComes};
+ghost use Rattle.book_laws.specs.inner.Stores.{TellsStore};
+ghost use Rattle.driver_calls.specs.inner.Comes.{AnswerComes, Comes, EndComes, Tells, TurnComes};
 ghost use Rattle.driver_tables.specs.declared.driver.Driver.{Driver};
-ghost use Rattle.fault_handler.specs.Finishing.{CanFinish, IsFinished};
-ghost use Rattle.fault_handler.specs.Resolving.{IsResolved};
+ghost use Rattle.fault_handler.specs.inner.Finishing.{CanFinish, IsFinished};
+ghost use Rattle.fault_handler.specs.inner.Resolving.{IsResolved};
 ghost use Rattle.fault_handler.specs.declared.answers.FaultAnswer.{FaultAnswer};
 ghost use Rattle.fault_handler.specs.declared.answers.Loaded.{Loaded};
-ghost use Rattle.paging_laws.specs.State.{State};
-ghost use Rattle.paging_machine.specs.Parts.{Parts, state_of};
+ghost use Rattle.paging_laws.specs.inner.State.{State};
+ghost use Rattle.paging_machine.specs.inner.Parts.{Parts, state_of};
 ghost use Rattle.job_grammar.specs.Jobs.{JobView};
-ghost use Rattle.reclaim_worker.specs.Asked.{look_in, told_by};
-ghost use Rattle.reclaim_worker.specs.Ready.{Ready};
-ghost use Rattle.reclaim_worker.specs.Rests.{DriverSays, IsWait};
-ghost use Rattle.reclaim_worker.specs.Stored.{StoredSays};
-ghost use Rattle.reclaim_worker.specs.Turning.{TurnSays};
+ghost use Rattle.reclaim_worker.specs.inner.Asked.{look_in, told_by};
+ghost use Rattle.reclaim_worker.specs.inner.Ready.{Ready};
+ghost use Rattle.reclaim_worker.specs.inner.Rests.{DriverSays, IsWait};
+ghost use Rattle.reclaim_worker.specs.inner.Stored.{StoredSays};
+ghost use Rattle.reclaim_worker.specs.inner.Turning.{TurnSays};
 ghost use Rattle.reclaim_worker.specs.declared.turns.PassTurn.{PassTurn};
 ghost use Rattle.reclaim_worker.specs.declared.turns.Phase.{Phase};
 ghost use Rattle.reclaim_worker.specs.declared.turns.Taken.{Taken};

@@ -25,22 +25,24 @@ use Rattle.sgx_rules.specs.declared.refusals.Refusal.{Refusal}
 use Rattle.sgx_types.specs.Pages.{page_at, same_page}
 use Rattle.sgx_rules.specs.Frames.{Content, Free, Holds, IsLoading, IsVa, SecsOf, added, content, reloaded, vas_made}
 use Rattle.sgx_types.specs.Pages.{same_slot}
-use Rattle.sgx_rules.specs.Slots.{names_slot, open_slot, version_in, IsIdle}
+use Rattle.sgx_rules.specs.Slots.{names_slot, open_slot, version_in}
+use Rattle.sgx_rules.specs.inner.Slots.{IsIdle}
 use Rattle.sgx_rules.specs.Starts.{Start, open_start, version_told}
-use Rattle.version_array.specs.Keeper.{Adds, Gives, Keeper, Takes, is_added, is_out}
+use Rattle.version_array.specs.inner.Keeper.{Adds, Gives, Keeper, Takes, is_added, is_out}
 use Rattle.job_grammar.specs.Jobs.{JobView, va_pages}
-use Rattle.driver_laws.specs.Agrees.{ShowsSlots, has_pages}
-use Rattle.driver_laws.specs.Kinds.{CanMove, is_quiet}
+use Rattle.driver_laws.specs.inner.Agrees.{ShowsSlots, has_pages}
+use Rattle.driver_laws.specs.inner.Kinds.{CanMove, is_quiet}
 use Rattle.driver_rules.specs.Places.{Leaving, Loading, place}
 use Rattle.sgx_rules.specs.Slots.{slot_of as starts_slot}
 use Rattle.sgx_rules.proofs.Busy.{idle_ended, idle_freed, idle_started}
 use Rattle.sgx_rules.specs.Table.{is_loading, is_va}
 use Rattle.sgx_rules.proofs.Contents.{loading_no_va, page_is_no_other}
-use Rattle.driver_laws.specs.Sound.{IsSound, load_slot, slot_at, slot_loading, slot_of, stands_in}
+use Rattle.driver_laws.specs.inner.Sound.{IsSound, load_slot, slot_at, slot_loading, slot_of, stands_in}
 use Rattle.driver_laws.proofs.PlaceLaws.{load_slot_is}
 use Rattle.driver_laws.proofs.SlotLaws.{same_slot-refl}
 use Rattle.driver_laws.proofs.SoundLaws.{entry_of, load_start, named}
-use Rattle.driver_laws.proofs.SlotMoves.{SameSlots, same_add, same_age, same_eldstart, same_ewb, same_refused, slot_back, slot_back_other}
+use Rattle.driver_laws.proofs.SlotMoves.{SameSlots, same_add, same_age, same_eldstart, same_ewb, same_refused, slot_back}
+use Rattle.driver_laws.proofs.SlotMoves.{slot_back_other}
 use Rattle.driver_laws.proofs.SlotMoves.{slot_started, slot_started_other}
 use Rattle.driver_laws.proofs.AloneLaws.{alone}
 

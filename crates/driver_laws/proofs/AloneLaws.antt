@@ -11,8 +11,8 @@ use Rattle.sgx_rules.specs.Starts.{Start, open_start}
 use Rattle.sgx_types.proofs.Pages.{same_page-refl}
 use Rattle.sgx_rules.specs.Table.{is_loading}
 use Rattle.driver_rules.specs.Places.{Away, Leaving, Loading, Place, place}
-use Rattle.driver_laws.specs.Sound.{IsSound, is_load_start, is_write_start, load_slot, slot_at, slot_of, stands_in}
-use Rattle.driver_laws.specs.Used.{StartsAlone}
+use Rattle.driver_laws.specs.inner.Sound.{IsSound, is_load_start, is_write_start, load_slot, slot_at, slot_of, stands_in}
+use Rattle.driver_laws.specs.inner.Used.{StartsAlone}
 use Rattle.driver_laws.proofs.HistoryLaws.{loading_is}
 
 -- the frame from which a page goes, or into which it comes

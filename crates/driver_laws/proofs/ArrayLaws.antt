@@ -17,20 +17,22 @@ use Rattle.sgx_types.specs.declared.lawful.PageInit.TheVariants as inits
 use Rattle.sgx_types.specs.declared.names.Kind.{Kind}
 use Rattle.sgx_types.specs.declared.names.Kind.TheVariants as kinds
 use Rattle.sgx_types.specs.declared.names.Perm.{Perm}
-use Rattle.version_array.specs.Keeper.{Keeper, new_keeper}
+use Rattle.version_array.specs.inner.Keeper.{Keeper, new_keeper}
 use Rattle.job_grammar.specs.Jobs.{EnclaveView, JobView, va_pages}
 use Rattle.job_grammar.specs.declared.jobs.PageLine.{PageLine}
 use Rattle.job_grammar.specs.declared.jobs.PageLine.TheVariants as lines
-use Rattle.turn_rules.specs.Script.{build_of, built, chunk_steps, enclave_steps, enclaves_steps, is_builder, line_steps, numbers_from}
+use Rattle.turn_rules.specs.Script.{build_of, built, chunk_steps, enclave_steps, enclaves_steps, is_builder, line_steps}
+use Rattle.turn_rules.specs.Script.{numbers_from}
 use Rattle.turn_rules.specs.Script.{page_steps}
 use Rattle.turn_rules.specs.declared.steps.BuildStep.{BuildStep}
 use Rattle.turn_rules.specs.declared.steps.BuildStep.TheVariants as builds
 use Rattle.driver_rules.specs.Ages.{AgeRule}
 use Rattle.driver_rules.specs.Scripts.{ScriptRule}
-use Rattle.driver_laws.specs.Agrees.{has_pages, is_add}
-use Rattle.driver_laws.specs.Counted.{AddsAreBuilt, is_add_step, pages_added, with_added}
-use Rattle.driver_laws.specs.Keeps.{ArraysAreBuilt, ArraysFirst, KeeperMoves, is_epa, is_epa_refused, is_va_step}
-use Rattle.driver_laws.proofs.StepLaws.{Builds, ByStep, IsStep, NoStep, adds_by, arrays_by, builds_by, builds_or_none, counts, epa_by}
+use Rattle.driver_laws.specs.inner.Agrees.{has_pages, is_add}
+use Rattle.driver_laws.specs.inner.Counted.{AddsAreBuilt, is_add_step, pages_added, with_added}
+use Rattle.driver_laws.specs.inner.Keeps.{ArraysAreBuilt, ArraysFirst, KeeperMoves, is_epa, is_epa_refused, is_va_step}
+use Rattle.driver_laws.proofs.StepLaws.{Builds, ByStep, IsStep, NoStep, adds_by, arrays_by, builds_by, builds_or_none, counts}
+use Rattle.driver_laws.proofs.StepLaws.{epa_by}
 use Rattle.driver_laws.proofs.StepLaws.{step_counts}
 
 -- ---- how many version array pages the build makes

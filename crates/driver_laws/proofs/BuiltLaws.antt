@@ -20,21 +20,22 @@ use Rattle.sgx_types.specs.declared.names.Kind.{Kind}
 use Rattle.sgx_types.specs.declared.names.Kind.TheVariants as kinds
 use Rattle.sgx_types.specs.declared.names.Page.{Page}
 use Rattle.sgx_types.specs.declared.names.Perm.{Perm}
-use Rattle.version_array.specs.Keeper.{AllOut, Keeper, count_all, count_out}
+use Rattle.version_array.specs.inner.Keeper.{AllOut, Keeper, count_all, count_out}
 use Rattle.job_grammar.specs.Jobs.{EnclaveView, JobView, enclave_pages, job_pages, page_count, va_pages}
 use Rattle.job_grammar.specs.declared.jobs.PageLine.{PageLine}
 use Rattle.job_grammar.specs.declared.jobs.PageLine.TheVariants as lines
-use Rattle.turn_rules.specs.Script.{build_of, built, chunk_steps, enclave_steps, enclaves_steps, is_builder, line_steps, numbers_from}
+use Rattle.turn_rules.specs.Script.{build_of, built, chunk_steps, enclave_steps, enclaves_steps, is_builder, line_steps}
+use Rattle.turn_rules.specs.Script.{numbers_from}
 use Rattle.turn_rules.specs.Script.{page_steps}
 use Rattle.turn_rules.specs.declared.steps.BuildStep.{BuildStep}
 use Rattle.turn_rules.specs.declared.steps.BuildStep.TheVariants as builds
 use Rattle.driver_rules.specs.Ages.{AgeRule}
 use Rattle.driver_rules.specs.Places.{place}
 use Rattle.driver_rules.specs.Scripts.{ScriptRule}
-use Rattle.driver_laws.specs.Agrees.{ShowsSlots, has_pages, is_add}
-use Rattle.driver_laws.specs.Counted.{AddsAreBuilt, CountsSlots, has_slot, is_add_step, pages_added, with_added}
-use Rattle.driver_laws.specs.Driven.{IsDriven}
-use Rattle.driver_laws.specs.Sound.{IsSound, is_absent}
+use Rattle.driver_laws.specs.inner.Agrees.{ShowsSlots, has_pages, is_add}
+use Rattle.driver_laws.specs.inner.Counted.{AddsAreBuilt, CountsSlots, has_slot, is_add_step, pages_added, with_added}
+use Rattle.driver_laws.specs.inner.Driven.{IsDriven}
+use Rattle.driver_laws.specs.inner.Sound.{IsSound, is_absent}
 use Rattle.driver_laws.proofs.HistoryLaws.{driven_before}
 use Rattle.driver_laws.proofs.StepLaws.{Builds, ByStep, IsStep, NoStep, adds_by, builds_by, builds_or_none, counts, step_counts}
 

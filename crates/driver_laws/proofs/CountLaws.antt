@@ -20,14 +20,15 @@ use Rattle.sgx_types.specs.declared.names.SlotAt.{SlotAt}
 use Rattle.sgx_types.specs.Pages.{page_at, same_page}
 use Rattle.sgx_rules.specs.Frames.{added}
 use Rattle.sgx_rules.specs.Starts.{open_start}
-use Rattle.version_array.specs.Keeper.{Keeper, count_out, new_keeper}
+use Rattle.version_array.specs.inner.Keeper.{Keeper, count_out, new_keeper}
 use Rattle.driver_rules.specs.Places.{Leaving, Loading, place, Absent}
-use Rattle.driver_laws.specs.Counted.{CountMoves, CountsSlots, has_slot, pages_added}
-use Rattle.driver_laws.specs.Kinds.{CanMove}
-use Rattle.driver_laws.specs.Sound.{IsSound, is_absent, slot_at, times}
+use Rattle.driver_laws.specs.inner.Counted.{CountMoves, CountsSlots, has_slot, pages_added}
+use Rattle.driver_laws.specs.inner.Kinds.{CanMove}
+use Rattle.driver_laws.specs.inner.Sound.{IsSound, is_absent, slot_at, times}
 use Rattle.sgx_rules.specs.Slots.{slot_of as starts_slot}
-use Rattle.driver_laws.specs.Used.{StartTells}
-use Rattle.driver_laws.proofs.SlotMoves.{SameSlots, same_add, same_age, same_eldstart, same_ewb, same_refused, slot_back, slot_back_other}
+use Rattle.driver_laws.specs.inner.Used.{StartTells}
+use Rattle.driver_laws.proofs.SlotMoves.{SameSlots, same_add, same_age, same_eldstart, same_ewb, same_refused, slot_back}
+use Rattle.driver_laws.proofs.SlotMoves.{slot_back_other}
 use Rattle.driver_laws.proofs.SlotMoves.{slot_started, slot_started_other}
 use Rattle.driver_laws.proofs.SoundLaws.{entry_of}
 

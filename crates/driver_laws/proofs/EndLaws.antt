@@ -13,12 +13,13 @@ use Rattle.sgx_types.specs.declared.names.Page.{Page}
 use Rattle.sgx_types.specs.declared.names.SlotAt.{SlotAt}
 use Rattle.job_grammar.specs.Jobs.{JobView}
 use Rattle.turn_rules.specs.Script.{action_of, frame_at}
-use Rattle.driver_rules.specs.Dues.{Due, Ends, Fetches, Finished, IsFetch, IsNext, KicksAll, LooksAt, Makes, Reports, Stopped, TriesOut}
+use Rattle.driver_rules.specs.Dues.{Due, Ends, Fetches, Finished, IsFetch, IsNext, KicksAll, LooksAt, Makes, Reports, Stopped}
+use Rattle.driver_rules.specs.Dues.{TriesOut}
 use Rattle.driver_rules.specs.Dues.{Waits}
 use Rattle.driver_rules.specs.Scripts.{IsActors, ScriptRule, is_load}
 use Rattle.driver_rules.specs.Stops.{is_spent}
 use Rattle.driver_rules.specs.Turns.{Fails, Last, Loads, Other, WasEnded, builder_due, due_after, is_last, last_of, turn_due}
-use Rattle.driver_laws.specs.Loads.{EndsOwn, IsEndedBy, TheirRule, load_ended}
+use Rattle.driver_laws.specs.inner.Loads.{EndsOwn, IsEndedBy, TheirRule, load_ended}
 use Rattle.driver_laws.proofs.OwnLaws.{OfBuild, OfTurn, build_builds, is_paging, is_script, turn_script}
 
 -- ---- instructions

@@ -13,18 +13,20 @@ use Rattle.sgx_rules.specs.declared.entries.Event.TheVariants.{Did, Refused}
 use Rattle.sgx_types.specs.declared.names.Page.{Page}
 use Rattle.sgx_rules.specs.declared.refusals.Refusal.{Refusal}
 use Rattle.sgx_rules.specs.declared.refusals.Refusal.TheVariants as why
-use Rattle.sgx_rules.specs.Epochs.{block_epoch, epoch, is_in_before, is_track, last_track, older_at}
+use Rattle.sgx_rules.specs.Epochs.{epoch, is_in_before, is_track, last_track, older_at}
+use Rattle.sgx_rules.specs.inner.Epochs.{block_epoch}
 use Rattle.sgx_rules.specs.Eviction.{earlier_or, is_drained, keeps_back, number_kept_back, track_behind}
 use Rattle.sgx_rules.specs.Frames.{content, is_free}
 use Rattle.sgx_rules.specs.Processors.{stay}
 use Rattle.sgx_rules.specs.Sights.{drain_sight_at, sight_at, slot_sight_at}
-use Rattle.sgx_rules.specs.Table.{DrainSight, FrameSight, SlotSight, ewbstart_row, first_of_row, is_busy, is_out_of_range, is_secs, is_va}
+use Rattle.sgx_rules.specs.Table.{DrainSight, FrameSight, SlotSight, ewbstart_row, first_of_row, is_busy, is_out_of_range}
+use Rattle.sgx_rules.specs.Table.{is_secs, is_va}
 use Rattle.sgx_rules.proofs.Contents.{page_enclave}
 use Rattle.sgx_types.proofs.CountLaws.{count_below-zero}
 use Rattle.driver_rules.specs.Passes.{keepers, keepers_behind, keepers_from, keepers_in, keeps_from}
 use Rattle.driver_rules.specs.Places.{frame_leaving}
-use Rattle.driver_laws.specs.Sound.{IsSound}
-use Rattle.driver_laws.specs.Tracks.{IsCalm, IsTracked, IsUntracked, IsWaiting, TryTells}
+use Rattle.driver_laws.specs.inner.Sound.{IsSound}
+use Rattle.driver_laws.specs.inner.Tracks.{IsCalm, IsTracked, IsUntracked, IsWaiting, TryTells}
 use Rattle.driver_laws.proofs.TrackLaws.{drained_waiting, first_last, last_low, waiting_holds}
 
 -- ---- the block's epoch

@@ -11,7 +11,7 @@ use Rattle.page_history.proofs.StartLaws.{starts_apart}
 use Rattle.sgx_rules.specs.Fresh.{Out, last_out}
 use Rattle.sgx_types.specs.Making.{Making}
 use Rattle.sgx_rules.specs.Ends.{EndsIn}
-use Rattle.page_history.specs.Once.{KeepsMoves}
+use Rattle.page_history.specs.inner.Once.{KeepsMoves}
 use Rattle.sgx_rules.specs.declared.entries.Action.TheVariants as actions
 use Rattle.sgx_types.specs.declared.names.Actor.{Actor}
 use Rattle.sgx_types.specs.declared.names.Actor.TheVariants as actors
@@ -31,26 +31,29 @@ use Rattle.sgx_types.specs.Pages.{page_at}
 use Rattle.sgx_rules.specs.Frames.{Content, Free, Holds, content, free_from, is_free, is_page, least_free}
 use Rattle.sgx_rules.specs.Rules.{FitsRule, RefusalRule}
 use Rattle.sgx_rules.specs.Sights.{drain_sight_at, row_at, sight_at, slot_sight_at}
-use Rattle.sgx_rules.specs.Slots.{is_slot_busy, next_version, version_in, IsIdle}
+use Rattle.sgx_rules.specs.Slots.{is_slot_busy, next_version, version_in}
+use Rattle.sgx_rules.specs.inner.Slots.{IsIdle}
 use Rattle.sgx_rules.specs.Starts.{Start, is_load_of, open_start}
 use Rattle.sgx_rules.specs.Table.{EnclaveSight, FrameSight, add_row, ewbstart_row, first_of_row}
 use Rattle.job_grammar.specs.Jobs.{JobView}
 use Rattle.turn_rules.specs.Script.{frame_at}
 use Rattle.driver_rules.specs.Ages.{AgeRule, InPass, LookOf, PassOf}
-use Rattle.driver_laws.specs.Driven.{IsDriven}
-use Rattle.driver_laws.specs.Kinds.{CanMove}
+use Rattle.driver_laws.specs.inner.Driven.{IsDriven}
+use Rattle.driver_laws.specs.inner.Kinds.{CanMove}
 use Rattle.driver_rules.specs.Passes.{Between, Blocking, Pass, Scan, Tries, pass}
 use Rattle.driver_rules.specs.Places.{Absent, Away, Here, Leaving, Loading, Place, place}
 use Rattle.driver_rules.specs.Scripts.{IsActors, ScriptRule}
-use Rattle.driver_laws.specs.Stages.{KeepsPages}
+use Rattle.driver_laws.specs.inner.Stages.{KeepsPages}
 use Rattle.driver_laws.proofs.StageLaws.{first_pages, pages_kept}
 use Rattle.sgx_rules.specs.Slots.{slot_of as slot_of_start}
 use Rattle.sgx_rules.proofs.Busy.{idle_apart, not_busy_idle}
 use Rattle.sgx_types.proofs.Pages.{same_page-refl}
 use Rattle.sgx_rules.proofs.Contents.{free_is}
-use Rattle.driver_laws.specs.Sound.{IsSound, is_absent, load_slot, slot_at, slot_if, slot_loading, slot_of, stands_in, version_out}
-use Rattle.driver_laws.specs.Tracks.{KeepsTracks, is_reclaimers}
-use Rattle.driver_rules.specs.Dues.{Due, Ends, Fetches, Finished, IsFetch, IsNext, KicksAll, LooksAt, Makes, Reports, Stopped, TriesOut}
+use Rattle.driver_laws.specs.inner.Sound.{IsSound, is_absent, load_slot, slot_at, slot_if, slot_loading, slot_of, stands_in}
+use Rattle.driver_laws.specs.inner.Sound.{version_out}
+use Rattle.driver_laws.specs.inner.Tracks.{KeepsTracks, is_reclaimers}
+use Rattle.driver_rules.specs.Dues.{Due, Ends, Fetches, Finished, IsFetch, IsNext, KicksAll, LooksAt, Makes, Reports, Stopped}
+use Rattle.driver_rules.specs.Dues.{TriesOut}
 use Rattle.driver_rules.specs.Dues.{Waits}
 use Rattle.driver_rules.specs.Turns.{builder_due, cpu_due}
 use Rattle.driver_laws.proofs.EpochLaws.{try_tells}

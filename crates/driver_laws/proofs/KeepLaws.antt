@@ -8,14 +8,14 @@ use Rattle.sgx_rules.specs.declared.entries.Event.{Event}
 use Rattle.sgx_rules.specs.declared.entries.Event.TheVariants.{Did, Refused, Age}
 use Rattle.sgx_types.specs.declared.names.Frame.{Frame}
 use Rattle.sgx_types.specs.declared.names.SlotAt.{SlotAt}
-use Rattle.version_array.specs.Keeper.{Keeper, Gives, count_out, new_keeper}
+use Rattle.version_array.specs.inner.Keeper.{Keeper, Gives, count_out, new_keeper}
 use Rattle.job_grammar.specs.Jobs.{JobView}
-use Rattle.driver_laws.specs.Agrees.{ShowsSlots}
-use Rattle.driver_laws.specs.Counted.{CountMoves}
-use Rattle.driver_laws.specs.Keeps.{ArraysFirst, IsSameOut, KeeperMoves}
-use Rattle.driver_laws.specs.Kinds.{CanMove}
-use Rattle.driver_laws.specs.Sound.{IsSound}
-use Rattle.driver_laws.specs.Used.{StartTells}
+use Rattle.driver_laws.specs.inner.Agrees.{ShowsSlots}
+use Rattle.driver_laws.specs.inner.Counted.{CountMoves}
+use Rattle.driver_laws.specs.inner.Keeps.{ArraysFirst, IsSameOut, KeeperMoves}
+use Rattle.driver_laws.specs.inner.Kinds.{CanMove}
+use Rattle.driver_laws.specs.inner.Sound.{IsSound}
+use Rattle.driver_laws.specs.inner.Used.{StartTells}
 use Rattle.driver_laws.proofs.AgreeLaws.{shows_add, shows_age, shows_create, shows_eld, shows_eldstart, shows_epa, shows_ewb}
 use Rattle.driver_laws.proofs.AgreeLaws.{shows_ewbstart, shows_refused}
 use Rattle.driver_laws.proofs.SoundLaws.{entry_of, load_start, named}

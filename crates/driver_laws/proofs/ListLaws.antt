@@ -5,7 +5,7 @@ use Rattle.sgx_types.specs.declared.names.Page.{Page}
 use Rattle.sgx_types.specs.Pages.{same_page}
 use Rattle.driver_rules.specs.Ages.{head_of}
 use Rattle.driver_rules.specs.Places.{Absent, Away, Here, Leaving, Loading, Place, is_here, leaves, to_tail}
-use Rattle.driver_laws.specs.Sound.{ListIsHere, once_here, times}
+use Rattle.driver_laws.specs.inner.Sound.{ListIsHere, once_here, times}
 use Rattle.driver_laws.proofs.PlaceLaws.{of_same}
 
 pub times-append : (xs ys : List Page) (g : Page) → times (xs ++ ys) g ≡ times xs g + times ys g

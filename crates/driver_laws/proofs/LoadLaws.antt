@@ -25,11 +25,11 @@ use Rattle.driver_rules.specs.Places.{Leaving, Loading, place}
 use Rattle.driver_rules.specs.Scripts.{is_load}
 use Rattle.driver_rules.specs.Turns.{Fails, Last, Loads, Other, WasEnded, fails_with, last_by, last_of, load_of}
 use Rattle.job_grammar.specs.Jobs.{JobView}
-use Rattle.driver_laws.specs.Driven.{IsDriven}
-use Rattle.driver_laws.specs.Kinds.{CanMove}
-use Rattle.driver_laws.specs.Loads.{EndsOwn, LoadsAreOwned, LoadsAreTheirs, TheirRule, load_ended}
-use Rattle.driver_laws.specs.Started.{frame_loaded}
-use Rattle.driver_laws.specs.Sound.{IsSound, is_load_start, load_slot, stands_in}
+use Rattle.driver_laws.specs.inner.Driven.{IsDriven}
+use Rattle.driver_laws.specs.inner.Kinds.{CanMove}
+use Rattle.driver_laws.specs.inner.Loads.{EndsOwn, LoadsAreOwned, LoadsAreTheirs, TheirRule, load_ended}
+use Rattle.driver_laws.specs.inner.Started.{frame_loaded}
+use Rattle.driver_laws.specs.inner.Sound.{IsSound, is_load_start, load_slot, stands_in}
 use Rattle.driver_laws.proofs.AloneLaws.{free_none}
 use Rattle.driver_laws.proofs.EndLaws.{their_rule}
 use Rattle.driver_laws.proofs.HistoryLaws.{can_move, driven_before, driven_sound, loading_is}

@@ -21,11 +21,11 @@ use Rattle.sgx_types.specs.declared.names.Page.{Page}
 use Rattle.sgx_types.specs.declared.names.Perm.{Perm}
 use Rattle.sgx_types.specs.Pages.{page_at, same_page}
 use Rattle.driver_rules.specs.Ages.{head_of}
-use Rattle.driver_laws.specs.Agrees.{Listed, listed_by, marked, touched, turned}
+use Rattle.driver_laws.specs.inner.Agrees.{Listed, listed_by, marked, touched, turned}
 use Rattle.driver_rules.specs.Holds.{is_among}
-use Rattle.driver_laws.specs.Kinds.{CanMove}
+use Rattle.driver_laws.specs.inner.Kinds.{CanMove}
 use Rattle.driver_rules.specs.Places.{Place, active, active_after, is_here, is_young, place, to_tail, uses, young_after}
-use Rattle.driver_laws.specs.Sound.{IsSound, once_here, times}
+use Rattle.driver_laws.specs.inner.Sound.{IsSound, once_here, times}
 use Rattle.driver_laws.proofs.SoundLaws.{entry_of}
 
 -- ---- lists

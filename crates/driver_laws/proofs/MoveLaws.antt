@@ -25,9 +25,9 @@ use Rattle.sgx_rules.specs.declared.refusals.Refusal.{Refusal}
 use Rattle.sgx_types.specs.Pages.{page_at, same_page}
 use Rattle.sgx_rules.specs.Starts.{Start, open_start}
 use Rattle.sgx_types.proofs.Pages.{same_page-refl}
-use Rattle.driver_laws.specs.Kinds.{is_quiet}
+use Rattle.driver_laws.specs.inner.Kinds.{is_quiet}
 use Rattle.driver_rules.specs.Places.{Away, Here, Leaving, Loading, active, is_young, place, to_tail}
-use Rattle.driver_laws.specs.Sound.{IsSound, load_slot, slot_loading}
+use Rattle.driver_laws.specs.inner.Sound.{IsSound, load_slot, slot_loading}
 use Rattle.driver_laws.proofs.PlaceLaws.{loads_one}
 use Rattle.driver_laws.proofs.SoundLaws.{entry_of}
 

@@ -27,18 +27,22 @@ use Rattle.job_grammar.specs.Jobs.{JobView}
 use Rattle.turn_rules.specs.declared.steps.BuildStep.{BuildStep}
 use Rattle.turn_rules.specs.declared.steps.BuildStep.TheVariants as builds
 use Rattle.turn_rules.specs.Script.{action_of, build_of, built, enter_with, frame_at, is_turned_away, resume_with, with_frame}
-use Rattle.driver_rules.specs.Needs.{Interruption, interruption, needs_after, needs_to_enter, needs_to_resume, next_op, save_to_enter}
+use Rattle.driver_rules.specs.Needs.{Interruption, interruption, needs_after, needs_to_enter, needs_to_resume, next_op}
+use Rattle.driver_rules.specs.Needs.{save_to_enter}
 use Rattle.driver_rules.specs.Needs.{save_to_resume}
 use Rattle.driver_rules.specs.Places.{Absent, Away, Here, Leaving, Loading, Place, frame_here, place}
 use Rattle.driver_rules.specs.Scripts.{IsActors, ScriptRule}
-use Rattle.driver_laws.specs.Tracks.{OwnRule, is_reclaimers}
+use Rattle.driver_laws.specs.inner.Tracks.{OwnRule, is_reclaimers}
 use Rattle.driver_rules.specs.declared.waits.Why.{Why}
 use Rattle.driver_rules.specs.declared.waits.Why.TheVariants as waits
-use Rattle.driver_rules.specs.Dues.{Due, Ends, Fetches, Finished, IsFetch, IsNext, KicksAll, LooksAt, Makes, Reports, Stopped, TriesOut}
+use Rattle.driver_rules.specs.Dues.{Due, Ends, Fetches, Finished, IsFetch, IsNext, KicksAll, LooksAt, Makes, Reports, Stopped}
+use Rattle.driver_rules.specs.Dues.{TriesOut}
 use Rattle.driver_rules.specs.Dues.{Waits, makes_or}
 use Rattle.driver_rules.specs.Stops.{is_spent}
-use Rattle.driver_rules.specs.Turns.{Fails, Last, Loads, Other, WasEnded, accesses_by, builder_due, cpu_due, due_after, early_turn, enters}
-use Rattle.driver_rules.specs.Turns.{fetches, fills, first_away, inside_turn, is_built, is_kicked, is_last, last_of, op_turn, outside_turn}
+use Rattle.driver_rules.specs.Turns.{Fails, Last, Loads, Other, WasEnded, accesses_by, builder_due, cpu_due, due_after}
+use Rattle.driver_rules.specs.Turns.{early_turn, enters}
+use Rattle.driver_rules.specs.Turns.{fetches, fills, first_away, inside_turn, is_built, is_kicked, is_last, last_of, op_turn}
+use Rattle.driver_rules.specs.Turns.{outside_turn}
 use Rattle.driver_rules.specs.Turns.{resumes, save_frame, stay_turn, step_turn, turn_due, with_pages}
 
 -- ---- what is due moves no page but by a load

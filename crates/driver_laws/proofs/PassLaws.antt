@@ -18,14 +18,17 @@ use Rattle.sgx_rules.specs.Frames.{is_blocked}
 use Rattle.job_grammar.specs.Jobs.{JobView}
 use Rattle.driver_rules.specs.Ages.{AgeRule, FormOf, InPass, IsFrame, KickRule, PassOf}
 use Rattle.driver_rules.specs.Ages as ages
-use Rattle.driver_laws.specs.Kinds.{CanMove}
-use Rattle.driver_rules.specs.Passes.{Between, Blocking, First, Form, Kicks, Pass, Scan, Sealing, Second, Third, ToKick, ToTrack, Tries}
-use Rattle.driver_rules.specs.Passes.{block_on, decided, free_count, keepers, kicks_on, next_tries, pass, pass_after, pass_by, scan_on}
+use Rattle.driver_laws.specs.inner.Kinds.{CanMove}
+use Rattle.driver_rules.specs.Passes.{Between, Blocking, First, Form, Kicks, Pass, Scan, Sealing, Second, Third, ToKick, ToTrack}
+use Rattle.driver_rules.specs.Passes.{Tries}
+use Rattle.driver_rules.specs.Passes.{block_on, decided, free_count, keepers, kicks_on, next_tries, pass, pass_after, pass_by}
+use Rattle.driver_rules.specs.Passes.{scan_on}
 use Rattle.driver_rules.specs.Passes.{scanned, taken_by}
 use Rattle.driver_rules.specs.Places.{Leaving, active, place}
-use Rattle.driver_laws.specs.Sound.{IsSound}
-use Rattle.driver_laws.specs.Tracks.{AllCalm, InForm, IsCalm, IsTracked, IsUntracked, KeepsTracks, OwnRule, TryTells, is_reclaimers}
-use Rattle.driver_laws.specs.Tracks.{moves_out}
+use Rattle.driver_laws.specs.inner.Sound.{IsSound}
+use Rattle.driver_laws.specs.inner.Tracks.{AllCalm, InForm, IsCalm, IsTracked, IsUntracked, KeepsTracks, OwnRule, TryTells}
+use Rattle.driver_laws.specs.inner.Tracks.{is_reclaimers}
+use Rattle.driver_laws.specs.inner.Tracks.{moves_out}
 use Rattle.driver_laws.proofs.SoundLaws.{entry_of}
 use Rattle.driver_laws.proofs.TrackLaws.{behind_kept, block_low, blocked_place, calm_drained, calm_kept, last_kept, none_since}
 use Rattle.driver_laws.proofs.TrackLaws.{waiting_kept}

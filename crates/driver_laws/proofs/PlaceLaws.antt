@@ -10,8 +10,10 @@ use Rattle.sgx_types.specs.declared.names.SlotAt.{SlotAt}
 use Rattle.sgx_types.specs.Pages.{same_page}
 use Rattle.sgx_rules.specs.Frames.{Content, Free, Holds, IsLoading, is_page}
 use Rattle.sgx_rules.specs.Starts.{Start, is_load_of, loads_page}
-use Rattle.driver_rules.specs.Places.{Absent, Away, Here, Leaving, Loading, Place, after_look, back_to, frame_here, gone_to, leaves}
-use Rattle.driver_laws.specs.Sound.{PlacesAreFrames, is_absent, is_load_start, is_write_start, load_slot, slot_if, slot_loading, stands_in}
+use Rattle.driver_rules.specs.Places.{Absent, Away, Here, Leaving, Loading, Place, after_look, back_to, frame_here, gone_to}
+use Rattle.driver_rules.specs.Places.{leaves}
+use Rattle.driver_laws.specs.inner.Sound.{PlacesAreFrames, is_absent, is_load_start, is_write_start, load_slot, slot_if}
+use Rattle.driver_laws.specs.inner.Sound.{slot_loading, stands_in}
 use Rattle.sgx_rules.specs.declared.entries.Look.{Look}
 use Rattle.sgx_rules.specs.declared.entries.Look.TheVariants as looks
 use Rattle.sgx_types.specs.declared.names.Actor.{Actor}

@@ -16,14 +16,15 @@ use Rattle.sgx_types.specs.Making.{Making}
 use Rattle.sgx_rules.specs.Rules.{EvictRule, RefusalRule, RisingRule}
 use Rattle.sgx_rules.specs.Table.{is_busy, is_loading}
 use Rattle.sgx_rules.specs.Sights.{row_at, sight_at}
-use Rattle.sgx_rules.specs.Slots.{is_draw, is_slot_busy, next_version, IsIdle}
+use Rattle.sgx_rules.specs.Slots.{is_draw, is_slot_busy, next_version}
+use Rattle.sgx_rules.specs.inner.Slots.{IsIdle}
 use Rattle.sgx_rules.specs.Starts.{Start, open_start, version_told}
 use Rattle.sgx_rules.proofs.Busy.{idle_by}
 use Rattle.job_grammar.specs.Jobs.{JobView}
 use Rattle.driver_rules.specs.Places.{Away, place}
-use Rattle.driver_laws.specs.Driven.{IsDriven}
-use Rattle.driver_laws.specs.Sound.{IsSound, is_load_start, is_write_start}
-use Rattle.driver_laws.specs.Used.{SealingAreOpen, SlotsAreUsed, StartTells}
+use Rattle.driver_laws.specs.inner.Driven.{IsDriven}
+use Rattle.driver_laws.specs.inner.Sound.{IsSound, is_load_start, is_write_start}
+use Rattle.driver_laws.specs.inner.Used.{SealingAreOpen, SlotsAreUsed, StartTells}
 use Rattle.driver_laws.proofs.HistoryLaws.{can_move, driven_before, driven_pages, driven_sound}
 use Rattle.driver_laws.proofs.SoundLaws.{entry_of}
 use Rattle.driver_laws.proofs.AloneLaws.{alone}

@@ -5,7 +5,8 @@ use Rattle.std.proofs.lemmas.Bool.{eq-eqb, eqb-true, false≢true, leb-true, ltb
 use Rattle.std.specs.List.{list_any}
 use Rattle.sgx_rules.proofs.Rows.{none_refused}
 use Rattle.sgx_types.proofs.Truths.{both_true}
-use Rattle.sgx_rules.specs.Frames.{Content, Free, Holds, IsLoading, IsVa, SecsOf, added, content, held_after, is_blocked, is_sealing}
+use Rattle.sgx_rules.specs.Frames.{Content, Free, Holds, IsLoading, IsVa, SecsOf, added, content, held_after, is_blocked}
+use Rattle.sgx_rules.specs.Frames.{is_sealing}
 use Rattle.sgx_types.specs.Pages.{page_at}
 use Rattle.sgx_rules.specs.Frames.{made_before, put_by, reloaded, vas_made}
 use Rattle.sgx_rules.specs.Rules.{Along, FitsRule}
@@ -13,7 +14,8 @@ use Rattle.sgx_rules.specs.Sights.{sight_at, slot_sight_at}
 use Rattle.sgx_types.specs.Pages.{same_slot}
 use Rattle.sgx_rules.specs.Slots.{is_slot_busy, version_in}
 use Rattle.sgx_rules.specs.Starts.{open_start}
-use Rattle.sgx_rules.specs.Table.{DrainSight, EnclaveSight, FrameSight, eldstart_row, ewbstart_row, first_of_row, is_busy, is_made}
+use Rattle.sgx_rules.specs.Table.{DrainSight, EnclaveSight, FrameSight, eldstart_row, ewbstart_row, first_of_row, is_busy}
+use Rattle.sgx_rules.specs.Table.{is_made}
 use Rattle.sgx_rules.specs.Table.{is_out_of_range, is_secs, is_va}
 use Rattle.sgx_rules.specs.declared.entries.Action.TheVariants.{Add, Create, Eld, EldStart, Epa, Ewb}
 use Rattle.sgx_rules.specs.declared.entries.Answer.TheVariants.{Moved}
@@ -26,13 +28,13 @@ use Rattle.sgx_types.specs.declared.names.Perm.{Perm}
 use Rattle.sgx_types.specs.declared.names.SlotAt.{SlotAt}
 use Rattle.sgx_rules.proofs.Busy.{idle_free}
 use Rattle.sgx_rules.proofs.Contents.{IsNoOther, page_is_no_other}
-use Rattle.version_array.specs.Keeper.{Keeper, is_added, is_ours, is_out}
+use Rattle.version_array.specs.inner.Keeper.{Keeper, is_added, is_ours, is_out}
 use Rattle.job_grammar.specs.Jobs.{JobView}
 use Rattle.driver_rules.specs.Places.{Away, Leaving, place}
-use Rattle.driver_laws.specs.Agrees.{ShowsSlots}
-use Rattle.driver_laws.specs.Sound.{IsSound, is_write_start, slot_at, slot_outside}
-use Rattle.driver_laws.specs.Stages.{IsTaken}
-use Rattle.driver_laws.specs.Used.{SealingAreOpen, SlotsAreUsed, left_to_refuse}
+use Rattle.driver_laws.specs.inner.Agrees.{ShowsSlots}
+use Rattle.driver_laws.specs.inner.Sound.{IsSound, is_write_start, slot_at, slot_outside}
+use Rattle.driver_laws.specs.inner.Stages.{IsTaken}
+use Rattle.driver_laws.specs.inner.Used.{SealingAreOpen, SlotsAreUsed, left_to_refuse}
 use Rattle.driver_laws.proofs.AloneLaws.{free_none}
 use Rattle.driver_laws.proofs.ReadyLaws.{away_idle}
 use Rattle.driver_laws.proofs.SoundLaws.{entry_of}

@@ -16,8 +16,9 @@ use Rattle.driver_rules.specs.Places.{Absent, Away, Here, Leaving, Loading, Plac
 use Rattle.sgx_rules.specs.Slots.{slot_of as slot_of_start}
 use Rattle.sgx_types.specs.declared.names.Actor.{Actor}
 use Rattle.sgx_rules.proofs.Contents.{one_page, page_is_no_other}
-use Rattle.driver_laws.specs.Sound.{PlacesAreFrames, SlotsAreApart, SlotsHaveVersions, is_load_start, is_write_start, slot_at, slot_outside}
-use Rattle.driver_laws.specs.Sound.{stands_in, version_out}
+use Rattle.driver_laws.specs.inner.Sound.{PlacesAreFrames, SlotsAreApart, SlotsHaveVersions, is_load_start, is_write_start}
+use Rattle.driver_laws.specs.inner.Sound.{slot_at, slot_outside}
+use Rattle.driver_laws.specs.inner.Sound.{stands_in, version_out}
 use Rattle.driver_laws.proofs.PlaceLaws.{holds_one, of_same}
 
 -- ---- in general

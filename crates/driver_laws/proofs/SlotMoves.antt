@@ -21,11 +21,11 @@ use Rattle.sgx_rules.specs.declared.refusals.Refusal.{Refusal}
 use Rattle.sgx_types.specs.Pages.{page_at, same_page}
 use Rattle.sgx_rules.specs.Frames.{content, is_page}
 use Rattle.sgx_rules.specs.Starts.{Start, is_load_of, open_start, version_told}
-use Rattle.driver_laws.specs.Kinds.{CanMove}
+use Rattle.driver_laws.specs.inner.Kinds.{CanMove}
 use Rattle.driver_rules.specs.Places.{Absent, Away, Here, Leaving, Loading, Place, after_look, back_to, gone_to, place}
 use Rattle.sgx_rules.specs.Slots.{slot_of as starts_slot}
 use Rattle.sgx_rules.proofs.Contents.{load_no_page}
-use Rattle.driver_laws.specs.Sound.{IsSound, slot_at, slot_of, stands_in}
+use Rattle.driver_laws.specs.inner.Sound.{IsSound, slot_at, slot_of, stands_in}
 use Rattle.driver_laws.proofs.PlaceLaws.{holds_one}
 use Rattle.driver_laws.proofs.SlotLaws.{none_open}
 use Rattle.driver_laws.proofs.SoundLaws.{entry_of}

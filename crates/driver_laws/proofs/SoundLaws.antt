@@ -28,15 +28,18 @@ use Rattle.sgx_types.proofs.Pages.{same_page-refl}
 use Rattle.sgx_rules.specs.Table.{is_lawful_access}
 use Rattle.sgx_rules.specs.declared.entries.AccessOp.{AccessOp}
 use Rattle.driver_rules.specs.Ages.{head_of}
-use Rattle.driver_laws.specs.Kinds.{CanMove}
-use Rattle.driver_rules.specs.Places.{Absent, Away, Here, Leaving, Loading, Place, active, after_look, back_to, gone_to, is_here, leaves}
+use Rattle.driver_laws.specs.inner.Kinds.{CanMove}
+use Rattle.driver_rules.specs.Places.{Absent, Away, Here, Leaving, Loading, Place, active, after_look, back_to, gone_to, is_here}
+use Rattle.driver_rules.specs.Places.{leaves}
 use Rattle.driver_rules.specs.Places.{place, to_tail}
-use Rattle.driver_laws.specs.Sound.{IsSound, ListIsHere, PlacesAreFrames, is_absent, load_slot, once_here, slot_at, slot_if, slot_loading}
-use Rattle.driver_laws.specs.Sound.{slot_outside, times}
+use Rattle.driver_laws.specs.inner.Sound.{IsSound, ListIsHere, PlacesAreFrames, is_absent, load_slot, once_here, slot_at}
+use Rattle.driver_laws.specs.inner.Sound.{slot_if, slot_loading}
+use Rattle.driver_laws.specs.inner.Sound.{slot_outside, times}
 use Rattle.driver_laws.proofs.ListLaws.{list_longer, list_same, list_shorter, list_turned}
 use Rattle.driver_laws.proofs.PlaceLaws.{of_same, put_added, put_apart, put_back, put_loading, put_looked, put_out, put_refused}
 use Rattle.driver_laws.proofs.PlaceLaws.{put_starting}
-use Rattle.driver_laws.proofs.SlotLaws.{apart_back, apart_here, apart_loading, apart_out, apart_refused, apart_starting, apart_taken}
+use Rattle.driver_laws.proofs.SlotLaws.{apart_back, apart_here, apart_loading, apart_out, apart_refused, apart_starting}
+use Rattle.driver_laws.proofs.SlotLaws.{apart_taken}
 use Rattle.driver_laws.proofs.SlotLaws.{none_open, outside_here, outside_loading, outside_refused, outside_taken, versions_back}
 use Rattle.driver_laws.proofs.SlotLaws.{versions_less, versions_out}
 

@@ -27,18 +27,20 @@ use Rattle.job_grammar.specs.Jobs.{JobView}
 use Rattle.driver_rules.specs.Ages.{AgeRule, FormOf, InPass, IsFrame, KickRule, LookOf, PassOf, head_of}
 use Rattle.driver_rules.specs.Ages as ages
 use Rattle.driver_rules.specs.Holds.{is_among}
-use Rattle.driver_laws.specs.Kinds.{CanMove}
-use Rattle.driver_rules.specs.Passes.{Between, Blocking, First, Form, Kicks, Pass, Scan, Sealing, Second, Third, ToKick, ToTrack, Tries}
-use Rattle.driver_rules.specs.Passes.{block_on, decided, free_count, keepers, kicks_on, next_tries, pass, pass_after, pass_by, scan_on}
+use Rattle.driver_laws.specs.inner.Kinds.{CanMove}
+use Rattle.driver_rules.specs.Passes.{Between, Blocking, First, Form, Kicks, Pass, Scan, Sealing, Second, Third, ToKick, ToTrack}
+use Rattle.driver_rules.specs.Passes.{Tries}
+use Rattle.driver_rules.specs.Passes.{block_on, decided, free_count, keepers, kicks_on, next_tries, pass, pass_after, pass_by}
+use Rattle.driver_rules.specs.Passes.{scan_on}
 use Rattle.driver_rules.specs.Passes.{scanned, taken_by}
 use Rattle.driver_rules.specs.Places.{Absent, Away, Here, Leaving, Loading, Place, active, active_after, back_to, gone_to, leaves}
 use Rattle.driver_rules.specs.Places.{looked_at, place, to_tail}
-use Rattle.driver_laws.specs.Sound.{IsSound, is_load_start, is_write_start}
-use Rattle.driver_laws.specs.Tracks.{OwnRule, is_reclaimers}
+use Rattle.driver_laws.specs.inner.Sound.{IsSound, is_load_start, is_write_start}
+use Rattle.driver_laws.specs.inner.Tracks.{OwnRule, is_reclaimers}
 use Rattle.driver_laws.proofs.MoveLaws.{place-taken}
 use Rattle.driver_laws.proofs.SlotLaws.{none_open}
 use Rattle.driver_laws.proofs.SoundLaws.{entry_of, head_here}
-use Rattle.driver_laws.specs.Stages.{AllWait, AreApart, HasPages, IsTrying, KeepsPages, Stands, IsTaken, touches}
+use Rattle.driver_laws.specs.inner.Stages.{AllWait, AreApart, HasPages, IsTrying, KeepsPages, Stands, IsTaken, touches}
 use Rattle.driver_laws.proofs.StillLaws.{frames_apart, holds_here, load_open, place_apart, still}
 
 self_eq : (f : ℕ) → (f == f) ≡ true

@@ -16,10 +16,10 @@ use Rattle.sgx_rules.specs.Rules.{Along}
 use Rattle.sgx_rules.specs.Starts.{Start, open_start}
 use Rattle.job_grammar.specs.Jobs.{JobView}
 use Rattle.driver_rules.specs.Scripts.{ScriptRule}
-use Rattle.driver_rules.specs.Stops.{frame_started, last_event}
+use Rattle.driver_rules.specs.inner.Stops.{frame_started, last_event}
 use Rattle.driver_rules.specs.Turns.{fails_with, last_by, last_of, load_of}
-use Rattle.driver_laws.specs.Tracks.{is_reclaimers}
-use Rattle.driver_laws.specs.Started.{frame_loaded}
+use Rattle.driver_laws.specs.inner.Tracks.{is_reclaimers}
+use Rattle.driver_laws.specs.inner.Started.{frame_loaded}
 use Rattle.driver_laws.proofs.OwnLaws.{script_own}
 
 pub fails_none : (o : Option Page) (r : Refusal) → frame_loaded (fails_with o r) ≡ None

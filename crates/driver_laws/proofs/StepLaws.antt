@@ -21,17 +21,19 @@ use Rattle.turn_rules.specs.Script.{action_of, build_of, built, frame_at, is_bui
 use Rattle.turn_rules.specs.declared.steps.BuildStep.{BuildStep}
 use Rattle.turn_rules.specs.declared.steps.BuildStep.TheVariants as builds
 use Rattle.driver_rules.specs.Ages.{AgeRule, InPass, PassOf}
-use Rattle.driver_rules.specs.Dues.{Due, Ends, Fetches, Finished, IsFetch, IsNext, KicksAll, LooksAt, Makes, Reports, Stopped, TriesOut}
+use Rattle.driver_rules.specs.Dues.{Due, Ends, Fetches, Finished, IsFetch, IsNext, KicksAll, LooksAt, Makes, Reports, Stopped}
+use Rattle.driver_rules.specs.Dues.{TriesOut}
 use Rattle.driver_rules.specs.Dues.{Waits, makes_or}
 use Rattle.driver_rules.specs.Passes.{Between, Blocking, Pass, Scan, Tries, pass}
 use Rattle.driver_rules.specs.Scripts.{IsActors, ScriptRule}
 use Rattle.driver_rules.specs.Stops.{is_spent}
-use Rattle.driver_rules.specs.Turns.{Fails, Last, Loads, Other, WasEnded, builder_due, cpu_due, due_after, is_last, last_of, step_turn}
+use Rattle.driver_rules.specs.Turns.{Fails, Last, Loads, Other, WasEnded, builder_due, cpu_due, due_after, is_last, last_of}
+use Rattle.driver_rules.specs.Turns.{step_turn}
 use Rattle.driver_rules.specs.Turns.{turn_due}
 use Rattle.driver_rules.specs.declared.waits.Why.TheVariants as waits
-use Rattle.driver_laws.specs.Agrees.{is_add}
-use Rattle.driver_laws.specs.Counted.{is_add_step}
-use Rattle.driver_laws.specs.Keeps.{is_epa, is_epa_refused, is_va_step}
+use Rattle.driver_laws.specs.inner.Agrees.{is_add}
+use Rattle.driver_laws.specs.inner.Counted.{is_add_step}
+use Rattle.driver_laws.specs.inner.Keeps.{is_epa, is_epa_refused, is_va_step}
 use Rattle.driver_laws.proofs.OwnLaws.{OfTurn, is_script, turn_script}
 
 -- ---- whose such instructions are

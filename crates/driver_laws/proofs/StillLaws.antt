@@ -15,12 +15,12 @@ use Rattle.sgx_types.specs.Pages.{same_page}
 use Rattle.sgx_rules.specs.Frames.{Free, content, is_blocked, is_page}
 use Rattle.sgx_rules.specs.Starts.{is_load_of, open_start}
 use Rattle.sgx_rules.proofs.Contents.{load_no_page}
-use Rattle.driver_laws.specs.Kinds.{CanMove}
+use Rattle.driver_laws.specs.inner.Kinds.{CanMove}
 use Rattle.driver_rules.specs.Places.{Absent, Away, Leaving, Loading, Place, after_look, back_to, place}
-use Rattle.driver_laws.specs.Sound.{IsSound, is_load_start, load_slot, slot_loading, stands_in}
+use Rattle.driver_laws.specs.inner.Sound.{IsSound, is_load_start, load_slot, slot_loading, stands_in}
 use Rattle.driver_laws.proofs.PlaceLaws.{holds_one, load_slot_is, of_same}
 use Rattle.driver_laws.proofs.SoundLaws.{entry_of}
-use Rattle.driver_laws.specs.Stages.{touches}
+use Rattle.driver_laws.specs.inner.Stages.{touches}
 
 -- ---- frames
 

@@ -26,7 +26,8 @@ use Rattle.sgx_types.specs.declared.names.SlotAt.{SlotAt}
 use Rattle.sgx_rules.specs.Flat.{at_offset}
 use Rattle.sgx_types.specs.Pages.{page_at, same_page}
 use Rattle.sgx_rules.specs.Frames.{added, content, frame_of, least_free}
-use Rattle.sgx_rules.specs.Processors.{Enters, Keeps, Leaves, Move, Stay, holds_number, is_by, move_by, stay, stay_after, stay_from}
+use Rattle.sgx_rules.specs.Processors.{Enters, Keeps, Leaves, Move, Stay, holds_number, is_by, move_by, stay, stay_after}
+use Rattle.sgx_rules.specs.Processors.{stay_from}
 use Rattle.sgx_rules.specs.Processors.{translations}
 use Rattle.sgx_rules.specs.Table.{is_lawful_access}
 use Rattle.job_grammar.specs.declared.jobs.Op.{Op}
@@ -34,24 +35,28 @@ use Rattle.job_grammar.specs.declared.jobs.Op.TheVariants as ops
 use Rattle.job_grammar.specs.Jobs.{JobView}
 use Rattle.turn_rules.specs.declared.steps.BuildStep.{BuildStep}
 use Rattle.turn_rules.specs.declared.steps.BuildStep.TheVariants as builds
-use Rattle.turn_rules.specs.Script.{build_of, built, enter_with, frame_at, is_seated_at, is_turned_away, leaves_by, replied, resume_with}
+use Rattle.turn_rules.specs.Script.{build_of, built, enter_with, frame_at, is_seated_at, is_turned_away, leaves_by, replied}
+use Rattle.turn_rules.specs.Script.{resume_with}
 use Rattle.turn_rules.specs.Script.{saved, saved_after, script_of, with_frame}
 use Rattle.driver_rules.specs.Ages.{AgeRule, InPass, PassOf}
-use Rattle.driver_laws.specs.Driven.{IsDriven}
+use Rattle.driver_laws.specs.inner.Driven.{IsDriven}
 use Rattle.driver_rules.specs.Needs.{Interruption, interrupted_by, interrupted_in, interruption, interruption_after, needs_after}
 use Rattle.driver_rules.specs.Needs.{needs_to_enter, needs_to_resume, next_op, save_to_enter, save_to_resume}
 use Rattle.driver_rules.specs.Passes.{Between, Blocking, Pass, Scan, Tries, pass}
 use Rattle.driver_rules.specs.Places.{Absent, Away, Here, Leaving, Loading, Place, frame_here, place}
 use Rattle.driver_rules.specs.Scripts.{IsActors, ScriptRule}
-use Rattle.driver_laws.specs.Sound.{IsSound}
-use Rattle.driver_laws.specs.Three.{IsApart, NamesOwn, TcsAreApart, is_tcs_of, names_tcs, tcs_by, tcs_of}
+use Rattle.driver_laws.specs.inner.Sound.{IsSound}
+use Rattle.driver_laws.specs.inner.Three.{IsApart, NamesOwn, TcsAreApart, is_tcs_of, names_tcs, tcs_by, tcs_of}
 use Rattle.driver_rules.specs.declared.waits.Why.{Why}
 use Rattle.driver_rules.specs.declared.waits.Why.TheVariants as waits
-use Rattle.driver_rules.specs.Dues.{Due, Ends, Fetches, Finished, IsFetch, IsNext, KicksAll, LooksAt, Makes, Reports, Stopped, TriesOut}
+use Rattle.driver_rules.specs.Dues.{Due, Ends, Fetches, Finished, IsFetch, IsNext, KicksAll, LooksAt, Makes, Reports, Stopped}
+use Rattle.driver_rules.specs.Dues.{TriesOut}
 use Rattle.driver_rules.specs.Dues.{Waits, makes_or}
 use Rattle.driver_rules.specs.Stops.{is_spent}
-use Rattle.driver_rules.specs.Turns.{Fails, Last, Loads, Other, WasEnded, accesses_by, builder_due, cpu_due, due_after, early_turn, enters}
-use Rattle.driver_rules.specs.Turns.{fetches, fills, first_away, inside_turn, is_built, is_kicked, is_last, last_of, op_turn, outside_turn}
+use Rattle.driver_rules.specs.Turns.{Fails, Last, Loads, Other, WasEnded, accesses_by, builder_due, cpu_due, due_after}
+use Rattle.driver_rules.specs.Turns.{early_turn, enters}
+use Rattle.driver_rules.specs.Turns.{fetches, fills, first_away, inside_turn, is_built, is_kicked, is_last, last_of, op_turn}
+use Rattle.driver_rules.specs.Turns.{outside_turn}
 use Rattle.driver_rules.specs.Turns.{resumes, save_frame, stay_turn, step_turn, turn_due, with_pages}
 use Rattle.driver_laws.proofs.HistoryLaws.{driven_before, driven_sound}
 use Rattle.driver_laws.proofs.SoundLaws.{entry_of}

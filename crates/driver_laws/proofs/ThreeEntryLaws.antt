@@ -28,10 +28,11 @@ use Rattle.job_grammar.specs.declared.jobs.PageLine.TheVariants as lines
 use Rattle.job_grammar.specs.Jobs.{JobView, lines_at, tcs_line}
 use Rattle.turn_rules.specs.Script.{action_of, interrupted_after, is_interrupted, is_reply, leaves_by, saved, saved_after}
 use Rattle.driver_rules.specs.Holds.{access_of_stay, front_to, holds, holds_by, is_among, page_in, up_to}
-use Rattle.driver_rules.specs.Needs.{Interruption, access_page, interrupted_by, interrupted_in, interruption, interruption_after, last_save}
+use Rattle.driver_rules.specs.Needs.{Interruption, access_page, interrupted_by, interrupted_in, interruption, interruption_after}
+use Rattle.driver_rules.specs.Needs.{last_save}
 use Rattle.driver_rules.specs.Needs.{listed, next_op, next_save}
 use Rattle.driver_rules.specs.Places.{is_here, place}
-use Rattle.driver_laws.specs.Three.{AreAmong, HoldsThree, pages_by, tcs_by, tcs_of, three, three_by}
+use Rattle.driver_laws.specs.inner.Three.{AreAmong, HoldsThree, pages_by, tcs_by, tcs_of, three, three_by}
 use Rattle.driver_rules.specs.Turns.{first_away}
 use Rattle.driver_laws.proofs.SoundLaws.{entry_of}
 

@@ -26,24 +26,28 @@ use Rattle.sgx_rules.specs.Table.{is_lawful_access}
 use Rattle.job_grammar.specs.declared.jobs.Op.{Op}
 use Rattle.job_grammar.specs.declared.jobs.Op.TheVariants as ops
 use Rattle.job_grammar.specs.Jobs.{JobView, lines_at, tcs_line}
-use Rattle.turn_rules.specs.Script.{action_of, enter_with, frame_at, is_interrupted, is_reply, is_reply_action, is_turned_away, resume_with}
+use Rattle.turn_rules.specs.Script.{action_of, enter_with, frame_at, is_interrupted, is_reply, is_reply_action, is_turned_away}
+use Rattle.turn_rules.specs.Script.{resume_with}
 use Rattle.turn_rules.specs.Script.{saved}
 use Rattle.driver_rules.specs.Holds.{access_of_stay, holds_by, is_among, page_in, page_of_stay, up_to}
 use Rattle.driver_rules.specs.Needs.{Interruption, access_page, interruption, last_save, listed, needs, needs_after, needs_of}
 use Rattle.driver_rules.specs.Needs.{needs_to_enter, needs_to_resume, next_op, save_to_enter, save_to_resume}
 use Rattle.driver_rules.specs.Places.{Absent, Away, Here, Leaving, Loading, Place, frame_here, place}
 use Rattle.driver_rules.specs.Scripts.{ScriptRule}
-use Rattle.driver_laws.specs.Sound.{IsSound, stands_in}
-use Rattle.driver_laws.specs.Three.{AreAmong, HoldsThree, pages_by, three, three_by}
+use Rattle.driver_laws.specs.inner.Sound.{IsSound, stands_in}
+use Rattle.driver_laws.specs.inner.Three.{AreAmong, HoldsThree, pages_by, three, three_by}
 use Rattle.driver_rules.specs.declared.waits.Why.{Why}
 use Rattle.driver_rules.specs.declared.waits.Why.TheVariants as waits
 use Rattle.driver_rules.specs.Dues.{Due, Ends, Fetches, Finished, IsFetch, IsNext, Makes, Reports, Stopped, Waits, makes_or}
 use Rattle.driver_rules.specs.Stops.{is_spent}
-use Rattle.driver_rules.specs.Turns.{Fails, Last, Loads, Other, WasEnded, accesses_by, cpu_due, due_after, early_turn, enters, fetches}
-use Rattle.driver_rules.specs.Turns.{fills, first_away, inside_turn, is_built, is_kicked, is_last, last_of, op_turn, outside_turn, resumes}
+use Rattle.driver_rules.specs.Turns.{Fails, Last, Loads, Other, WasEnded, accesses_by, cpu_due, due_after, early_turn, enters}
+use Rattle.driver_rules.specs.Turns.{fetches}
+use Rattle.driver_rules.specs.Turns.{fills, first_away, inside_turn, is_built, is_kicked, is_last, last_of, op_turn}
+use Rattle.driver_rules.specs.Turns.{outside_turn, resumes}
 use Rattle.driver_rules.specs.Turns.{save_frame, stay_turn, turn_due, with_pages}
 use Rattle.driver_laws.proofs.SoundLaws.{entry_of}
-use Rattle.driver_laws.proofs.ThreeEntryLaws.{IsStill, access_in, all_append, all_refl, away_among, listed_in, more_among, none_among}
+use Rattle.driver_laws.proofs.ThreeEntryLaws.{IsStill, access_in, all_append, all_refl, away_among, listed_in, more_among}
+use Rattle.driver_laws.proofs.ThreeEntryLaws.{none_among}
 use Rattle.driver_laws.proofs.ThreeEntryLaws.{or_true, own_end, own_fault, own_kick, own_past, own_reply, own_resume}
 use Rattle.driver_laws.proofs.ThreeEntryLaws.{own_still, page_in_among, refused_still, up_to_among}
 

@@ -14,17 +14,18 @@ use Rattle.sgx_rules.specs.declared.entries.Look.TheVariants as looks
 use Rattle.sgx_types.specs.declared.names.Page.{Page}
 use Rattle.sgx_types.specs.declared.names.SlotAt.{SlotAt}
 use Rattle.sgx_rules.specs.Epochs.{is_before, is_in_before, is_track, last_track}
-use Rattle.sgx_rules.specs.Eviction.{block_place, earlier_or, is_drained, is_drained_from, keeps_back, number_kept_back, track_behind}
+use Rattle.sgx_rules.specs.Eviction.{block_place, earlier_or, is_drained, is_drained_from, keeps_back, number_kept_back}
+use Rattle.sgx_rules.specs.Eviction.{track_behind}
 use Rattle.sgx_types.specs.Pages.{same_page}
 use Rattle.sgx_rules.specs.Frames.{Free, content, is_block, is_blocked, is_page, is_put, made_before, put_by}
 use Rattle.sgx_rules.specs.Starts.{is_load_of, open_start}
 use Rattle.sgx_rules.specs.Processors.{Enters, Keeps, Leaves, Move, Stay, is_by, move_by, stay, stay_after}
 use Rattle.sgx_rules.proofs.Contents.{load_no_page, page_enclave}
 use Rattle.sgx_types.proofs.CountLaws.{count_below-zero, count_below-none}
-use Rattle.driver_laws.specs.Kinds.{CanMove}
+use Rattle.driver_laws.specs.inner.Kinds.{CanMove}
 use Rattle.driver_rules.specs.Places.{Absent, Away, Leaving, Loading, Place, after_look, back_to, place}
-use Rattle.driver_laws.specs.Sound.{IsSound, load_slot, slot_loading, stands_in}
-use Rattle.driver_laws.specs.Tracks.{IsCalm, IsTracked, IsWaiting, moves_out}
+use Rattle.driver_laws.specs.inner.Sound.{IsSound, load_slot, slot_loading, stands_in}
+use Rattle.driver_laws.specs.inner.Tracks.{IsCalm, IsTracked, IsWaiting, moves_out}
 use Rattle.driver_laws.proofs.SoundLaws.{entry_of}
 use Rattle.driver_laws.proofs.PlaceLaws.{load_slot_is, of_same}
 

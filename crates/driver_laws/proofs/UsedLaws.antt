@@ -21,9 +21,9 @@ use Rattle.sgx_types.specs.Pages.{same_slot}
 use Rattle.sgx_rules.specs.Slots.{names_slot, open_slot, version_in}
 use Rattle.sgx_rules.specs.Starts.{Start, open_start, version_told}
 use Rattle.driver_rules.specs.Places.{Here, Place, after_look, gone_to, place}
-use Rattle.driver_laws.specs.Kinds.{CanMove}
-use Rattle.driver_laws.specs.Sound.{IsSound, slot_at, slot_outside}
-use Rattle.driver_laws.specs.Used.{LoadsHaveFound, SlotsAreFilled, SlotsAreUsed, StartTells, WritesHaveDrawn}
+use Rattle.driver_laws.specs.inner.Kinds.{CanMove}
+use Rattle.driver_laws.specs.inner.Sound.{IsSound, slot_at, slot_outside}
+use Rattle.driver_laws.specs.inner.Used.{LoadsHaveFound, SlotsAreFilled, SlotsAreUsed, StartTells, WritesHaveDrawn}
 use Rattle.driver_laws.proofs.SlotLaws.{other_slot, outside_here, outside_loading, outside_refused, outside_taken, same_slot-refl}
 use Rattle.driver_laws.proofs.SoundLaws.{entry_of, load_start, named}
 use Rattle.driver_laws.proofs.AloneLaws.{alone}

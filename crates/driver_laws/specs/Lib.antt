@@ -1,13 +1,1 @@
-pub mod Sound
-pub mod Kinds
-pub mod Tracks
-pub mod Stages
-pub mod Three
-pub mod Agrees
-pub mod Driven
-pub mod Started
-pub mod Used
-pub mod Counted
-pub mod Loads
-pub mod Keeps
-pub mod Tracking
+pub mod inner

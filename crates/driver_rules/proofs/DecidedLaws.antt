@@ -20,20 +20,26 @@ use Rattle.sgx_rules.specs.declared.refusals.Refusal.TheVariants as why
 use Rattle.sgx_types.specs.Pages.{same_page}
 use Rattle.job_grammar.specs.Jobs.{JobView}
 use Rattle.turn_rules.specs.Script.{action_of, build_of, built, frame_at, replied, script_of}
-use Rattle.driver_rules.specs.Ages.{AgeRule, BesideOf, FormOf, InForm, InPass, IsBeside, IsEnd, IsInTries, IsKickOrTry, IsLastTry, IsLookAt}
+use Rattle.driver_rules.specs.Ages.{AgeRule, BesideOf, FormOf, InForm, InPass, IsBeside, IsEnd, IsInTries, IsKickOrTry}
+use Rattle.driver_rules.specs.Ages.{IsLastTry, IsLookAt}
 use Rattle.driver_rules.specs.Ages.{IsNextBlock, IsTrackOf, IsTry, KickRule, LookOf, PassOf, head_of}
-use Rattle.driver_rules.specs.Decided.{Tells, beside_of, form_of, is_action, is_actors, is_beside, is_end, is_fetch, is_in_form, is_look_of}
-use Rattle.driver_rules.specs.Decided.{is_try_of, is_in_pass, is_in_tries, is_kick_of, is_kick_or_try, is_last_try, is_leaving_in, is_next}
-use Rattle.driver_rules.specs.Decided.{is_next_block, is_some_page, is_stop, is_track_of, is_try, keeps_age, keeps_kick, keeps_script}
-use Rattle.driver_rules.specs.Decided.{looks_at, looks_of, pass_of, same_reason, are_done, is_done, is_outside, is_ended}
+use Rattle.driver_rules.specs.inner.Decided.{Tells, beside_of, form_of, is_action, is_actors, is_beside, is_end, is_fetch}
+use Rattle.driver_rules.specs.inner.Decided.{is_in_form, is_look_of}
+use Rattle.driver_rules.specs.inner.Decided.{is_try_of, is_in_pass, is_in_tries, is_kick_of, is_kick_or_try, is_last_try}
+use Rattle.driver_rules.specs.inner.Decided.{is_leaving_in, is_next}
+use Rattle.driver_rules.specs.inner.Decided.{is_next_block, is_some_page, is_stop, is_track_of, is_try, keeps_age, keeps_kick}
+use Rattle.driver_rules.specs.inner.Decided.{keeps_script}
+use Rattle.driver_rules.specs.inner.Decided.{looks_at, looks_of, pass_of, same_reason, are_done, is_done, is_outside, is_ended}
 use Rattle.driver_rules.specs.Holds.{is_held}
-use Rattle.driver_rules.specs.Passes.{Blocking, Between, First, Form, Kicks, Pass, Scan, Sealing, Second, Third, ToKick, ToTrack, Tries}
+use Rattle.driver_rules.specs.Passes.{Blocking, Between, First, Form, Kicks, Pass, Scan, Sealing, Second, Third, ToKick, ToTrack}
+use Rattle.driver_rules.specs.Passes.{Tries}
 use Rattle.driver_rules.specs.Passes.{keepers, pass}
 use Rattle.driver_rules.specs.Places.{Absent, Away, Here, Leaving, Loading, Place, active, is_young, place}
-use Rattle.driver_rules.specs.Same.{same_action}
+use Rattle.driver_rules.specs.inner.Same.{same_action}
 use Rattle.driver_rules.specs.Scripts.{IsActors, ScriptRule, is_load, IsDone, IsEnded, IsWhole}
 use Rattle.driver_rules.specs.Stops.{has_bus, is_spent}
-use Rattle.driver_rules.specs.Dues.{Due, Ends, Fetches, Finished, IsFetch, IsKickOf, IsLook, IsNext, IsTryOf, KicksAll, LooksAt, Makes}
+use Rattle.driver_rules.specs.Dues.{Due, Ends, Fetches, Finished, IsFetch, IsKickOf, IsLook, IsNext, IsTryOf, KicksAll, LooksAt}
+use Rattle.driver_rules.specs.Dues.{Makes}
 use Rattle.driver_rules.specs.Dues.{Reports, Stopped, TriesOut, Waits, is_look}
 use Rattle.driver_rules.specs.Turns.{builder_due, cpu_due}
 use Rattle.sgx_types.proofs.Pages.{same_page-refl}

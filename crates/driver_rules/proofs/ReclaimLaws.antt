@@ -19,14 +19,17 @@ use Rattle.job_grammar.specs.Jobs.{JobView}
 use Rattle.turn_rules.specs.Script.{action_of, frame_at}
 use Rattle.driver_rules.specs.declared.waits.Why.{Why}
 use Rattle.driver_rules.specs.declared.waits.Why.TheVariants as waits
-use Rattle.driver_rules.specs.Ages.{AgeRule, FormOf, InForm, InPass, IsInTries, IsKickOrTry, IsLastTry, IsLookAt, IsTry, KickRule, LookOf}
+use Rattle.driver_rules.specs.Ages.{AgeRule, FormOf, InForm, InPass, IsInTries, IsKickOrTry, IsLastTry, IsLookAt, IsTry}
+use Rattle.driver_rules.specs.Ages.{KickRule, LookOf}
 use Rattle.driver_rules.specs.Ages.{head_of}
 use Rattle.driver_rules.specs.Dues.{Due, Ends, IsKickOf, IsNext, KicksAll, Makes, TriesOut, Waits, is_look}
 use Rattle.driver_rules.specs.Holds.{is_held}
-use Rattle.driver_rules.specs.Passes.{Between, Blocking, First, Form, Kicks, Pass, Scan, Sealing, Second, Third, ToKick, ToTrack, Tries}
+use Rattle.driver_rules.specs.Passes.{Between, Blocking, First, Form, Kicks, Pass, Scan, Sealing, Second, Third, ToKick, ToTrack}
+use Rattle.driver_rules.specs.Passes.{Tries}
 use Rattle.driver_rules.specs.Passes.{keepers, pass}
 use Rattle.driver_rules.specs.Places.{Absent, Away, Here, Leaving, Loading, Place, active, frame_leaving, is_young, place}
-use Rattle.driver_rules.specs.Reclaims.{are_held, form_due, in_frame, is_refused, leaving_due, look_at, look_due, pass_due, third_due}
+use Rattle.driver_rules.specs.inner.Reclaims.{are_held, form_due, in_frame, is_refused, leaving_due, look_at, look_due, pass_due}
+use Rattle.driver_rules.specs.inner.Reclaims.{third_due}
 
 -- ---- an entry that keeps the rules is what is due
 

@@ -6,8 +6,10 @@ use Rattle.sgx_types.proofs.Pages.{same_pages, same_slots}
 use Rattle.sgx_rules.specs.declared.entries.AccessOp.{AccessOp}
 use Rattle.sgx_rules.specs.declared.entries.AccessOp.TheVariants as accesses
 use Rattle.sgx_rules.specs.declared.entries.Action.{Action}
-use Rattle.sgx_rules.specs.declared.entries.Action.TheVariants.{Epa, Create, Add, Extend, Init, Enter, Resume, Exit, Aex, Fill, Load, Store}
-use Rattle.sgx_rules.specs.declared.entries.Action.TheVariants.{Xadd, Set, Plus, Pf, OutLoad, OutStore, Block, Track, EwbStart, Ewb}
+use Rattle.sgx_rules.specs.declared.entries.Action.TheVariants.{Epa, Create, Add, Extend, Init, Enter, Resume, Exit, Aex, Fill}
+use Rattle.sgx_rules.specs.declared.entries.Action.TheVariants.{Load, Store}
+use Rattle.sgx_rules.specs.declared.entries.Action.TheVariants.{Xadd, Set, Plus, Pf, OutLoad, OutStore, Block, Track, EwbStart}
+use Rattle.sgx_rules.specs.declared.entries.Action.TheVariants.{Ewb}
 use Rattle.sgx_rules.specs.declared.entries.Action.TheVariants.{EldStart, Eld}
 use Rattle.sgx_rules.specs.declared.entries.Cause.{Cause}
 use Rattle.sgx_rules.specs.declared.entries.Cause.TheVariants as causes
@@ -20,8 +22,9 @@ use Rattle.sgx_types.specs.declared.names.Perm.{Perm}
 use Rattle.sgx_types.specs.declared.names.SlotAt.{SlotAt}
 use Rattle.sgx_types.specs.Pages.{same_page}
 use Rattle.sgx_types.specs.Pages.{same_slot}
-use Rattle.driver_rules.specs.Same.{same_access, same_action, same_bool, same_cause, same_digest, same_init, same_kind, same_numbers}
-use Rattle.driver_rules.specs.Same.{same_perm}
+use Rattle.driver_rules.specs.inner.Same.{same_access, same_action, same_bool, same_cause, same_digest, same_init, same_kind}
+use Rattle.driver_rules.specs.inner.Same.{same_numbers}
+use Rattle.driver_rules.specs.inner.Same.{same_perm}
 use Rattle.sgx_types.proofs.Pages.{same_page-refl}
 
 -- ---- what is equal is found the same

@@ -12,7 +12,8 @@ use Rattle.sgx_rules.specs.declared.refusals.Refusal.TheVariants as why
 use Rattle.job_grammar.specs.Jobs.{JobView}
 use Rattle.driver_rules.specs.Dues.{IsKickOf, is_look}
 use Rattle.driver_rules.specs.Holds.{is_held}
-use Rattle.driver_rules.specs.Passes.{Blocking, Between, First, Form, Kicks, Pass, Scan, Sealing, Second, Third, ToKick, ToTrack, Tries}
+use Rattle.driver_rules.specs.Passes.{Blocking, Between, First, Form, Kicks, Pass, Scan, Sealing, Second, Third, ToKick, ToTrack}
+use Rattle.driver_rules.specs.Passes.{Tries}
 use Rattle.driver_rules.specs.Passes.{keepers, pass}
 use Rattle.driver_rules.specs.Places.{Leaving, active, is_young, place}
 

@@ -6,7 +6,5 @@ pub mod Stops
 pub mod Dues
 pub mod Turns
 pub mod Ages
-pub mod Reclaims
 pub mod Scripts
-pub mod Same
-pub mod Decided
+pub mod inner

@@ -28,7 +28,8 @@ use Rattle.turn_rules.specs.declared.steps.BuildStep.{BuildStep}
 use Rattle.turn_rules.specs.Script.{build_of, built, enter_with, frame_at, is_turned_away, resume_with, step_due}
 use Rattle.driver_rules.specs.declared.waits.Why.TheVariants as waits
 use Rattle.driver_rules.specs.Dues.{Due, Ends, Fetches, Finished, Makes, Reports, Stopped, Waits, makes_or}
-use Rattle.driver_rules.specs.Needs.{Interruption, interruption, needs_after, needs_to_enter, needs_to_resume, next_op, save_to_enter}
+use Rattle.driver_rules.specs.Needs.{Interruption, interruption, needs_after, needs_to_enter, needs_to_resume, next_op}
+use Rattle.driver_rules.specs.Needs.{save_to_enter}
 use Rattle.driver_rules.specs.Needs.{save_to_resume}
 use Rattle.driver_rules.specs.Places.{Away, Place, frame_here, is_here, place}
 use Rattle.driver_rules.specs.Stops.{is_spent}

@@ -6,11 +6,11 @@ ghost use Rattle.sgx_rules.specs.declared.entries.Entry.{Entry};
 ghost use Rattle.sgx_rules.specs.declared.entries.Event.{Event};
 ghost use Rattle.job_grammar.specs.Jobs.{JobView};
 ghost use Rattle.driver_rules.specs.Ages.{AgeRule, KickRule};
-ghost use Rattle.driver_rules.specs.Decided.{Tells, is_ended, keeps_age, keeps_kick, keeps_script};
+ghost use Rattle.driver_rules.specs.inner.Decided.{Tells, is_ended, keeps_age, keeps_kick, keeps_script};
 ghost use Rattle.driver_rules.specs.declared.waits.Why.{Why};
 ghost use Rattle.driver_rules.specs.Dues.{IsNext, Waits};
 ghost use Rattle.driver_rules.specs.Passes.{pass};
-ghost use Rattle.driver_rules.specs.Reclaims.{is_refused, pass_due};
+ghost use Rattle.driver_rules.specs.inner.Reclaims.{is_refused, pass_due};
 ghost use Rattle.driver_rules.specs.Scripts.{IsEnded, ScriptRule};
 
 /// The tests of the rules Script, Age and Kick, and of the end, pass exactly where these hold.

@@ -3,7 +3,7 @@ use Rattle.std.proofs.Common.{List, ◌∷◌, sym, ◌∙◌}
 use Rattle.sgx_rules.specs.declared.entries.Entry.{Entry}
 use Rattle.sgx_types.specs.Making.{Making}
 use Rattle.job_grammar.specs.Jobs.{JobView}
-use Rattle.paging_machine.specs.Parts.{Parts}
+use Rattle.paging_machine.specs.inner.Parts.{Parts}
 use Rattle.driver_laws.proofs.BuiltLaws.{stays_built}
 use Rattle.driver_laws.proofs.CountLaws.{stays_counted}
 use Rattle.driver_laws.proofs.EndLaws.{their_rule}
@@ -14,8 +14,8 @@ use Rattle.driver_laws.proofs.SoundLaws.{stays_sound}
 use Rattle.driver_laws.proofs.StageLaws.{pages_kept}
 use Rattle.driver_laws.proofs.UsedLaws.{stays_used}
 use Rattle.driver_tables.specs.declared.driver.Driver.{Driver}
-use Rattle.driver_steps.specs.Agrees.{Agrees}
-use Rattle.driver_steps.specs.Asked.{IsNextOf}
+use Rattle.driver_steps.specs.inner.Agrees.{Agrees}
+use Rattle.driver_steps.specs.inner.Asked.{IsNextOf}
 
 pub agrees_more : (made : Making) (j : JobView) (past : List Entry) (d d' : Driver) (m m' : Parts) (e : Entry) → Agrees made j past d m
     → IsNextOf made j past d m e d' m' → Agrees made j (e ∷ past) d' m'

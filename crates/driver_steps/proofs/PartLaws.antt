@@ -6,11 +6,11 @@ use Rattle.sgx_types.specs.declared.names.Page.{Page}
 use Rattle.sgx_rules.specs.Flat.{FlatEnclave, enclave_sight_of}
 use Rattle.sgx_rules.specs.Frames.{is_free}
 use Rattle.sgx_rules.specs.Table as table
-use Rattle.epcm_entry.specs.Epc.{free_frame}
-use Rattle.epcm_entry.specs.Sights.{held}
-use Rattle.secs_state.specs.Secs.{SecsState}
-use Rattle.secs_state.specs.Table.{enclave_at}
-use Rattle.paging_machine.specs.Parts.{Parts, added_in, enclave_of, state_of}
+use Rattle.epcm_entry.specs.inner.Epc.{free_frame}
+use Rattle.epcm_entry.specs.inner.Sights.{held}
+use Rattle.secs_state.specs.inner.Secs.{SecsState}
+use Rattle.secs_state.specs.inner.Table.{enclave_at}
+use Rattle.paging_machine.specs.inner.Parts.{Parts, added_in, enclave_of, state_of}
 
 -- a frame that is not free is one of the EPC's
 pub held_within : (d : Parts) (n : ℕ) → is_free ((state_of d).content n) ≡ false → nat_le (length d.epc) n ≡ false

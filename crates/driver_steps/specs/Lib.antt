@@ -1,3 +1,1 @@
-pub mod Carried
-pub mod Agrees
-pub mod Asked
+pub mod inner

@@ -1,11 +1,11 @@
 //! That driver and machine go on to agree. A law is the contract of a function without arguments.
 
 ghost use Rattle.std.specs.Prelude.{List, ◌∷◌};
-ghost use Rattle.driver_steps.specs.Agrees.{Agrees};
-ghost use Rattle.driver_steps.specs.Asked.{IsNextOf};
+ghost use Rattle.driver_steps.specs.inner.Agrees.{Agrees};
+ghost use Rattle.driver_steps.specs.inner.Asked.{IsNextOf};
 ghost use Rattle.driver_tables.specs.declared.driver.Driver.{Driver};
 ghost use Rattle.job_grammar.specs.Jobs.{JobView};
-ghost use Rattle.paging_machine.specs.Parts.{Parts};
+ghost use Rattle.paging_machine.specs.inner.Parts.{Parts};
 ghost use Rattle.sgx_types.specs.Making.{Making};
 ghost use Rattle.sgx_rules.specs.declared.entries.Entry.{Entry};
 

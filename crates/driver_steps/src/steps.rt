@@ -1,10 +1,10 @@
 //! One instruction that takes no memory.
 
 ghost use Rattle.std.specs.Prelude.{◌≡◌, length};
-ghost use Rattle.paging_machine.specs.Parts.{state_of};
-ghost use Rattle.paging_laws.specs.Steps.{CanApply, IsStep, MayNeedMemory};
-ghost use Rattle.driver_rules.specs.Reclaims.{is_refused};
-ghost use Rattle.driver_steps.specs.Carried.{Carries};
+ghost use Rattle.paging_machine.specs.inner.Parts.{state_of};
+ghost use Rattle.paging_laws.specs.inner.Steps.{CanApply, IsStep, MayNeedMemory};
+ghost use Rattle.driver_rules.specs.inner.Reclaims.{is_refused};
+ghost use Rattle.driver_steps.specs.inner.Carried.{Carries};
 
 use paging_machine::machine::Machine;
 use sgx_rules::entries::{Action, Entry, Event};

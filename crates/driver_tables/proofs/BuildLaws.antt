@@ -18,10 +18,10 @@ use Rattle.job_grammar.specs.Jobs.{EnclaveView, JobView, va_pages}
 use Rattle.turn_rules.specs.declared.steps.BuildStep.{BuildStep}
 use Rattle.turn_rules.specs.declared.steps.BuildStep.TheVariants as builds
 use Rattle.turn_rules.specs.Script.{build_of, enclave_steps, enclaves_steps, line_steps, numbers_from, page_steps}
-use Rattle.active_list.specs.Places.{IsPlaced}
+use Rattle.active_list.specs.inner.Places.{IsPlaced}
 use Rattle.driver_rules.specs.Holds.{page_extended}
-use Rattle.driver_laws.specs.Keeps.{is_va_step}
-use Rattle.driver_tables.specs.Counts.{enclave_places, last_end, line_end, page_counts}
+use Rattle.driver_laws.specs.inner.Keeps.{is_va_step}
+use Rattle.driver_tables.specs.inner.Counts.{enclave_places, last_end, line_end, page_counts}
 
 -- a step makes no version array page, and adds or measures a page of this enclave below a number
 abbrev IsLow : ℕ → ℕ → BuildStep → Type 0

@@ -8,10 +8,11 @@ use Rattle.sgx_types.specs.Lawful.{is_lawful, is_lawful_size}
 use Rattle.job_grammar.specs.declared.jobs.EnclaveJob.{EnclaveJob}
 use Rattle.job_grammar.specs.declared.jobs.PageLine.{PageLine}
 use Rattle.job_grammar.specs.declared.jobs.PageLine.TheVariants.{Tcs, Reg}
-use Rattle.job_grammar.specs.Jobs.{EnclaveView, JobView, enclave_view}
-use Rattle.job_grammar.specs.Valid.{IsValid, IsValidEnclave, IsValidLine}
+use Rattle.job_grammar.specs.Jobs.{EnclaveView, JobView}
+use Rattle.job_grammar.specs.inner.Jobs.{enclave_view}
+use Rattle.job_grammar.specs.inner.Valid.{IsValid, IsValidEnclave, IsValidLine}
 use Rattle.job_grammar.proofs.ViewLaws.{All-unmap}
-use Rattle.driver_tables.specs.Counts.{IsLow, IsShort, enclave_places, line_end, page_counts}
+use Rattle.driver_tables.specs.inner.Counts.{IsLow, IsShort, enclave_places, line_end, page_counts}
 
 -- a line's pages are those of its enclave
 line_within : (pages : ℕ) (line : PageLine) → IsValidLine pages line → line_end line ≤ pages

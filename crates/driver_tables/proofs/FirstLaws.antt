@@ -5,16 +5,16 @@ use Rattle.std.proofs.lemmas.List.{get_or-replicate, get_or_past, length-replica
 use Rattle.std.proofs.lemmas.List.Sums.{sum_by-cons}
 use Rattle.std.proofs.lemmas.Bool.{false≢true, leb-true}
 use Rattle.job_grammar.specs.Jobs.{JobView, va_pages}
-use Rattle.job_grammar.specs.Valid.{IsValid}
-use Rattle.active_list.specs.Keeping.{kept_at, page_kept}
-use Rattle.active_list.specs.Places.{place_of}
-use Rattle.active_list.specs.States.{state_of}
+use Rattle.job_grammar.specs.inner.Valid.{IsValid}
+use Rattle.active_list.specs.inner.Keeping.{kept_at, page_kept}
+use Rattle.active_list.specs.inner.Places.{place_of}
+use Rattle.active_list.specs.inner.States.{state_of}
 use Rattle.active_list.specs.declared.page_states.PageState.TheVariants as states
-use Rattle.version_array.specs.Keeper.{new_keeper}
-use Rattle.driver_laws.specs.Agrees.{ShowsSlots}
+use Rattle.version_array.specs.inner.Keeper.{new_keeper}
+use Rattle.driver_laws.specs.inner.Agrees.{ShowsSlots}
 use Rattle.driver_tables.specs.declared.driver.Driver.{Driver}
-use Rattle.driver_tables.specs.Counts.{page_counts}
-use Rattle.driver_tables.specs.Tables.{IsNew, ShowsTables, listed, place_in}
+use Rattle.driver_tables.specs.inner.Counts.{page_counts}
+use Rattle.driver_tables.specs.inner.Tables.{IsNew, ShowsTables, listed, place_in}
 
 -- a place of a table that is the same everywhere
 pub all_same : {A : Type 0} (n : ℕ) (x : A) (i : ℕ) → get_or (replicate n x) i x ≡ x

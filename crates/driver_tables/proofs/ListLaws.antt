@@ -8,13 +8,13 @@ use Rattle.sgx_rules.specs.declared.entries.Entry.{Entry}
 use Rattle.sgx_types.specs.declared.names.Page.{Page}
 use Rattle.sgx_types.specs.Pages.{same_page}
 use Rattle.active_list.specs.declared.ring.Listed as ring
-use Rattle.active_list.specs.Listing as listing
-use Rattle.active_list.specs.Ring.{is_listed, pages_of}
+use Rattle.active_list.specs.inner.Listing as listing
+use Rattle.active_list.specs.inner.Ring.{is_listed, pages_of}
 use Rattle.driver_rules.specs.Ages.{head_of}
 use Rattle.driver_rules.specs.Places.{is_young}
-use Rattle.driver_laws.specs.Agrees.{Listed, marked}
-use Rattle.driver_laws.specs.Sound.{times}
-use Rattle.driver_tables.specs.Tables.{listed}
+use Rattle.driver_laws.specs.inner.Agrees.{Listed, marked}
+use Rattle.driver_laws.specs.inner.Sound.{times}
+use Rattle.driver_tables.specs.inner.Tables.{listed}
 
 -- the tables list these pages, with the marks that the entries give them
 abbrev pub AreListed : List Entry → List ring.Listed → List Page → Type 0

@@ -23,22 +23,23 @@ use Rattle.sgx_rules.specs.Starts.{open_start}
 use Rattle.job_grammar.specs.Jobs.{JobView}
 use Rattle.active_list.specs.declared.ring.Listed as ring
 use Rattle.active_list.specs.declared.page_states.PageState.TheVariants as states
-use Rattle.active_list.specs.Keeping.{Kept, keeping, kept_at, page_kept}
-use Rattle.active_list.specs.Places.{IsPlaced}
-use Rattle.active_list.specs.States.{with_state}
+use Rattle.active_list.specs.inner.Keeping.{Kept, keeping, kept_at, page_kept}
+use Rattle.active_list.specs.inner.Places.{IsPlaced}
+use Rattle.active_list.specs.inner.States.{with_state}
 use Rattle.driver_rules.specs.Places.{Loading, place}
 use Rattle.driver_rules.specs.Turns.{fails_with, last_by, last_of, load_of}
-use Rattle.driver_laws.specs.Agrees.{ShowsSlots, loaded_by}
-use Rattle.driver_laws.specs.Kinds.{CanMove}
-use Rattle.driver_laws.specs.Sound.{IsSound}
+use Rattle.driver_laws.specs.inner.Agrees.{ShowsSlots, loaded_by}
+use Rattle.driver_laws.specs.inner.Kinds.{CanMove}
+use Rattle.driver_laws.specs.inner.Sound.{IsSound}
 use Rattle.driver_laws.proofs.AgreeLaws.{shows_eld, shows_eldstart, shows_quiet, shows_refused}
 use Rattle.driver_laws.proofs.MarkLaws.{listed-eld, listed-quiet}
-use Rattle.driver_laws.proofs.MoveLaws.{loads-other, place-eld, place-eld-other, place-eld-refused, place-eld-refused-other, place-eldstart}
+use Rattle.driver_laws.proofs.MoveLaws.{loads-other, place-eld, place-eld-other, place-eld-refused, place-eld-refused-other}
+use Rattle.driver_laws.proofs.MoveLaws.{place-eldstart}
 use Rattle.driver_laws.proofs.MoveLaws.{place-eldstart-other, place-quiet}
 use Rattle.driver_laws.proofs.SoundLaws.{entry_of}
 use Rattle.driver_tables.specs.declared.driver.Driver.{Driver}
-use Rattle.driver_tables.specs.Moves.{IsLoaded, with_load}
-use Rattle.driver_tables.specs.Tables.{ShowsTables, listed}
+use Rattle.driver_tables.specs.inner.Moves.{IsLoaded, with_load}
+use Rattle.driver_tables.specs.inner.Tables.{ShowsTables, listed}
 use Rattle.driver_tables.proofs.ShowLaws.{shows_moved, shows_still}
 
 -- ---- copies

@@ -19,23 +19,23 @@ use Rattle.sgx_rules.specs.Starts.{open_start}
 use Rattle.job_grammar.specs.Jobs.{JobView, va_pages}
 use Rattle.active_list.specs.declared.ring.Listed as ring
 use Rattle.active_list.specs.declared.page_states.PageState.TheVariants as states
-use Rattle.active_list.specs.Active.{pushed, with_touch}
-use Rattle.active_list.specs.Keeping.{kept_at, page_kept}
-use Rattle.active_list.specs.Listing as listing
-use Rattle.active_list.specs.Places.{IsPlaced}
-use Rattle.active_list.specs.States.{with_state}
-use Rattle.version_array.specs.Keeper.{Adds}
+use Rattle.active_list.specs.inner.Active.{pushed, with_touch}
+use Rattle.active_list.specs.inner.Keeping.{kept_at, page_kept}
+use Rattle.active_list.specs.inner.Listing as listing
+use Rattle.active_list.specs.inner.Places.{IsPlaced}
+use Rattle.active_list.specs.inner.States.{with_state}
+use Rattle.version_array.specs.inner.Keeper.{Adds}
 use Rattle.driver_rules.specs.Places.{uses}
 use Rattle.driver_rules.specs.Turns.{last_by, last_of}
-use Rattle.driver_laws.specs.Agrees.{ShowsSlots, has_pages, listed_by, loaded_by, touched}
-use Rattle.driver_laws.specs.Kinds.{CanMove, is_quiet}
-use Rattle.driver_laws.specs.Sound.{IsSound}
+use Rattle.driver_laws.specs.inner.Agrees.{ShowsSlots, has_pages, listed_by, loaded_by, touched}
+use Rattle.driver_laws.specs.inner.Kinds.{CanMove, is_quiet}
+use Rattle.driver_laws.specs.inner.Sound.{IsSound}
 use Rattle.driver_laws.proofs.AgreeLaws.{is_slotless, shows_add, shows_create, shows_epa, shows_quiet}
 use Rattle.driver_laws.proofs.MarkLaws.{is_markless, is_use, listed-add, listed-quiet, listed-use, listed-uses}
 use Rattle.driver_laws.proofs.MoveLaws.{place-add, place-add-other, place-quiet}
 use Rattle.driver_laws.proofs.SoundLaws.{entry_of}
 use Rattle.driver_tables.specs.declared.driver.Driver.{Driver}
-use Rattle.driver_tables.specs.Tables.{ShowsTables, listed}
+use Rattle.driver_tables.specs.inner.Tables.{ShowsTables, listed}
 use Rattle.driver_tables.proofs.LoadShowLaws.{copies_none}
 use Rattle.driver_tables.proofs.ShowLaws.{shows_moved, shows_still}
 

@@ -22,26 +22,27 @@ use Rattle.job_grammar.specs.Jobs.{JobView}
 use Rattle.active_list.specs.declared.ring.Listed as ring
 use Rattle.active_list.specs.declared.page_states.PageState.{PageState}
 use Rattle.active_list.specs.declared.page_states.PageState.TheVariants as states
-use Rattle.active_list.specs.Keeping.{kept_at, page_kept}
-use Rattle.active_list.specs.Listing.{turn}
-use Rattle.active_list.specs.Places.{IsPlaced, place_of}
-use Rattle.active_list.specs.States.{state_of, with_state}
+use Rattle.active_list.specs.inner.Keeping.{kept_at, page_kept}
+use Rattle.active_list.specs.inner.Listing.{turn}
+use Rattle.active_list.specs.inner.Places.{IsPlaced, place_of}
+use Rattle.active_list.specs.inner.States.{state_of, with_state}
 use Rattle.active_list.proofs.StateLaws.{state_of-with_state}
-use Rattle.version_array.specs.Keeper.{Takes}
+use Rattle.version_array.specs.inner.Keeper.{Takes}
 use Rattle.driver_rules.specs.Ages.{head_of}
 use Rattle.driver_rules.specs.Places.{Away, Here, Leaving, Place, active, place}
 use Rattle.driver_rules.specs.Turns.{last_of}
-use Rattle.driver_laws.specs.Agrees.{ShowsSlots, listed_by, loaded_by, turned}
-use Rattle.driver_laws.specs.Kinds.{CanMove, is_quiet}
-use Rattle.driver_laws.specs.Sound.{IsSound, is_absent}
+use Rattle.driver_laws.specs.inner.Agrees.{ShowsSlots, listed_by, loaded_by, turned}
+use Rattle.driver_laws.specs.inner.Kinds.{CanMove, is_quiet}
+use Rattle.driver_laws.specs.inner.Sound.{IsSound, is_absent}
 use Rattle.driver_laws.proofs.AgreeLaws.{is_slotless, shows_age, shows_ewb, shows_ewbstart, shows_quiet}
 use Rattle.driver_laws.proofs.MarkLaws.{is_markless, listed-held, listed-noroom, listed-quiet, listed-taken, listed-young}
-use Rattle.driver_laws.proofs.MoveLaws.{place-ewb, place-ewb-other, place-held, place-noroom, place-quiet, place-taken, place-taken-other}
+use Rattle.driver_laws.proofs.MoveLaws.{place-ewb, place-ewb-other, place-held, place-noroom, place-quiet, place-taken}
+use Rattle.driver_laws.proofs.MoveLaws.{place-taken-other}
 use Rattle.driver_laws.proofs.MoveLaws.{place-young}
 use Rattle.driver_laws.proofs.SoundLaws.{entry_of, head_here}
 use Rattle.driver_tables.specs.declared.driver.Driver.{Driver}
-use Rattle.driver_tables.specs.Moves.{IsLooked, IsTaken, frame_in, leaving_of}
-use Rattle.driver_tables.specs.Tables.{ShowsTables, listed, place_in}
+use Rattle.driver_tables.specs.inner.Moves.{IsLooked, IsTaken, frame_in, leaving_of}
+use Rattle.driver_tables.specs.inner.Tables.{ShowsTables, listed, place_in}
 
 -- the frame of a page that is here
 pub here_frame : (state : PageState) (n : ℕ) → place_in state ≡ Here n → (frame_in state).0 ≡ n

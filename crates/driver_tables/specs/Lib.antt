@@ -1,4 +1,1 @@
-pub mod Counts
-pub mod Moves
-pub mod Tables
-pub mod Held
+pub mod inner

@@ -2,8 +2,8 @@
 
 ghost use Rattle.std.specs.Prelude.{◌≡◌, ◌≤◌, ◌^◌, map, IfOk};
 ghost use Rattle.std.specs.List.{All};
-ghost use Rattle.job_grammar.specs.Jobs.{enclave_view};
-ghost use Rattle.driver_tables.specs.Counts.{IsShort, last_end, enclave_places, IsLow};
+ghost use Rattle.job_grammar.specs.inner.Jobs.{enclave_view};
+ghost use Rattle.driver_tables.specs.inner.Counts.{IsShort, last_end, enclave_places, IsLow};
 
 use job_grammar::jobs::{EnclaveJob, PageLine};
 use sgx_types::names::Memory;

@@ -1,8 +1,8 @@
 //! The driver's tables.
 
 ghost use Rattle.std.specs.Prelude.{◌≡◌, IfOk};
-ghost use Rattle.active_list.specs.Active.{are_held};
-ghost use Rattle.driver_tables.specs.Tables.{IsNew};
+ghost use Rattle.active_list.specs.inner.Active.{are_held};
+ghost use Rattle.driver_tables.specs.inner.Tables.{IsNew};
 
 use crate::counts::page_counts;
 use active_list::active::Active;

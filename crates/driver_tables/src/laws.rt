@@ -1,15 +1,15 @@
 //! That tables and entries begin together. A law is the contract of a function without arguments.
 
 ghost use Rattle.std.specs.Prelude.{◌≡◌, ◌≤◌, [], List, length};
-ghost use Rattle.active_list.specs.Holds.{is_held as is_held_by};
+ghost use Rattle.active_list.specs.inner.Holds.{is_held as is_held_by};
 ghost use Rattle.driver_rules.specs.Holds.{is_held};
-ghost use Rattle.driver_tables.specs.Held.{ShowsHolds};
+ghost use Rattle.driver_tables.specs.inner.Held.{ShowsHolds};
 ghost use Rattle.sgx_rules.specs.declared.entries.Entry.{Entry};
 ghost use Rattle.sgx_types.specs.declared.names.Page.{Page};
-ghost use Rattle.driver_tables.specs.Tables.{IsNew, ShowsTables};
+ghost use Rattle.driver_tables.specs.inner.Tables.{IsNew, ShowsTables};
 ghost use Rattle.driver_tables.specs.declared.driver.Driver.{Driver};
 ghost use Rattle.job_grammar.specs.Jobs.{JobView};
-ghost use Rattle.job_grammar.specs.Valid.{IsValid};
+ghost use Rattle.job_grammar.specs.inner.Valid.{IsValid};
 
 /// The tables of a valid job show that nothing was done before its first entry.
 pub fn tables_begin()

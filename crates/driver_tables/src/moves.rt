@@ -1,15 +1,15 @@
 //! What each kind of entry changes in the driver's tables.
 
 ghost use Rattle.std.specs.Prelude.{◌≡◌, true, false, Some};
-ghost use Rattle.active_list.specs.Active.{pushed};
-ghost use Rattle.active_list.specs.Listing.{head_of};
-ghost use Rattle.active_list.specs.Places.{IsPlaced};
-ghost use Rattle.active_list.specs.Ring.{is_listed};
-ghost use Rattle.active_list.specs.States.{state_of, with_state};
+ghost use Rattle.active_list.specs.inner.Active.{pushed};
+ghost use Rattle.active_list.specs.inner.Listing.{head_of};
+ghost use Rattle.active_list.specs.inner.Places.{IsPlaced};
+ghost use Rattle.active_list.specs.inner.Ring.{is_listed};
+ghost use Rattle.active_list.specs.inner.States.{state_of, with_state};
 ghost use Rattle.active_list.specs.declared.page_states.PageState.TheVariants as states;
 ghost use Rattle.sgx_rules.specs.declared.entries.Look.TheVariants as looks;
-ghost use Rattle.version_array.specs.Keeper.{is_out};
-ghost use Rattle.driver_tables.specs.Moves.{IsLooked, IsLoaded, frame_in, leaving_of, slot_away};
+ghost use Rattle.version_array.specs.inner.Keeper.{is_out};
+ghost use Rattle.driver_tables.specs.inner.Moves.{IsLooked, IsLoaded, frame_in, leaving_of, slot_away};
 
 use crate::driver::Driver;
 use active_list::page_states::PageState;

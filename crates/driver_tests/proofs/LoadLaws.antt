@@ -5,15 +5,15 @@ use Rattle.sgx_types.specs.declared.names.Frame.{Frame}
 use Rattle.sgx_types.specs.declared.names.Page.{Page}
 use Rattle.sgx_types.specs.declared.names.SlotAt.{SlotAt}
 use Rattle.sgx_rules.specs.Table.{is_loading}
-use Rattle.active_list.specs.Keeping.{Kept, keeping, kept_at, page_kept}
-use Rattle.active_list.specs.Places.{IsPlaced}
-use Rattle.active_list.specs.Ring.{is_listed}
-use Rattle.active_list.specs.States.{state_of as page_state}
+use Rattle.active_list.specs.inner.Keeping.{Kept, keeping, kept_at, page_kept}
+use Rattle.active_list.specs.inner.Places.{IsPlaced}
+use Rattle.active_list.specs.inner.Ring.{is_listed}
+use Rattle.active_list.specs.inner.States.{state_of as page_state}
 use Rattle.active_list.specs.declared.page_states.PageState.TheVariants as states
 use Rattle.driver_tables.specs.declared.driver.Driver.{Driver}
-use Rattle.paging_machine.specs.Parts.{Parts, state_of}
-use Rattle.version_array.specs.Keeper.{is_out}
-use Rattle.driver_tests.specs.Stays.{IsLoading}
+use Rattle.paging_machine.specs.inner.Parts.{Parts, state_of}
+use Rattle.version_array.specs.inner.Keeper.{is_out}
+use Rattle.driver_tests.specs.inner.Stays.{IsLoading}
 
 pub loading_by : (cpu : Cpu) (page : Page) (frame : Frame) (slot : SlotAt) (d : Driver) (m : Parts) (counts : List ℕ)
     → d.states.counts ≡ counts → d.active.counts ≡ counts → cpu.0 < length d.kept → page_kept (kept_at d.kept cpu.0) ≡ Some page

@@ -11,29 +11,29 @@ use Rattle.sgx_types.specs.declared.names.Memory.{Memory}
 use Rattle.sgx_types.specs.declared.names.Page.{Page}
 use Rattle.sgx_types.specs.declared.names.SlotAt.{SlotAt}
 use Rattle.sgx_types.specs.Sealed.{Sealed}
-use Rattle.active_list.specs.Active.{ActiveList, pushed}
-use Rattle.active_list.specs.Keeping.{Kept, keeping}
-use Rattle.active_list.specs.States.{StateTable, with_state}
+use Rattle.active_list.specs.inner.Active.{ActiveList, pushed}
+use Rattle.active_list.specs.inner.Keeping.{Kept, keeping}
+use Rattle.active_list.specs.inner.States.{StateTable, with_state}
 use Rattle.active_list.specs.declared.page_states.PageState.{PageState}
 use Rattle.active_list.specs.declared.page_states.PageState.TheVariants as states
 use Rattle.backing_store.specs.Calls.{Call}
 use Rattle.backing_store.specs.declared.backing.StoreFault.{StoreFault}
 use Rattle.backing_store.specs.declared.backing.StoreFault.TheVariants as faults
-use Rattle.driver_rules.specs.Reclaims.{is_refused}
+use Rattle.driver_rules.specs.inner.Reclaims.{is_refused}
 use Rattle.driver_tables.specs.declared.driver.Driver.{Driver}
-use Rattle.driver_tables.specs.Moves.{with_load}
-use Rattle.fault_handler.specs.Finishing.{IsFinished}
-use Rattle.fault_handler.specs.Resolving.{IsFetch, IsGot, IsResolved}
+use Rattle.driver_tables.specs.inner.Moves.{with_load}
+use Rattle.fault_handler.specs.inner.Finishing.{IsFinished}
+use Rattle.fault_handler.specs.inner.Resolving.{IsFetch, IsGot, IsResolved}
 use Rattle.fault_handler.specs.declared.answers.FaultAnswer.{FaultAnswer}
 use Rattle.fault_handler.specs.declared.answers.Loaded.{Loaded}
-use Rattle.paging_laws.specs.State.{State}
-use Rattle.paging_machine.specs.Parts.{Parts}
-use Rattle.version_array.specs.Keeper.{Keeper, is_out}
+use Rattle.paging_laws.specs.inner.State.{State}
+use Rattle.paging_machine.specs.inner.Parts.{Parts}
+use Rattle.version_array.specs.inner.Keeper.{Keeper, is_out}
 use Rattle.reclaim_worker.specs.declared.turns.Phase.{Phase}
 use Rattle.reclaim_worker.specs.declared.turns.Phase.TheVariants as phases
 use Rattle.reclaim_worker.specs.declared.turns.Taken.{Taken}
-use Rattle.reclaim_worker.specs.Stored.{IsStored, StoredSays, gone}
-use Rattle.driver_tests.specs.Stays.{KeepsOthers, Stays}
+use Rattle.reclaim_worker.specs.inner.Stored.{IsStored, StoredSays, gone}
+use Rattle.driver_tests.specs.inner.Stays.{KeepsOthers, Stays}
 
 -- tables of which list, states, slots and kept records alone changed
 pub stays_by : (old new : Driver) (a : ActiveList) (s : StateTable) (k : Keeper) (kept : List (Option Kept))

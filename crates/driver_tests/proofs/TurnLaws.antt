@@ -18,16 +18,16 @@ use Rattle.sgx_types.specs.declared.names.SlotAt.{SlotAt}
 use Rattle.sgx_rules.specs.declared.refusals.Refusal.{Refusal}
 use Rattle.sgx_rules.specs.declared.refusals.Refusal.TheVariants as why
 use Rattle.sgx_types.specs.Pages.{same_slot}
-use Rattle.active_list.specs.Active.{turned}
-use Rattle.active_list.specs.States.{state_of as page_state, with_state}
-use Rattle.driver_rules.specs.Reclaims.{is_refused}
+use Rattle.active_list.specs.inner.Active.{turned}
+use Rattle.active_list.specs.inner.States.{state_of as page_state, with_state}
+use Rattle.driver_rules.specs.inner.Reclaims.{is_refused}
 use Rattle.driver_tables.specs.declared.driver.Driver.{Driver}
-use Rattle.driver_tables.specs.Moves.{IsLooked, leaving_of}
-use Rattle.paging_laws.specs.State.{State, row_of}
-use Rattle.paging_laws.specs.Steps.{IsDone, did_by, refused_by}
-use Rattle.paging_machine.specs.Parts.{Parts, state_of}
+use Rattle.driver_tables.specs.inner.Moves.{IsLooked, leaving_of}
+use Rattle.paging_laws.specs.inner.State.{State, row_of}
+use Rattle.paging_laws.specs.inner.Steps.{IsDone, did_by, refused_by}
+use Rattle.paging_machine.specs.inner.Parts.{Parts, state_of}
 use Rattle.sgx_rules.specs.Table.{first_of_row}
-use Rattle.version_array.specs.Keeper.{Keeper, is_out}
+use Rattle.version_array.specs.inner.Keeper.{Keeper, is_out}
 use Rattle.reclaim_worker.specs.declared.turns.Form.{Form}
 use Rattle.reclaim_worker.specs.declared.turns.Form.TheVariants as forms
 use Rattle.reclaim_worker.specs.declared.turns.Phase.{Phase}
@@ -35,13 +35,13 @@ use Rattle.reclaim_worker.specs.declared.turns.Phase.TheVariants as phases
 use Rattle.reclaim_worker.specs.declared.turns.PassTurn.{PassTurn}
 use Rattle.reclaim_worker.specs.declared.turns.PassTurn.TheVariants as turns
 use Rattle.reclaim_worker.specs.declared.turns.Taken.{Taken}
-use Rattle.reclaim_worker.specs.Moves.{IsBlockTurn, IsTryTurn, turn_of, turn_of_track}
-use Rattle.reclaim_worker.specs.Rests.{DriverSays, IsWait}
-use Rattle.reclaim_worker.specs.Scans.{IsBegun, IsScanned}
-use Rattle.reclaim_worker.specs.Tried.{SlotsAfter}
-use Rattle.reclaim_worker.specs.Turning.{IsFormTurn, IsThirdTurn, TurnSays, WithPage}
+use Rattle.reclaim_worker.specs.inner.Moves.{IsBlockTurn, IsTryTurn, turn_of, turn_of_track}
+use Rattle.reclaim_worker.specs.inner.Rests.{DriverSays, IsWait}
+use Rattle.reclaim_worker.specs.inner.Scans.{IsBegun, IsScanned}
+use Rattle.reclaim_worker.specs.inner.Tried.{SlotsAfter}
+use Rattle.reclaim_worker.specs.inner.Turning.{IsFormTurn, IsThirdTurn, TurnSays, WithPage}
 use Rattle.driver_rules.specs.declared.waits.Why.TheVariants as waits
-use Rattle.driver_tests.specs.Stays.{KeepsOut, TurnStays, slot_sealed}
+use Rattle.driver_tests.specs.inner.Stays.{KeepsOut, TurnStays, slot_sealed}
 use Rattle.driver_tests.proofs.StayLaws.{Rests, rests_same, stays_by}
 
 -- ---- turns that start no write-out

@@ -2,14 +2,14 @@
 
 ghost use Rattle.std.specs.Prelude.{◌≡◌, ◌≤◌, ◌<◌, ◌==◌, true, List, ℕ, length, reverse, IfOk, IfSome};
 ghost use Rattle.std.specs.List.{list_any};
-ghost use Rattle.active_list.specs.Holds.{holder_of};
-ghost use Rattle.backing_store.specs.Store.{spare_of};
-ghost use Rattle.driver_tests.specs.Stays.{CanHold, IsLoading, IsPlacedIn, IsWithout, slot_sealed};
-ghost use Rattle.paging_machine.specs.Parts.{state_of};
-ghost use Rattle.reclaim_worker.specs.Standing.{is_sealing};
-ghost use Rattle.reclaim_worker.specs.Stored.{IsOpen, IsStarted};
+ghost use Rattle.active_list.specs.inner.Holds.{holder_of};
+ghost use Rattle.backing_store.specs.inner.Store.{spare_of};
+ghost use Rattle.driver_tests.specs.inner.Stays.{CanHold, IsLoading, IsPlacedIn, IsWithout, slot_sealed};
+ghost use Rattle.paging_machine.specs.inner.Parts.{state_of};
+ghost use Rattle.reclaim_worker.specs.inner.Standing.{is_sealing};
+ghost use Rattle.reclaim_worker.specs.inner.Stored.{IsOpen, IsStarted};
 ghost use Rattle.sgx_types.specs.declared.names.Frame.{Frame as FrameIn};
-ghost use Rattle.version_array.specs.Keeper.{is_among, is_out};
+ghost use Rattle.version_array.specs.inner.Keeper.{is_among, is_out};
 ghost use Rattle.sgx_types.specs.declared.names.SlotAt.{SlotAt as SlotIn};
 
 use active_list::page_states::PageState;

@@ -1,8 +1,8 @@
 //! Which pages a job has, as the driver's tables count them.
 
 ghost use Rattle.std.specs.Prelude.{◌≡◌, ◌∷◌, map, IfOk};
-ghost use Rattle.job_grammar.specs.Jobs.{enclave_view};
-ghost use Rattle.driver_tables.specs.Counts.{enclave_places, last_end, page_counts};
+ghost use Rattle.job_grammar.specs.inner.Jobs.{enclave_view};
+ghost use Rattle.driver_tables.specs.inner.Counts.{enclave_places, last_end, page_counts};
 
 use job_grammar::jobs::{EnclaveJob, Job, PageLine};
 use sgx_types::names::Memory;

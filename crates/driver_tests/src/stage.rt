@@ -1,8 +1,8 @@
 //! A machine with the driver, on which a trace is played.
 
 ghost use Rattle.std.specs.Prelude.{◌≡◌, IsTrue};
-ghost use Rattle.paging_laws.specs.Notes.{IsNote};
-ghost use Rattle.paging_laws.specs.Steps.{CanApply};
+ghost use Rattle.paging_laws.specs.inner.Notes.{IsNote};
+ghost use Rattle.paging_laws.specs.inner.Steps.{CanApply};
 
 use crate::calls::print_calls;
 use crate::checks::is_sealing;

@@ -34,7 +34,7 @@ pub struct Tables {
 
 impl Model for Tables {
     ghost use Rattle.std.specs.Prelude.{ℕ};
-    ghost use Rattle.driver_tests.specs.Kept.{IsKept};
+    ghost use Rattle.driver_tests.specs.inner.Kept.{IsKept};
 
     ghost Value = { ℕ };
 

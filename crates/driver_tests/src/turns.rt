@@ -1,13 +1,13 @@
 //! The driver's calls, with what they leave of its tables.
 
 ghost use Rattle.std.specs.Prelude.{◌≡◌, ◌≤◌, ◌<◌, false, length, IfOk, OnErr};
-ghost use Rattle.active_list.specs.Places.{IsPlaced};
-ghost use Rattle.backing_store.specs.Store.{spare_of};
-ghost use Rattle.active_list.specs.Holds.{holder_of};
-ghost use Rattle.driver_tests.specs.Stays.{CanHold, IsLoading, KeepsOthers, Stays, TurnStays};
-ghost use Rattle.paging_machine.specs.Parts.{state_of};
-ghost use Rattle.reclaim_worker.specs.Standing.{is_sealing};
-ghost use Rattle.reclaim_worker.specs.Stored.{IsStarted};
+ghost use Rattle.active_list.specs.inner.Places.{IsPlaced};
+ghost use Rattle.backing_store.specs.inner.Store.{spare_of};
+ghost use Rattle.active_list.specs.inner.Holds.{holder_of};
+ghost use Rattle.driver_tests.specs.inner.Stays.{CanHold, IsLoading, KeepsOthers, Stays, TurnStays};
+ghost use Rattle.paging_machine.specs.inner.Parts.{state_of};
+ghost use Rattle.reclaim_worker.specs.inner.Standing.{is_sealing};
+ghost use Rattle.reclaim_worker.specs.inner.Stored.{IsStarted};
 
 use crate::checks::is_placed;
 use active_list::active::Active;

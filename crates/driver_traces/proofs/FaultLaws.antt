@@ -10,16 +10,18 @@ use Rattle.sgx_types.proofs.Truths.{both_true}
 use Rattle.measure_log.specs.Rule.{measurement}
 use Rattle.job_grammar.specs.Jobs.{JobView}
 use Rattle.turn_rules.specs.Machines.{machine_of}
-use Rattle.driver_rules.specs.Decided.{all_along, is_ended, keeps_age, keeps_kick, keeps_script}
+use Rattle.driver_rules.specs.inner.Decided.{all_along, is_ended, keeps_age, keeps_kick, keeps_script}
 use Rattle.driver_rules.proofs.DecidedLaws.{age_tells, ended_tells, kick_tells, script_tells}
 use Rattle.run_history.specs.declared.rules.Rule.{Rule}
 use Rattle.run_history.specs.declared.rules.Rule.TheVariants as rules
-use Rattle.run_history.specs.Histories.{Before, FailsFirst, FailsHere, History, Keeps, Says, is_machines, rank}
-use Rattle.driver_traces.specs.Faults.{breaks_at_last, breaks_first, is_history, keeps_eleven, keeps_all_six, keeps_machines}
-use Rattle.driver_traces.specs.Faults.{keeps_six_there}
-use Rattle.driver_traces.specs.Lawful.{case_at, is_lawful, is_misdone, is_of_six, keeps_six}
-use Rattle.driver_traces.specs.Settled.{is_settled}
-use Rattle.driver_traces.specs.Words.{measured_init}
+use Rattle.run_history.specs.Histories.{Before, FailsFirst, FailsHere, History, Keeps, Says, rank}
+use Rattle.run_history.specs.inner.Histories.{is_machines}
+use Rattle.driver_traces.specs.inner.Faults.{breaks_at_last, breaks_first, is_history, keeps_eleven, keeps_all_six}
+use Rattle.driver_traces.specs.inner.Faults.{keeps_machines}
+use Rattle.driver_traces.specs.inner.Faults.{keeps_six_there}
+use Rattle.driver_traces.specs.inner.Lawful.{case_at, is_lawful, is_misdone, is_of_six, keeps_six}
+use Rattle.driver_traces.specs.inner.Settled.{is_settled}
+use Rattle.driver_traces.specs.inner.Words.{measured_init}
 use Rattle.driver_traces.proofs.LawfulLaws.{lawful_says, misdone_breaks, none_of, six_say}
 use Rattle.driver_traces.proofs.SettledLaws.{settled}
 

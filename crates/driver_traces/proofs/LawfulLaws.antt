@@ -4,8 +4,10 @@ use Rattle.std.proofs.Common.{◌≡◌, ℕ, ◌<◌, ◌==◌, ◌&&◌, ◌||
 use Rattle.std.proofs.Common.{Option, Some, None, is_none, is_some, arith}
 use Rattle.std.proofs.lemmas.Bool.{eqb-true, false≢true}
 use Rattle.sgx_rules.specs.declared.entries.Action.{Action}
-use Rattle.sgx_rules.specs.declared.entries.Action.TheVariants.{Epa, Create, Add, Extend, Init, Enter, Resume, Exit, Aex, Fill, Load, Store}
-use Rattle.sgx_rules.specs.declared.entries.Action.TheVariants.{Xadd, Set, Plus, Pf, OutLoad, OutStore, Block, Track, EwbStart, Ewb}
+use Rattle.sgx_rules.specs.declared.entries.Action.TheVariants.{Epa, Create, Add, Extend, Init, Enter, Resume, Exit, Aex, Fill}
+use Rattle.sgx_rules.specs.declared.entries.Action.TheVariants.{Load, Store}
+use Rattle.sgx_rules.specs.declared.entries.Action.TheVariants.{Xadd, Set, Plus, Pf, OutLoad, OutStore, Block, Track, EwbStart}
+use Rattle.sgx_rules.specs.declared.entries.Action.TheVariants.{Ewb}
 use Rattle.sgx_rules.specs.declared.entries.Action.TheVariants.{EldStart, Eld}
 use Rattle.sgx_types.specs.declared.names.Actor.{Actor}
 use Rattle.sgx_types.specs.declared.names.Actor.TheVariants as actors
@@ -25,7 +27,8 @@ use Rattle.sgx_types.specs.Pages.{same_page}
 use Rattle.sgx_rules.specs.Frames.{Content, Free, Holds, IsLoading, IsVa, SecsOf, content}
 use Rattle.sgx_rules.specs.Fresh.{FreshRule, Out, ReloadRule, last_out}
 use Rattle.sgx_types.specs.Making.{Making}
-use Rattle.sgx_rules.specs.Rules.{EndsWriteOut, EvictRule, FitsRule, FlatRule, GoesOut, HasForm, NamesFrames, RefusalRule, RisingRule}
+use Rattle.sgx_rules.specs.Rules.{EndsWriteOut, EvictRule, FitsRule, FlatRule, GoesOut, HasForm, NamesFrames, RefusalRule}
+use Rattle.sgx_rules.specs.Rules.{RisingRule}
 use Rattle.sgx_rules.specs.Rules.{StaleRule, TakesFree, case_of, seen_answer}
 use Rattle.sgx_rules.specs.Slots.{version_in}
 use Rattle.sgx_rules.specs.Starts.{Start, loads_page, open_start}
@@ -34,15 +37,19 @@ use Rattle.sgx_types.proofs.Truths.{both_true}
 use Rattle.sgx_rules.proofs.Contents.{free_is}
 use Rattle.job_grammar.specs.Jobs.{JobView}
 use Rattle.turn_rules.specs.Machines.{machine_of}
-use Rattle.driver_rules.specs.Same.{same_numbers}
+use Rattle.driver_rules.specs.inner.Same.{same_numbers}
 use Rattle.driver_rules.proofs.SameLaws.{action-refl, action-true}
 use Rattle.run_history.specs.declared.rules.Rule.{Rule}
 use Rattle.run_history.specs.declared.rules.Rule.TheVariants as rules
-use Rattle.run_history.specs.Histories.{Says, is_machines}
-use Rattle.driver_traces.specs.Lawful.{case_at, goes_out, is_case, is_ended_in, is_ended_out, is_formed, is_in_slot, is_lawful, is_misdone}
-use Rattle.driver_traces.specs.Lawful.{is_out, is_reload, is_rising, is_unfit, is_write_out, keeps_evict, keeps_fits, keeps_flat}
-use Rattle.driver_traces.specs.Lawful.{keeps_fresh, keeps_refusal, keeps_six, keeps_stale, names_frames, same_answer, same_fault}
-use Rattle.driver_traces.specs.Lawful.{takes_free, tells_digest, is_of_six}
+use Rattle.run_history.specs.Histories.{Says}
+use Rattle.run_history.specs.inner.Histories.{is_machines}
+use Rattle.driver_traces.specs.inner.Lawful.{case_at, goes_out, is_case, is_ended_in, is_ended_out, is_formed, is_in_slot}
+use Rattle.driver_traces.specs.inner.Lawful.{is_lawful, is_misdone}
+use Rattle.driver_traces.specs.inner.Lawful.{is_out, is_reload, is_rising, is_unfit, is_write_out, keeps_evict, keeps_fits}
+use Rattle.driver_traces.specs.inner.Lawful.{keeps_flat}
+use Rattle.driver_traces.specs.inner.Lawful.{keeps_fresh, keeps_refusal, keeps_six, keeps_stale, names_frames, same_answer}
+use Rattle.driver_traces.specs.inner.Lawful.{same_fault}
+use Rattle.driver_traces.specs.inner.Lawful.{takes_free, tells_digest, is_of_six}
 
 pub none_of : {T : Type 0} (o : Option T) → is_none o ≡ true → o ≡ None
 none_of None h = refl

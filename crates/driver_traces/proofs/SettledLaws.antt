@@ -16,18 +16,21 @@ use Rattle.sgx_types.specs.declared.names.Perm.{Perm}
 use Rattle.sgx_types.specs.Pages.{page_at}
 use Rattle.sgx_rules.specs.Frames.{Content, Free, Holds, Put, content, held_after, is_page, is_sealing, made_before, put_by}
 use Rattle.sgx_types.specs.Pages.{same_page}
-use Rattle.sgx_rules.specs.Processors.{BareTranslation, Move, Enters, Leaves, Keeps, Stay, is_by, move_by, stay, stay_after, translations}
+use Rattle.sgx_rules.specs.Processors.{BareTranslation, Move, Enters, Leaves, Keeps, Stay, is_by, move_by, stay, stay_after}
+use Rattle.sgx_rules.specs.Processors.{translations}
 use Rattle.sgx_rules.specs.Rules.{IsCurrent, IsStill, IsUndisturbed, NoPageTwice, NoneStale}
 use Rattle.sgx_types.proofs.Pages.{same_pages}
 use Rattle.sgx_types.proofs.Truths.{apart, both_true}
 use Rattle.sgx_rules.proofs.Contents.{held_page}
 use Rattle.job_grammar.specs.Jobs.{JobView}
 use Rattle.turn_rules.specs.Script.{frame_at}
-use Rattle.driver_rules.specs.Decided.{all_along}
-use Rattle.driver_rules.specs.Same.{same_kind, same_perm}
+use Rattle.driver_rules.specs.inner.Decided.{all_along}
+use Rattle.driver_rules.specs.inner.Same.{same_kind, same_perm}
 use Rattle.driver_rules.proofs.SameLaws.{action-true}
-use Rattle.driver_traces.specs.Settled.{acts_below, all_below, are_apart, are_current, holds_same, is_actor_below, is_held_still}
-use Rattle.driver_traces.specs.Settled.{is_none_stale, is_page_once, is_put_below, is_settled, is_still, is_undisturbed, puts_below}
+use Rattle.driver_traces.specs.inner.Settled.{acts_below, all_below, are_apart, are_current, holds_same, is_actor_below}
+use Rattle.driver_traces.specs.inner.Settled.{is_held_still}
+use Rattle.driver_traces.specs.inner.Settled.{is_none_stale, is_page_once, is_put_below, is_settled, is_still, is_undisturbed}
+use Rattle.driver_traces.specs.inner.Settled.{puts_below}
 use Rattle.driver_traces.proofs.LawfulLaws.{is_below}
 
 last_or : (test : ℕ → Bool) (n k : ℕ) → test n ≡ true → (k < n → test k ≡ true) → k < suc n → (k < n) ⊎ (n ≤ k) → test k ≡ true

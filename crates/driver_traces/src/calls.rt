@@ -4,11 +4,11 @@ ghost use Rattle.std.specs.Prelude.{◌∷◌, drop, true};
 ghost use Rattle.sgx_types.specs.Pages.{page_at};
 ghost use Rattle.backing_store.specs.Calls.{Room};
 ghost use Rattle.run_history.specs.Calls.{CallsAre};
-ghost use Rattle.driver_traces.specs.BusTrace.{bus_trace};
-ghost use Rattle.driver_traces.specs.LostTrace.{lost_trace};
-ghost use Rattle.driver_traces.specs.ReloadTrace.{reload_trace};
-ghost use Rattle.driver_traces.specs.RoomTrace.{room_trace};
-ghost use Rattle.driver_traces.specs.StoreCalls.{bus_calls, lost_calls, reload_calls, room_calls};
+ghost use Rattle.driver_traces.specs.inner.BusTrace.{bus_trace};
+ghost use Rattle.driver_traces.specs.inner.LostTrace.{lost_trace};
+ghost use Rattle.driver_traces.specs.inner.ReloadTrace.{reload_trace};
+ghost use Rattle.driver_traces.specs.inner.RoomTrace.{room_trace};
+ghost use Rattle.driver_traces.specs.inner.StoreCalls.{bus_calls, lost_calls, reload_calls, room_calls};
 
 pub fn the_bus_trace_tells_of_its_calls()
     ensures { CallsAre bus_trace bus_calls }

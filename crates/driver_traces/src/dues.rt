@@ -9,15 +9,15 @@ ghost use Rattle.turn_rules.specs.Script.{frame_at};
 ghost use Rattle.driver_rules.specs.declared.waits.Why.TheVariants as waits;
 ghost use Rattle.driver_rules.specs.Dues.{Ends, Fetches, Finished, KicksAll, LooksAt, Makes, Reports, Stopped, TriesOut, Waits};
 ghost use Rattle.driver_rules.specs.Holds.{is_held};
-ghost use Rattle.driver_rules.specs.Reclaims.{reclaimer_due};
+ghost use Rattle.driver_rules.specs.inner.Reclaims.{reclaimer_due};
 ghost use Rattle.driver_rules.specs.Turns.{builder_due, cpu_due};
-ghost use Rattle.driver_traces.specs.BusTrace.{bus_job, bus_trace};
-ghost use Rattle.driver_traces.specs.CrowdTrace.{crowd_job, crowd_trace};
-ghost use Rattle.driver_traces.specs.KickTrace.{kick_job, kick_trace};
-ghost use Rattle.driver_traces.specs.MeasuredTrace.{measured_job, measured_trace};
-ghost use Rattle.driver_traces.specs.SpentTrace.{spent_job, spent_trace};
-ghost use Rattle.driver_traces.specs.Faults.{first_of};
-ghost use Rattle.driver_traces.specs.Words.{aex, cpu, slot_at};
+ghost use Rattle.driver_traces.specs.inner.BusTrace.{bus_job, bus_trace};
+ghost use Rattle.driver_traces.specs.inner.CrowdTrace.{crowd_job, crowd_trace};
+ghost use Rattle.driver_traces.specs.inner.KickTrace.{kick_job, kick_trace};
+ghost use Rattle.driver_traces.specs.inner.MeasuredTrace.{measured_job, measured_trace};
+ghost use Rattle.driver_traces.specs.inner.SpentTrace.{spent_job, spent_trace};
+ghost use Rattle.driver_traces.specs.inner.Faults.{first_of};
+ghost use Rattle.driver_traces.specs.inner.Words.{aex, cpu, slot_at};
 
 pub fn the_builder_waits_for_a_frame()
     ensures makes { builder_due kick_job (first_of 0 kick_trace) ≡ Makes (actions.Epa (frame_at 0)) }

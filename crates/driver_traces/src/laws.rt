@@ -4,9 +4,10 @@ ghost use Rattle.std.specs.Prelude.{◌≡◌, true, List, ◌∷◌, Some, leng
 ghost use Rattle.sgx_rules.specs.declared.entries.Entry.{Entry};
 ghost use Rattle.job_grammar.specs.Jobs.{JobView};
 ghost use Rattle.run_history.specs.declared.rules.Rule.{Rule};
-ghost use Rattle.run_history.specs.Histories.{FailsFirst, FailsHere, History, Keeps, Says, is_machines};
-ghost use Rattle.driver_traces.specs.Lawful.{is_of_six};
-ghost use Rattle.driver_traces.specs.Faults.{breaks_at_last, breaks_first, is_history, keeps_all_six, keeps_machines};
+ghost use Rattle.run_history.specs.Histories.{FailsFirst, FailsHere, History, Keeps, Says};
+ghost use Rattle.run_history.specs.inner.Histories.{is_machines};
+ghost use Rattle.driver_traces.specs.inner.Lawful.{is_of_six};
+ghost use Rattle.driver_traces.specs.inner.Faults.{breaks_at_last, breaks_first, is_history, keeps_all_six, keeps_machines};
 
 /// An entry that passes keeps the rules Refusal, Flat, Fits, Stale, Evict, Fresh, Sealed and Measure.
 pub fn the_test_of_the_machines_rules_tells_them()

@@ -1,20 +1,20 @@
 //! The right traces: Script, Age and Kick hold at each entry, and Refusal, Flat, Fits, Stale, Evict and Fresh; and at the end all is done.
 
 ghost use Rattle.std.specs.Prelude.{◌≡◌, true};
-ghost use Rattle.driver_rules.specs.Decided.{is_ended};
-ghost use Rattle.driver_traces.specs.BusTrace.{bus_job, bus_trace};
-ghost use Rattle.driver_traces.specs.CrowdTrace.{crowd_job, crowd_trace};
-ghost use Rattle.driver_traces.specs.KickTrace.{kick_job, kick_trace};
-ghost use Rattle.driver_traces.specs.MeasuredTrace.{measured_job, measured_trace};
-ghost use Rattle.driver_traces.specs.PairTrace.{pair_job, pair_trace};
-ghost use Rattle.driver_traces.specs.LostTrace.{lost_job, lost_trace};
-ghost use Rattle.driver_traces.specs.ReloadTrace.{reload_job, reload_trace};
-ghost use Rattle.driver_traces.specs.ReplayTrace.{replay_job, replay_trace};
-ghost use Rattle.driver_traces.specs.RoomTrace.{room_job, room_trace};
-ghost use Rattle.driver_traces.specs.TimerTrace.{timer_job, timer_trace};
-ghost use Rattle.driver_traces.specs.VersionTrace.{version_job, version_trace};
-ghost use Rattle.driver_traces.specs.SpentTrace.{spent_job, spent_trace};
-ghost use Rattle.driver_traces.specs.Faults.{keeps_all, keeps_all_six};
+ghost use Rattle.driver_rules.specs.inner.Decided.{is_ended};
+ghost use Rattle.driver_traces.specs.inner.BusTrace.{bus_job, bus_trace};
+ghost use Rattle.driver_traces.specs.inner.CrowdTrace.{crowd_job, crowd_trace};
+ghost use Rattle.driver_traces.specs.inner.KickTrace.{kick_job, kick_trace};
+ghost use Rattle.driver_traces.specs.inner.MeasuredTrace.{measured_job, measured_trace};
+ghost use Rattle.driver_traces.specs.inner.PairTrace.{pair_job, pair_trace};
+ghost use Rattle.driver_traces.specs.inner.LostTrace.{lost_job, lost_trace};
+ghost use Rattle.driver_traces.specs.inner.ReloadTrace.{reload_job, reload_trace};
+ghost use Rattle.driver_traces.specs.inner.ReplayTrace.{replay_job, replay_trace};
+ghost use Rattle.driver_traces.specs.inner.RoomTrace.{room_job, room_trace};
+ghost use Rattle.driver_traces.specs.inner.TimerTrace.{timer_job, timer_trace};
+ghost use Rattle.driver_traces.specs.inner.VersionTrace.{version_job, version_trace};
+ghost use Rattle.driver_traces.specs.inner.SpentTrace.{spent_job, spent_trace};
+ghost use Rattle.driver_traces.specs.inner.Faults.{keeps_all, keeps_all_six};
 
 pub fn the_kick_trace_is_right()
     ensures entries { keeps_all kick_job kick_trace ≡ true }

@@ -4,10 +4,10 @@ ghost use Rattle.std.specs.Prelude.{◌∷◌};
 ghost use Rattle.sgx_types.specs.declared.names.Actor.TheVariants.{Builder, Reclaimer};
 ghost use Rattle.run_history.specs.declared.rules.Rule.TheVariants as rules;
 ghost use Rattle.run_history.specs.Histories.{FailsFirst, History};
-ghost use Rattle.driver_traces.specs.KickTrace.{kick_job, kick_trace};
-ghost use Rattle.driver_traces.specs.SpentTrace.{spent_job, spent_trace};
-ghost use Rattle.driver_traces.specs.Faults.{first_of};
-ghost use Rattle.driver_traces.specs.Words.{block, init, kick};
+ghost use Rattle.driver_traces.specs.inner.KickTrace.{kick_job, kick_trace};
+ghost use Rattle.driver_traces.specs.inner.SpentTrace.{spent_job, spent_trace};
+ghost use Rattle.driver_traces.specs.inner.Faults.{first_of};
+ghost use Rattle.driver_traces.specs.inner.Words.{block, init, kick};
 
 pub fn a_run_that_ends_at_the_last_epoch_is_a_history()
     ensures { History spent_job spent_trace }

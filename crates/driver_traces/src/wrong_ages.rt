@@ -6,12 +6,13 @@ ghost use Rattle.sgx_types.specs.declared.names.Actor.TheVariants.{Reclaimer};
 ghost use Rattle.sgx_rules.specs.declared.entries.Look.TheVariants as looks;
 ghost use Rattle.run_history.specs.declared.rules.Rule.TheVariants as rules;
 ghost use Rattle.run_history.specs.Histories.{FailsHere};
-ghost use Rattle.driver_traces.specs.BusTrace.{bus_job, bus_trace};
-ghost use Rattle.driver_traces.specs.KickTrace.{kick_job, kick_trace};
-ghost use Rattle.driver_traces.specs.MeasuredTrace.{measured_job, measured_trace};
-ghost use Rattle.driver_traces.specs.PairTrace.{pair_job, pair_trace};
-ghost use Rattle.driver_traces.specs.Faults.{breaks_first, first_of};
-ghost use Rattle.driver_traces.specs.Words.{add_reg, age, block, block_refused, create, epa, kick, measured_init, track, try_refused};
+ghost use Rattle.driver_traces.specs.inner.BusTrace.{bus_job, bus_trace};
+ghost use Rattle.driver_traces.specs.inner.KickTrace.{kick_job, kick_trace};
+ghost use Rattle.driver_traces.specs.inner.MeasuredTrace.{measured_job, measured_trace};
+ghost use Rattle.driver_traces.specs.inner.PairTrace.{pair_job, pair_trace};
+ghost use Rattle.driver_traces.specs.inner.Faults.{breaks_first, first_of};
+ghost use Rattle.driver_traces.specs.inner.Words.{add_reg, age, block, block_refused, create, epa, kick, measured_init, track};
+ghost use Rattle.driver_traces.specs.inner.Words.{try_refused};
 
 pub fn a_look_names_the_head()
     ensures held { breaks_first rules.Age kick_job (first_of 69 kick_trace) (age 1 looks.Held) ≡ true }

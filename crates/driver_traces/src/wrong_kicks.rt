@@ -4,12 +4,12 @@ ghost use Rattle.std.specs.Prelude.{◌≡◌, true};
 ghost use Rattle.sgx_types.specs.declared.names.Actor.TheVariants.{Reclaimer};
 ghost use Rattle.sgx_rules.specs.declared.entries.Cause.TheVariants as causes;
 ghost use Rattle.run_history.specs.declared.rules.Rule.TheVariants as rules;
-ghost use Rattle.driver_traces.specs.BusTrace.{bus_job, bus_trace};
-ghost use Rattle.driver_traces.specs.CrowdTrace.{crowd_job, crowd_trace};
-ghost use Rattle.driver_traces.specs.KickTrace.{kick_job, kick_trace};
-ghost use Rattle.driver_traces.specs.PairTrace.{pair_job, pair_trace};
-ghost use Rattle.driver_traces.specs.Faults.{breaks_first, first_of};
-ghost use Rattle.driver_traces.specs.Words.{aex, busy_out, cpu, kick, other_track, track, track_kept, try_refused};
+ghost use Rattle.driver_traces.specs.inner.BusTrace.{bus_job, bus_trace};
+ghost use Rattle.driver_traces.specs.inner.CrowdTrace.{crowd_job, crowd_trace};
+ghost use Rattle.driver_traces.specs.inner.KickTrace.{kick_job, kick_trace};
+ghost use Rattle.driver_traces.specs.inner.PairTrace.{pair_job, pair_trace};
+ghost use Rattle.driver_traces.specs.inner.Faults.{breaks_first, first_of};
+ghost use Rattle.driver_traces.specs.inner.Words.{aex, busy_out, cpu, kick, other_track, track, track_kept, try_refused};
 
 pub fn a_first_refusal_is_answered_by_a_track()
     ensures again { breaks_first rules.Kick bus_job (first_of 10 bus_trace) (try_refused Reclaimer 2 0 1 0) ≡ true }

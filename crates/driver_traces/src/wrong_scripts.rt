@@ -4,16 +4,17 @@ ghost use Rattle.std.specs.Prelude.{◌≡◌, [], true, false};
 ghost use Rattle.sgx_types.specs.declared.names.Actor.TheVariants.{Builder, Reclaimer};
 ghost use Rattle.sgx_rules.specs.declared.entries.BusWhy.TheVariants as reasons;
 ghost use Rattle.sgx_rules.specs.declared.entries.Cause.TheVariants as causes;
-ghost use Rattle.driver_rules.specs.Decided.{is_ended, keeps_script};
+ghost use Rattle.driver_rules.specs.inner.Decided.{is_ended, keeps_script};
 ghost use Rattle.run_history.specs.declared.rules.Rule.TheVariants as rules;
-ghost use Rattle.driver_traces.specs.BusTrace.{bus_job, bus_trace};
-ghost use Rattle.driver_traces.specs.KickTrace.{kick_job, kick_trace};
-ghost use Rattle.driver_traces.specs.MeasuredTrace.{measured_job, measured_trace};
-ghost use Rattle.driver_traces.specs.PairTrace.{pair_job, pair_trace};
-ghost use Rattle.driver_traces.specs.SpentTrace.{spent_job, spent_trace};
-ghost use Rattle.driver_traces.specs.Faults.{breaks_first, first_of};
-ghost use Rattle.driver_traces.specs.Words.{add_reg, add_tcs, aex, back, block, bus, cpu, enter, epa, exit, extend, fill, init, load, out};
-ghost use Rattle.driver_traces.specs.Words.{resume, set, start_back, track, try_refused, xadd};
+ghost use Rattle.driver_traces.specs.inner.BusTrace.{bus_job, bus_trace};
+ghost use Rattle.driver_traces.specs.inner.KickTrace.{kick_job, kick_trace};
+ghost use Rattle.driver_traces.specs.inner.MeasuredTrace.{measured_job, measured_trace};
+ghost use Rattle.driver_traces.specs.inner.PairTrace.{pair_job, pair_trace};
+ghost use Rattle.driver_traces.specs.inner.SpentTrace.{spent_job, spent_trace};
+ghost use Rattle.driver_traces.specs.inner.Faults.{breaks_first, first_of};
+ghost use Rattle.driver_traces.specs.inner.Words.{add_reg, add_tcs, aex, back, block, bus, cpu, enter, epa, exit, extend, fill};
+ghost use Rattle.driver_traces.specs.inner.Words.{init, load, out};
+ghost use Rattle.driver_traces.specs.inner.Words.{resume, set, start_back, track, try_refused, xadd};
 
 pub fn the_builder_takes_its_steps_in_order()
     ensures frame { breaks_first rules.Script kick_job (first_of 28 kick_trace) (add_reg Builder 6 4095 7) ≡ true }

@@ -4,11 +4,11 @@
 ghost use Rattle.std.specs.Prelude.{◌≡◌, true};
 ghost use Rattle.sgx_types.specs.declared.names.Actor.TheVariants.{Reclaimer};
 ghost use Rattle.run_history.specs.declared.rules.Rule.TheVariants as rules;
-ghost use Rattle.driver_traces.specs.CrowdTrace.{crowd_job, crowd_trace};
-ghost use Rattle.driver_traces.specs.KickTrace.{kick_job, kick_trace};
-ghost use Rattle.driver_traces.specs.SpentTrace.{spent_job, spent_trace};
-ghost use Rattle.driver_traces.specs.Faults.{breaks_first, first_of};
-ghost use Rattle.driver_traces.specs.Words.{block, other_track_done, out, start_out, track};
+ghost use Rattle.driver_traces.specs.inner.CrowdTrace.{crowd_job, crowd_trace};
+ghost use Rattle.driver_traces.specs.inner.KickTrace.{kick_job, kick_trace};
+ghost use Rattle.driver_traces.specs.inner.SpentTrace.{spent_job, spent_trace};
+ghost use Rattle.driver_traces.specs.inner.Faults.{breaks_first, first_of};
+ghost use Rattle.driver_traces.specs.inner.Words.{block, other_track_done, out, start_out, track};
 
 pub fn a_start_in_place_of_its_refusal_breaks_the_table()
     ensures first { breaks_first rules.Refusal kick_job (first_of 11 kick_trace) (start_out Reclaimer 2 0 1) ≡ true }

@@ -4,12 +4,12 @@ use Rattle.std.proofs.Common.{Option, Some, None, length, length-set, drop, refl
 use Rattle.std.proofs.lemmas.List.Elements.{All-push, All-drop}
 use Rattle.sgx_types.specs.declared.names.Frame.{Frame}
 use Rattle.sgx_types.specs.declared.names.Perm.{Perm}
-use Rattle.epcm_entry.specs.Epc.{EpcFrame}
+use Rattle.epcm_entry.specs.inner.Epc.{EpcFrame}
 use Rattle.cached_translations.specs.declared.cache.Translation.{Translation}
 use Rattle.cached_translations.specs.declared.processor.Processor.{Processor}
-use Rattle.cached_translations.specs.Translations.{translation_of, newest, with_translation}
+use Rattle.cached_translations.specs.inner.Translations.{translation_of, newest, with_translation}
 use Rattle.cached_translations.proofs.TranslationLaws.{translation_of-all}
-use Rattle.enclave_access.specs.Access.{LeadsBelow, translation_at, with_filled, with_word_in, with_stored}
+use Rattle.enclave_access.specs.inner.Access.{LeadsBelow, translation_at, with_filled, with_word_in, with_stored}
 
 -- the translation of the page at an offset leads to a frame below the number
 pub leads_below : (cache : List Translation) (off frames : ℕ) (t : Translation) → LeadsBelow cache frames

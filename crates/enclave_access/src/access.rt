@@ -1,10 +1,11 @@
 //! Loads, stores and exchanges of a processor inside an enclave.
 
 ghost use Rattle.std.specs.Prelude.{◌≡◌, length, IfOk, OnOk, OnErr};
-ghost use Rattle.sgx_rules.specs.Table.{refusal_in, first_of_row, load_row, store_row, xadd_row};
+ghost use Rattle.sgx_rules.specs.Table.{first_of_row, load_row, store_row, xadd_row};
+ghost use Rattle.sgx_rules.specs.inner.Table.{refusal_in};
 ghost use Rattle.sgx_rules.specs.Flat.{sum_of};
-ghost use Rattle.cached_translations.specs.Modes.{is_inside};
-ghost use Rattle.enclave_access.specs.Access.{LeadsBelow, perm_at, word_through, with_stored};
+ghost use Rattle.cached_translations.specs.inner.Modes.{is_inside};
+ghost use Rattle.enclave_access.specs.inner.Access.{LeadsBelow, perm_at, word_through, with_stored};
 
 use crate::translate::{translate, word_index};
 use cached_translations::processor::Processor;

@@ -1,10 +1,11 @@
 //! The fill of a translation: the one place where an access looks at the EPCM.
 
 ghost use Rattle.std.specs.Prelude.{◌≡◌, None, OnOk, OnErr};
-ghost use Rattle.sgx_rules.specs.Table.{refusal_in, first_of_row, fill_row, perm_in};
-ghost use Rattle.epcm_entry.specs.Sights.{sight_in};
-ghost use Rattle.cached_translations.specs.Modes.{enclave_inside};
-ghost use Rattle.enclave_access.specs.Access.{with_filled};
+ghost use Rattle.sgx_rules.specs.Table.{first_of_row, fill_row, perm_in};
+ghost use Rattle.sgx_rules.specs.inner.Table.{refusal_in};
+ghost use Rattle.epcm_entry.specs.inner.Sights.{sight_in};
+ghost use Rattle.cached_translations.specs.inner.Modes.{enclave_inside};
+ghost use Rattle.enclave_access.specs.inner.Access.{with_filled};
 
 use cached_translations::cache::Translation;
 use cached_translations::processor::{Mode, Processor};

@@ -1,9 +1,10 @@
 //! Accesses to an enclave's memory from outside, which reach nothing of it.
 
 ghost use Rattle.std.specs.Prelude.{◌≡◌, IfOk};
-ghost use Rattle.sgx_rules.specs.Table.{refusal_in, first_of_row, outload_row, outstore_row};
+ghost use Rattle.sgx_rules.specs.Table.{first_of_row, outload_row, outstore_row};
+ghost use Rattle.sgx_rules.specs.inner.Table.{refusal_in};
 ghost use Rattle.sgx_rules.specs.Flat.{all_ones};
-ghost use Rattle.cached_translations.specs.Modes.{is_inside};
+ghost use Rattle.cached_translations.specs.inner.Modes.{is_inside};
 
 use cached_translations::processor::Processor;
 use sgx_rules::refusals::Refusal;

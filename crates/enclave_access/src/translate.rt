@@ -1,11 +1,12 @@
 //! The way from an offset to a frame, by the translations alone.
 
 ghost use Rattle.std.specs.Prelude.{◌≡◌, ◌/◌, ◌<◌, Some, IfOk};
-ghost use Rattle.sgx_rules.specs.Table.{refusal_in, first_of_row, allows};
+ghost use Rattle.sgx_rules.specs.Table.{first_of_row, allows};
+ghost use Rattle.sgx_rules.specs.inner.Table.{refusal_in};
 ghost use Rattle.sgx_rules.specs.Flat.{word_index};
-ghost use Rattle.cached_translations.specs.Modes.{is_inside};
-ghost use Rattle.cached_translations.specs.Translations.{translation_of};
-ghost use Rattle.enclave_access.specs.Access.{translation_at, perm_at, row_of};
+ghost use Rattle.cached_translations.specs.inner.Modes.{is_inside};
+ghost use Rattle.cached_translations.specs.inner.Translations.{translation_of};
+ghost use Rattle.enclave_access.specs.inner.Access.{translation_at, perm_at, row_of};
 
 use cached_translations::cache::{Cache, Translation};
 use cached_translations::processor::Processor;

@@ -7,12 +7,13 @@ use Rattle.sgx_types.specs.declared.names.Kind.TheVariants as kinds
 use Rattle.sgx_types.specs.declared.names.Perm.{Perm}
 use Rattle.sgx_types.specs.Pages.{page_at}
 use Rattle.sgx_rules.specs.Flat.{first_words}
-use Rattle.epcm_entry.specs.EntryView.{holding}
-use Rattle.epcm_entry.specs.Epc.{EpcFrame, entry_at, words_at, with_page}
-use Rattle.epcm_entry.proofs.Columns.{length-with_entry, entry_at-with_entry, words_at-with_entry, length-with_words, entry_at-with_words}
+use Rattle.epcm_entry.specs.inner.EntryView.{holding}
+use Rattle.epcm_entry.specs.inner.Epc.{EpcFrame, entry_at, words_at, with_page}
+use Rattle.epcm_entry.proofs.Columns.{length-with_entry, entry_at-with_entry, words_at-with_entry, length-with_words}
+use Rattle.epcm_entry.proofs.Columns.{entry_at-with_words}
 use Rattle.epcm_entry.proofs.Columns.{words_at-with_words}
 use Rattle.sgx_types.specs.Pages.{no_perm}
-use Rattle.enclave_build.specs.Build.{with_secs, with_added}
+use Rattle.enclave_build.specs.inner.Build.{with_secs, with_added}
 
 -- the SECS of an enclave
 

@@ -1,7 +1,7 @@
 -- Words of a frame that are written one after another.
 use Rattle.std.proofs.Common.{◌≡◌, ℕ, ◌<◌, List, length, set, ap, ◌∙◌}
 use Rattle.std.proofs.lemmas.List.{get_or-set_same, set-set}
-use Rattle.epcm_entry.specs.Epc.{EpcFrame, free_frame, frame_at, entry_at, with_words, with_word}
+use Rattle.epcm_entry.specs.inner.Epc.{EpcFrame, free_frame, frame_at, entry_at, with_words, with_word}
 
 -- a frame that was written holds what was written last
 written_frame : (epc : List EpcFrame) (f : ℕ) (words : List ℕ) → f < length epc

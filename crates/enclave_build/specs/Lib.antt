@@ -1,1 +1,1 @@
-pub mod Build
+pub mod inner

@@ -4,14 +4,15 @@ ghost use Rattle.std.specs.Prelude.{◌≡◌, ◌<◌, ◌*◌, false, None, So
 ghost use Rattle.sgx_types.specs.Pages.{page_at};
 ghost use Rattle.sgx_types.specs.Layouts.{flags_of};
 ghost use Rattle.sgx_types.specs.Lawful.{is_addable, is_lawful_perm, is_within};
-ghost use Rattle.sgx_rules.specs.Table.{refusal_in, first_of_row, add_row};
-ghost use Rattle.epcm_entry.specs.EntryView.{is_valid};
-ghost use Rattle.epcm_entry.specs.Epc.{entry_at};
-ghost use Rattle.epcm_entry.specs.Sights.{sight_in};
-ghost use Rattle.secs_state.specs.Secs.{added_at, page_count};
+ghost use Rattle.sgx_rules.specs.Table.{first_of_row, add_row};
+ghost use Rattle.sgx_rules.specs.inner.Table.{refusal_in};
+ghost use Rattle.epcm_entry.specs.inner.EntryView.{is_valid};
+ghost use Rattle.epcm_entry.specs.inner.Epc.{entry_at};
+ghost use Rattle.epcm_entry.specs.inner.Sights.{sight_in};
+ghost use Rattle.secs_state.specs.inner.Secs.{added_at, page_count};
 ghost use Rattle.measure_log.specs.Blocks.{eadd_block};
-ghost use Rattle.secs_state.specs.Sights.{sight_of};
-ghost use Rattle.enclave_build.specs.Build.{Appends, with_added, with_resident};
+ghost use Rattle.secs_state.specs.inner.Sights.{sight_of};
+ghost use Rattle.enclave_build.specs.inner.Build.{Appends, with_added, with_resident};
 
 use epcm_entry::epc::Epc;
 use measure_log::measure::Measure;

@@ -3,11 +3,11 @@
 ghost use Rattle.std.specs.Prelude.{◌≡◌, None, OnOk, OnErr, IfOk};
 ghost use Rattle.sgx_types.specs.Lawful.{is_enclave};
 ghost use Rattle.sgx_rules.specs.Table.{first_of_row, create_row};
-ghost use Rattle.epcm_entry.specs.Sights.{sight_in};
-ghost use Rattle.secs_state.specs.Secs.{created};
+ghost use Rattle.epcm_entry.specs.inner.Sights.{sight_in};
+ghost use Rattle.secs_state.specs.inner.Secs.{created};
 ghost use Rattle.measure_log.specs.Blocks.{ecreate_block};
-ghost use Rattle.measure_log.specs.Measure.{HoldsLog};
-ghost use Rattle.enclave_build.specs.Build.{refusal_in_build, with_secs};
+ghost use Rattle.measure_log.specs.inner.Measure.{HoldsLog};
+ghost use Rattle.enclave_build.specs.inner.Build.{refusal_in_build, with_secs};
 
 use crate::build_refusal::BuildRefusal;
 use epcm_entry::epc::Epc;

@@ -2,10 +2,11 @@
 
 ghost use Rattle.std.specs.Prelude.{◌≡◌, ◌<◌, ◌==◌, None, IfSome, OnOk, OnErr, false};
 ghost use Rattle.sgx_rules.specs.Frames.{enclave_in};
-ghost use Rattle.sgx_rules.specs.Table.{refusal_in, first_of_row, extend_row};
-ghost use Rattle.epcm_entry.specs.Sights.{sight_in};
+ghost use Rattle.sgx_rules.specs.Table.{first_of_row, extend_row};
+ghost use Rattle.sgx_rules.specs.inner.Table.{refusal_in};
+ghost use Rattle.epcm_entry.specs.inner.Sights.{sight_in};
 ghost use Rattle.measure_log.specs.Blocks.{chunk_of};
-ghost use Rattle.enclave_build.specs.Build.{Appends, chunk_block};
+ghost use Rattle.enclave_build.specs.inner.Build.{Appends, chunk_block};
 
 use epcm_entry::entry_view::EntryView;
 use epcm_entry::epc::Epc;

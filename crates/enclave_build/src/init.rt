@@ -1,11 +1,13 @@
 //! EINIT: an enclave is initialised, and its measurement is final.
 
 ghost use Rattle.std.specs.Prelude.{◌≡◌, List, ℕ, Some, OnOk, OnErr, IfOk};
-ghost use Rattle.sgx_rules.specs.Table.{refusal_in, first_of_row, init_row};
-ghost use Rattle.secs_state.specs.Secs.{with_init};
-ghost use Rattle.measure_log.specs.Measure.{HoldsLog, measurement_of};
-ghost use Rattle.secs_state.specs.Sights.{sight_of};
-ghost use Rattle.enclave_build.specs.Build.{AgreesWith, is_expected, measured_row, unless_measured};
+ghost use Rattle.sgx_rules.specs.Table.{first_of_row, init_row};
+ghost use Rattle.sgx_rules.specs.inner.Table.{refusal_in};
+ghost use Rattle.secs_state.specs.inner.Secs.{with_init};
+ghost use Rattle.measure_log.specs.Measure.{measurement_of};
+ghost use Rattle.measure_log.specs.inner.Measure.{HoldsLog};
+ghost use Rattle.secs_state.specs.inner.Sights.{sight_of};
+ghost use Rattle.enclave_build.specs.inner.Build.{AgreesWith, is_expected, measured_row, unless_measured};
 
 use measure_log::measure::Measure;
 use secs_state::secs::Secs;

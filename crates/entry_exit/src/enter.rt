@@ -1,13 +1,14 @@
 //! EENTER and ERESUME: a processor comes inside.
 
 ghost use Rattle.std.specs.Prelude.{◌≡◌, ◌<◌, true, false, length, IfOk, OnOk, OnErr};
-ghost use Rattle.sgx_rules.specs.Table.{refusal_in, first_of_row, enter_row, resume_row};
-ghost use Rattle.epcm_entry.specs.Epc.{word_at};
-ghost use Rattle.epcm_entry.specs.Sights.{sight_in};
-ghost use Rattle.secs_state.specs.Secs.{with_busy};
-ghost use Rattle.cached_translations.specs.Modes.{is_inside};
-ghost use Rattle.track_epoch.specs.Tracking.{entered};
-ghost use Rattle.entry_exit.specs.Entry.{IsAdded, enter_sight, fields_at, with_entered, with_resumed};
+ghost use Rattle.sgx_rules.specs.Table.{first_of_row, enter_row, resume_row};
+ghost use Rattle.sgx_rules.specs.inner.Table.{refusal_in};
+ghost use Rattle.epcm_entry.specs.inner.Epc.{word_at};
+ghost use Rattle.epcm_entry.specs.inner.Sights.{sight_in};
+ghost use Rattle.secs_state.specs.inner.Secs.{with_busy};
+ghost use Rattle.cached_translations.specs.inner.Modes.{is_inside};
+ghost use Rattle.track_epoch.specs.inner.Tracking.{entered};
+ghost use Rattle.entry_exit.specs.inner.Entry.{IsAdded, enter_sight, fields_at, with_entered, with_resumed};
 
 use crate::tcs::{fields, set_cssa};
 use crate::way_in::{WayIn, seat};

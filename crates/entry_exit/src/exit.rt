@@ -1,12 +1,14 @@
 //! EEXIT and the asynchronous exit: a processor leaves its enclave.
 
 ghost use Rattle.std.specs.Prelude.{◌≡◌, ◌<◌, true, false, length, Contains, IsSome, OnOk, OnErr};
-ghost use Rattle.sgx_rules.specs.Table.{refusal_in, first_of_row, exit_row};
-ghost use Rattle.secs_state.specs.Secs.{added_at, with_busy};
-ghost use Rattle.cached_translations.specs.Modes.{is_inside};
-ghost use Rattle.track_epoch.specs.Tracking.{left};
-ghost use Rattle.entry_exit.specs.Entry.{IsItsEnclave, HasItsTcs, CountsIt, HasItsFrames, outside, with_tcs_left, with_left, with_saved};
-ghost use Rattle.entry_exit.specs.Entry.{with_its_saved};
+ghost use Rattle.sgx_rules.specs.Table.{first_of_row, exit_row};
+ghost use Rattle.sgx_rules.specs.inner.Table.{refusal_in};
+ghost use Rattle.secs_state.specs.inner.Secs.{added_at, with_busy};
+ghost use Rattle.cached_translations.specs.inner.Modes.{is_inside};
+ghost use Rattle.track_epoch.specs.inner.Tracking.{left};
+ghost use Rattle.entry_exit.specs.inner.Entry.{IsItsEnclave, HasItsTcs, CountsIt, HasItsFrames, outside, with_tcs_left};
+ghost use Rattle.entry_exit.specs.inner.Entry.{with_left, with_saved};
+ghost use Rattle.entry_exit.specs.inner.Entry.{with_its_saved};
 
 use crate::tcs::{fields, set_cssa};
 use cached_translations::processor::{Mode, Processor};

@@ -1,7 +1,7 @@
 //! The fields of a TCS page in its frame.
 
 ghost use Rattle.std.specs.Prelude.{◌≡◌, ◌<◌, ◌/◌, ◌%◌, ◌^◌, length};
-ghost use Rattle.entry_exit.specs.Entry.{fields_at, seen_fields, with_cssa_at};
+ghost use Rattle.entry_exit.specs.inner.Entry.{fields_at, seen_fields, with_cssa_at};
 
 use epcm_entry::epc::Epc;
 use sgx_types::layouts::TcsFields;

@@ -2,10 +2,10 @@
 
 ghost use Rattle.std.specs.Prelude.{◌≡◌, ◌<◌, true, false, length, IsSome};
 ghost use Rattle.sgx_rules.specs.Table.{first_of_row, ssa_row};
-ghost use Rattle.epcm_entry.specs.Sights.{sight_in};
-ghost use Rattle.secs_state.specs.Secs.{added_at, with_busy};
-ghost use Rattle.track_epoch.specs.Tracking.{entered};
-ghost use Rattle.entry_exit.specs.Entry.{enter_sight, row_of, frame_case, seen_fields, ssa_page, with_entered};
+ghost use Rattle.epcm_entry.specs.inner.Sights.{sight_in};
+ghost use Rattle.secs_state.specs.inner.Secs.{added_at, with_busy};
+ghost use Rattle.track_epoch.specs.inner.Tracking.{entered};
+ghost use Rattle.entry_exit.specs.inner.Entry.{enter_sight, row_of, frame_case, seen_fields, ssa_page, with_entered};
 
 use crate::tcs::fields;
 use cached_translations::processor::{Mode, Processor};

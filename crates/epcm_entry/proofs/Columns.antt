@@ -8,11 +8,12 @@ use Rattle.std.proofs.lemmas.List.{get_or-set_same, get_or-set_other, set_past}
 use Rattle.epcm_entry.specs.declared.entry_view.EntryView.{EntryView}
 use Rattle.epcm_entry.specs.declared.entry_view.EntryView.TheVariants.{Free}
 use Rattle.sgx_types.specs.declared.names.Frame.{Frame}
-use Rattle.epcm_entry.specs.EntryView.{is_free}
+use Rattle.epcm_entry.specs.inner.EntryView.{is_free}
 use Rattle.epcm_entry.proofs.Marks.{position_some, position_none}
-use Rattle.epcm_entry.specs.Words.{zero_words}
-use Rattle.epcm_entry.specs.Epc.{EpcFrame, IsEpc, frame_at, entry_at, words_at, with_entry, with_words, cleared, free_frame, first_free_of}
-use Rattle.epcm_entry.specs.Epc.{is_free_frame}
+use Rattle.epcm_entry.specs.inner.Words.{zero_words}
+use Rattle.epcm_entry.specs.inner.Epc.{EpcFrame, IsEpc, frame_at, entry_at, words_at, with_entry, with_words, cleared}
+use Rattle.epcm_entry.specs.inner.Epc.{free_frame, first_free_of}
+use Rattle.epcm_entry.specs.inner.Epc.{is_free_frame}
 
 -- a column of a changed frame, read at each place
 column : {X : Type 0} (col : EpcFrame → X) (epc : List EpcFrame) (f n : ℕ) (frame : EpcFrame) → f < length epc

@@ -9,12 +9,13 @@ use Rattle.sgx_types.specs.declared.names.Frame.{Frame}
 use Rattle.std.proofs.lemmas.List.{length-map, set-set, set-get_or, get_or_default, get_or-map, map-set, get_or-set_same}
 use Rattle.epcm_entry.specs.declared.entry_view.EntryView.{EntryView}
 use Rattle.epcm_entry.specs.declared.entry_view.EntryView.TheVariants.{Free}
-use Rattle.epcm_entry.specs.EntryView.{is_free}
-use Rattle.epcm_entry.specs.Words.{zero_words, IsPage}
+use Rattle.epcm_entry.specs.inner.EntryView.{is_free}
+use Rattle.epcm_entry.specs.inner.Words.{zero_words, IsPage}
 use Rattle.std.proofs.lemmas.List.Elements.{All-get_or, All-set}
 use Rattle.epcm_entry.proofs.Words.{page_small}
-use Rattle.epcm_entry.specs.Epc.{EpcFrame, frames_of, frame_at, entry_at, words_at, is_free_frame, with_entry, with_words, cleared}
-use Rattle.epcm_entry.specs.Epc.{free_frame, free_frames, IsFrame, IsEpc}
+use Rattle.epcm_entry.specs.inner.Epc.{EpcFrame, frames_of, frame_at, entry_at, words_at, is_free_frame, with_entry, with_words}
+use Rattle.epcm_entry.specs.inner.Epc.{cleared}
+use Rattle.epcm_entry.specs.inner.Epc.{free_frame, free_frames, IsFrame, IsEpc}
 
 pub length-frames_of : (entries : List EntryView) (pages : List (List (List ℕ))) → length pages ≡ length entries
     → length (frames_of entries pages) ≡ length entries

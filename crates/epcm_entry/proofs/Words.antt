@@ -5,13 +5,14 @@ use Rattle.std.specs.Int.{to_le_bytes, from_le_bytes, bytes_low_first}
 use Rattle.std.specs.List.{flat_map}
 use Rattle.std.specs.Simd.{first_chunks}
 use Rattle.std.proofs.lemmas.Nat.{mod_below, from_le_bytes-to_le_bytes_8, le_bytes_8}
-use Rattle.std.proofs.lemmas.List.{length-replicate, length-take, length-drop, get_or-take, get_or-drop, get_or_past, take-append-drop}
+use Rattle.std.proofs.lemmas.List.{length-replicate, length-take, length-drop, get_or-take, get_or-drop, get_or_past}
+use Rattle.std.proofs.lemmas.List.{take-append-drop}
 use Rattle.std.proofs.lemmas.List.{take_at, drop_at, length-append, length-map, nil_from_length, map-set, length-set, get_or-map}
 use Rattle.std.proofs.lemmas.List.Elements.{All-nil, All-cons, All-head, All-tail, All-map, All-weaker, All-replicate, All-set}
 use Rattle.std.proofs.lemmas.List.Folds.{flat_map-map}
 use Rattle.std.proofs.lemmas.Bool.{cases_lt}
 use Rattle.sgx_types.specs.Layouts.{bytes_of}
-use Rattle.epcm_entry.specs.Words.{words_of, zero_words, IsWord, IsPage}
+use Rattle.epcm_entry.specs.inner.Words.{words_of, zero_words, IsWord, IsPage}
 
 -- bytes below 256
 abbrev IsBytes : List ℕ → Type 0

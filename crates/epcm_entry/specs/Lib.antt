@@ -1,6 +1,1 @@
-pub mod FreeMap
-pub mod EntryView
-pub mod Words
-pub mod Epc
-pub mod Kept
-pub mod Sights
+pub mod inner

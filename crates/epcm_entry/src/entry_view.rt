@@ -6,8 +6,8 @@ ghost use Rattle.sgx_rules.specs.Frames.{is_page};
 ghost use Rattle.sgx_rules.specs.Frames.{is_free as holds_nothing};
 ghost use Rattle.sgx_rules.specs.Table.{is_loading, is_reg, is_secs, is_tcs, is_va, perm_in};
 ghost use Rattle.sgx_rules.specs.Table.{is_valid as holds_something};
-ghost use Rattle.epcm_entry.specs.EntryView.{is_free, is_busy, is_valid, block_of, goes_out, outgoing, with_block};
-ghost use Rattle.epcm_entry.specs.Sights.{held};
+ghost use Rattle.epcm_entry.specs.inner.EntryView.{is_free, is_busy, is_valid, block_of, goes_out, outgoing, with_block};
+ghost use Rattle.epcm_entry.specs.inner.Sights.{held};
 
 use sgx_types::names::{Kind, Page, Perm};
 

@@ -1,10 +1,11 @@
 //! The EPC with its EPCM.
 
 ghost use Rattle.std.specs.Prelude.{◌≡◌, ◌<◌, ◌≤◌, ◌||◌, true, false, length, replicate, count_by, IfOk, OnOk, OnErr};
-ghost use Rattle.epcm_entry.specs.EntryView.{is_free, is_busy, is_valid, claim_answer};
-ghost use Rattle.epcm_entry.specs.Words.{words_of};
-ghost use Rattle.epcm_entry.specs.Epc.{IsEpc, entry_at, word_at, words_at, bytes_at, free_frames, is_free_frame, first_free_of, with_entry};
-ghost use Rattle.epcm_entry.specs.Epc.{with_page, with_blocked, with_sealing, with_loading, with_word, with_words, cleared};
+ghost use Rattle.epcm_entry.specs.inner.EntryView.{is_free, is_busy, is_valid, claim_answer};
+ghost use Rattle.epcm_entry.specs.inner.Words.{words_of};
+ghost use Rattle.epcm_entry.specs.inner.Epc.{IsEpc, entry_at, word_at, words_at, bytes_at, free_frames, is_free_frame};
+ghost use Rattle.epcm_entry.specs.inner.Epc.{first_free_of, with_entry};
+ghost use Rattle.epcm_entry.specs.inner.Epc.{with_page, with_blocked, with_sealing, with_loading, with_word, with_words, cleared};
 
 use crate::entry_view::EntryView;
 use crate::free_map::FreeMap;
@@ -24,11 +25,11 @@ pub struct Epc {
 
 impl Model for Epc {
     ghost use Rattle.std.specs.Prelude.{List};
-    ghost use Rattle.epcm_entry.specs.Epc.{EpcFrame};
+    ghost use Rattle.epcm_entry.specs.inner.Epc.{EpcFrame};
 
     ghost Value = { List EpcFrame };
 
-    ghost use Rattle.epcm_entry.specs.Kept.{epc_of, IsKept};
+    ghost use Rattle.epcm_entry.specs.inner.Kept.{epc_of, IsKept};
 
     ghost view = { epc_of };
 

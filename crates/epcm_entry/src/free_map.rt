@@ -2,7 +2,7 @@
 
 ghost use Rattle.std.specs.Prelude.{◌≡◌, ◌<◌, ◌≤◌, true, false, length, replicate, slice_index_or, slice_set, count_by};
 ghost use Rattle.std.specs.Prelude.{position, IfOk};
-ghost use Rattle.epcm_entry.specs.FreeMap.{IsFull, is_used};
+ghost use Rattle.epcm_entry.specs.inner.FreeMap.{IsFull, is_used};
 
 use std::alloc::{AllocError, Global};
 use std::marker::Model;
@@ -20,7 +20,7 @@ impl Model for FreeMap {
 
     ghost Value = { List Bool };
 
-    ghost use Rattle.epcm_entry.specs.FreeMap.{members, IsFreeMap};
+    ghost use Rattle.epcm_entry.specs.inner.FreeMap.{members, IsFreeMap};
 
     ghost view = { λ m. members m.marks.items m.len };
 

@@ -14,16 +14,18 @@ use Rattle.sgx_rules.specs.declared.entries.Event.{Event}
 use Rattle.sgx_rules.specs.declared.entries.Event.TheVariants.{Age, Bus, Did, Kick, Refused}
 use Rattle.sgx_types.specs.declared.names.Cpu.{Cpu}
 use Rattle.sgx_types.specs.declared.names.Frame.{Frame}
-use Rattle.sgx_rules.specs.Enclaves.{created, created_by}
-use Rattle.sgx_rules.specs.Epochs.{is_track, noted}
+use Rattle.sgx_rules.specs.inner.Enclaves.{created, created_by}
+use Rattle.sgx_rules.specs.Epochs.{is_track}
+use Rattle.sgx_rules.specs.inner.Epochs.{noted}
 use Rattle.sgx_rules.specs.Flat.{FlatEnclave, marked}
 use Rattle.sgx_rules.specs.Rules.{Along}
 use Rattle.sgx_rules.specs.Processors.{Enters, Keeps, Leaves, Move, Seat, Stay, is_by, move_by, stay, stay_after}
-use Rattle.driver_laws.specs.Tracking.{CanMoveFrom, CanTrack, StayTells, TrackTells, TrackingRule}
-use Rattle.epoch_words.specs.Seen.{HasRoom, tracked}
-use Rattle.epoch_words.specs.Seen as words
-use Rattle.epoch_notes.specs.Notes.{CanNote, IsIn, IsOfCpus, NotesView, TellsEntries, after_enter, after_leave, seen_of}
-use Rattle.epoch_notes.proofs.NoteLaws.{IsNear, all_near, is_in, is_noted, limited, may_track, room_now, tells_entered, tells_left}
+use Rattle.driver_laws.specs.inner.Tracking.{CanMoveFrom, CanTrack, StayTells, TrackTells, TrackingRule}
+use Rattle.epoch_words.specs.inner.Seen.{HasRoom, tracked}
+use Rattle.epoch_words.specs.inner.Seen as words
+use Rattle.epoch_notes.specs.inner.Notes.{CanNote, IsIn, IsOfCpus, NotesView, TellsEntries, after_enter, after_leave, seen_of}
+use Rattle.epoch_notes.proofs.NoteLaws.{IsNear, all_near, is_in, is_noted, limited, may_track, room_now, tells_entered}
+use Rattle.epoch_notes.proofs.NoteLaws.{tells_left}
 use Rattle.epoch_notes.proofs.NoteLaws.{tells_other, tells_quiet, tells_tracked, track_keeps}
 
 -- ---- enclaves that were created stay so

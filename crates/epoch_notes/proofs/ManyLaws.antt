@@ -2,12 +2,13 @@
 use Rattle.std.proofs.Common.{◌≡◌, ◌+◌, ◌-◌, ◌≤◌, ◌<◌, ℕ, zero, suc, true, get_or, List, [], ◌∷◌, ◌++◌}
 use Rattle.std.proofs.Common.{length, reverse, drop, take, sym, ap, ◌∙◌, subst, is_some, arith}
 use Rattle.std.specs.List.{All}
-use Rattle.std.proofs.lemmas.List.{append_assoc, get_or-reverse, length-reverse, reverse-append, take-append-drop, take_all, take_more}
+use Rattle.std.proofs.lemmas.List.{append_assoc, get_or-reverse, length-reverse, reverse-append, take-append-drop, take_all}
+use Rattle.std.proofs.lemmas.List.{take_more}
 use Rattle.sgx_rules.specs.declared.entries.Entry.{Entry}
-use Rattle.sgx_rules.specs.Enclaves.{created}
+use Rattle.sgx_rules.specs.inner.Enclaves.{created}
 use Rattle.sgx_rules.specs.Rules.{Along}
-use Rattle.driver_laws.specs.Tracking.{TrackingRule}
-use Rattle.epoch_notes.specs.Notes.{CanNote, IsOfCpus, NotesView, TellsEntries}
+use Rattle.driver_laws.specs.inner.Tracking.{TrackingRule}
+use Rattle.epoch_notes.specs.inner.Notes.{CanNote, IsOfCpus, NotesView, TellsEntries}
 use Rattle.epoch_notes.proofs.EntryLaws.{created_more}
 
 -- ---- a run's front

@@ -14,18 +14,20 @@ use Rattle.sgx_rules.specs.declared.entries.Event.{Event}
 use Rattle.sgx_rules.specs.declared.entries.Event.TheVariants.{Did}
 use Rattle.sgx_types.specs.declared.names.Cpu.{Cpu}
 use Rattle.sgx_types.specs.declared.names.TheConstants.{LAST_EPOCH}
-use Rattle.sgx_rules.specs.Epochs.{epoch, is_in_before, is_track, last_track, noted, noted_after}
+use Rattle.sgx_rules.specs.Epochs.{epoch, is_in_before, is_track, last_track}
+use Rattle.sgx_rules.specs.inner.Epochs.{noted, noted_after}
 use Rattle.sgx_rules.specs.Processors.{Enters, Keeps, Leaves, Move, Seat, Stay, is_by, move_by, stay, stay_after, stay_from}
 use Rattle.sgx_rules.specs.Rules.{Along}
 use Rattle.sgx_rules.proofs.Keystone.{IsNoted, all_noted}
 use Rattle.sgx_types.proofs.CountLaws.{count_below-none}
-use Rattle.driver_laws.specs.Tracking.{CanTrack, TrackTells, TrackingRule}
+use Rattle.driver_laws.specs.inner.Tracking.{CanTrack, TrackTells, TrackingRule}
 use Rattle.epoch_words.specs.declared.seen.Seen.{Seen}
-use Rattle.epoch_words.specs.Rule.{at}
-use Rattle.epoch_words.specs.Seen.{HasRoom, IsInside, entered, left, seen, starting_at, tracked}
-use Rattle.epoch_words.specs.Seen as words
+use Rattle.epoch_words.specs.inner.Rule.{at}
+use Rattle.epoch_words.specs.inner.Seen.{HasRoom, IsInside, entered, left, seen, starting_at, tracked}
+use Rattle.epoch_words.specs.inner.Seen as words
 use Rattle.epoch_notes.specs.declared.notes.Inside.{Inside}
-use Rattle.epoch_notes.specs.Notes.{IsIn, NotesView, TellsEntries, after_enter, after_leave, seen_of, since, TableId, word_by}
+use Rattle.epoch_notes.specs.inner.Notes.{IsIn, NotesView, TellsEntries, after_enter, after_leave, seen_of, since, TableId}
+use Rattle.epoch_notes.specs.inner.Notes.{word_by}
 use Rattle.epoch_notes.proofs.WordLaws.{before_track, has_room, is_counted, word_entered, is_newer, word_left, word_none}
 use Rattle.epoch_notes.proofs.WordLaws.{word_tracked, word_with}
 

@@ -6,15 +6,17 @@ use Rattle.std.proofs.lemmas.Bool.{cases_lt, eq-eqb, eqb-true, false≢true, le-
 use Rattle.std.proofs.Math.Bool.{and-false, and-true}
 use Rattle.sgx_types.specs.Counts.{count_below}
 use Rattle.sgx_rules.specs.declared.entries.Entry.{Entry}
-use Rattle.sgx_rules.specs.Epochs.{epoch, is_before, is_in, is_in_before, last_track, newer_at, noted, older_at}
+use Rattle.sgx_rules.specs.Epochs.{epoch, is_before, is_in, is_in_before, last_track, older_at}
+use Rattle.sgx_rules.specs.inner.Epochs.{newer_at, noted}
 use Rattle.sgx_rules.specs.Processors.{Seat, Stay, stay, stay_from}
-use Rattle.sgx_types.proofs.CountLaws.{count_below-agrees, count_below-more, count_below-missing, count_below-splits, count_below-zero}
+use Rattle.sgx_types.proofs.CountLaws.{count_below-agrees, count_below-more, count_below-missing, count_below-splits}
+use Rattle.sgx_types.proofs.CountLaws.{count_below-zero}
 use Rattle.sgx_types.proofs.CountLaws.{one_if, one_of_those}
 use Rattle.sgx_rules.proofs.Keystone.{IsNoted, LastTrack, all_noted, last_track_is}
 use Rattle.sgx_types.proofs.Truths.{apart}
 use Rattle.epoch_words.specs.declared.seen.Seen.{Seen}
-use Rattle.epoch_words.specs.Seen.{HasRoom, IsInside, entered, left, seen, starting_at, tracked}
-use Rattle.epoch_notes.specs.Notes.{word_by}
+use Rattle.epoch_words.specs.inner.Seen.{HasRoom, IsInside, entered, left, seen, starting_at, tracked}
+use Rattle.epoch_notes.specs.inner.Notes.{word_by}
 
 -- ---- stays and tracks
 

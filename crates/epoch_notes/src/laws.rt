@@ -1,9 +1,9 @@
 //! How the notes of a run begin. A law is the contract of a function without arguments.
 
 ghost use Rattle.std.specs.Prelude.{ℕ, [], None, replicate};
-ghost use Rattle.epoch_words.specs.Known.{enclaves};
-ghost use Rattle.epoch_words.specs.Seen.{starting_at};
-ghost use Rattle.epoch_notes.specs.Notes.{TableId, TellsEntries};
+ghost use Rattle.epoch_words.specs.inner.Known.{enclaves};
+ghost use Rattle.epoch_words.specs.inner.Seen.{starting_at};
+ghost use Rattle.epoch_notes.specs.inner.Notes.{TableId, TellsEntries};
 
 /// Words at the first epoch with no processor inside say what no entry says.
 pub fn words_begin()

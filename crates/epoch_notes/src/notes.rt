@@ -2,9 +2,9 @@
 
 ghost use Rattle.std.specs.Prelude.{◌≡◌, ◌≤◌, ◌<◌, ◌-◌, ◌∷◌, ◌++◌, [], IfOk, IfSome, None, length, replicate};
 ghost use Rattle.std.specs.Prelude.{reverse, slice_index_or};
-ghost use Rattle.epoch_words.specs.Rule.{at};
-ghost use Rattle.epoch_words.specs.Seen.{HasRoom};
-ghost use Rattle.epoch_notes.specs.Notes.{CanNote, IsIn, TellsEntries, after_enter, after_leave};
+ghost use Rattle.epoch_words.specs.inner.Rule.{at};
+ghost use Rattle.epoch_words.specs.inner.Seen.{HasRoom};
+ghost use Rattle.epoch_notes.specs.inner.Notes.{CanNote, IsIn, TellsEntries, after_enter, after_leave};
 
 use epoch_words::words::{HardwareSeat, Words};
 use sgx_rules::entries::{Action, Entry, Event};
@@ -28,7 +28,7 @@ pub struct EpochNotes {
 }
 
 impl Model for EpochNotes {
-    ghost use Rattle.epoch_notes.specs.Notes.{NotesView};
+    ghost use Rattle.epoch_notes.specs.inner.Notes.{NotesView};
 
     ghost Value = { NotesView };
 

@@ -1,7 +1,7 @@
 //! The words of an enclave's epochs, row by row.
 
 ghost use Rattle.std.specs.Prelude.{◌≡◌, ◌≤◌};
-ghost use Rattle.epoch_words.specs.Known.{enclaves};
+ghost use Rattle.epoch_words.specs.inner.Known.{enclaves};
 
 use epoch_words::seen::Seen;
 use epoch_words::words::{HardwareSeat, Pass, Words};

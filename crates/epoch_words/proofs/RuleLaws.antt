@@ -12,8 +12,8 @@ use Rattle.atomic_table.specs.Table.{step, keeps, Allows, Splits, opening}
 use Rattle.atomic_table.proofs.Lists.{at_set, set_here, set_else, set_again, at_longer, at_snoc}
 use Rattle.epoch_words.specs.declared.seen.Seen.{Seen}
 use Rattle.epoch_words.specs.declared.rule.View.{View}
-use Rattle.epoch_words.specs.Seen.{seen, word_of, seen_in, IsLawful, Changes, IsNotAhead}
-use Rattle.epoch_words.specs.Rule.{Seat, at, hardware, pass, Fits, IsKept, Writes, Observes}
+use Rattle.epoch_words.specs.inner.Seen.{seen, word_of, seen_in, IsLawful, Changes, IsNotAhead}
+use Rattle.epoch_words.specs.inner.Rule.{Seat, at, hardware, pass, Fits, IsKept, Writes, Observes}
 use Rattle.epoch_words.proofs.SeenLaws.{seen_in-word_of, not_ahead_of_itself, not_ahead_further, changes}
 
 -- ---- lists

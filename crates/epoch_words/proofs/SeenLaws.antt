@@ -2,7 +2,7 @@
 use Rattle.std.proofs.Common.{◌≡◌, ℕ, ◌+◌, ◌-◌, ◌*◌, ◌/◌, ◌%◌, ◌<◌, inl, inr, Bool, true, false, cond, eqb}
 use Rattle.std.proofs.Common.{refl, arith}
 use Rattle.epoch_words.specs.declared.seen.Seen.{Seen}
-use Rattle.epoch_words.specs.Seen.{seen, word_of, seen_in, IsLawful, IsInside, Changes, IsNotAhead}
+use Rattle.epoch_words.specs.inner.Seen.{seen, word_of, seen_in, IsLawful, IsInside, Changes, IsNotAhead}
 
 epoch_back : (e o n : ℕ) → o < 4096 → n < 4096 → (e * 16777216 + o * 4096 + n) / 16777216 ≡ e
 epoch_back e o n a b = omega arith

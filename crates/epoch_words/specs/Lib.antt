@@ -1,3 +1,1 @@
-pub mod Seen
-pub mod Rule
-pub mod Known
+pub mod inner

@@ -14,7 +14,7 @@ pub struct View {
 pub struct EpochRule;
 
 impl TableRule<(), View, Vec<Seen>> for EpochRule {
-    ghost use Rattle.epoch_words.specs.Rule.{IsKept, hardware};
+    ghost use Rattle.epoch_words.specs.inner.Rule.{IsKept, hardware};
 
     ghost holds = { λ _ table. IsKept table };
 
@@ -25,7 +25,7 @@ impl TableRule<(), View, Vec<Seen>> for EpochRule {
 pub struct Write;
 
 impl Play<(), View> for Write {
-    ghost use Rattle.epoch_words.specs.Rule.{Writes};
+    ghost use Rattle.epoch_words.specs.inner.Rule.{Writes};
 
     ghost then = { Writes };
 }
@@ -34,7 +34,7 @@ impl Play<(), View> for Write {
 pub struct Observe;
 
 impl Play<(), View> for Observe {
-    ghost use Rattle.epoch_words.specs.Rule.{Observes};
+    ghost use Rattle.epoch_words.specs.inner.Rule.{Observes};
 
     ghost then = { Observes };
 }
@@ -43,7 +43,7 @@ impl Play<(), View> for Observe {
 pub struct Tell;
 
 impl Split<View> for Tell {
-    ghost use Rattle.epoch_words.specs.Rule.{pass};
+    ghost use Rattle.epoch_words.specs.inner.Rule.{pass};
 
     ghost left = { λ view. view };
 

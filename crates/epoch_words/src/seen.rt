@@ -1,7 +1,7 @@
 //! What a tracking word says.
 
 ghost use Rattle.std.specs.Prelude.{◌≡◌};
-ghost use Rattle.epoch_words.specs.Seen.{IsLawful, word_of, seen_in};
+ghost use Rattle.epoch_words.specs.inner.Seen.{IsLawful, word_of, seen_in};
 
 /// In a word bits 11 to 0 are the newer processors, bits 23 to 12 the older ones and bits 63 to 24 the epoch.
 const OLDER: u64 = 1 << 12;

@@ -1,8 +1,9 @@
 //! The words, the seat that writes them, and the passes that read them.
 
 ghost use Rattle.std.specs.Prelude.{◌≡◌, ◌≤◌, length, replicate, IfOk};
-ghost use Rattle.epoch_words.specs.Seen.{IsLawful, starting_at, HasRoom, entered, IsInside, left, CanTrack, tracked, Changes, IsNotAhead};
-ghost use Rattle.epoch_words.specs.Known.{enclaves, known, seen_of, learnt};
+ghost use Rattle.epoch_words.specs.inner.Seen.{IsLawful, starting_at, HasRoom, entered, IsInside, left, CanTrack, tracked};
+ghost use Rattle.epoch_words.specs.inner.Seen.{Changes, IsNotAhead};
+ghost use Rattle.epoch_words.specs.inner.Known.{enclaves, known, seen_of, learnt};
 
 use crate::rule::{EpochRule, Observe, Tell, View, Write};
 use crate::seen::Seen;
@@ -41,9 +42,9 @@ pub struct HardwareSeat {
 
 impl Model for HardwareSeat {
     ghost use Rattle.std.specs.Prelude.{◌≡◌, ℕ, length};
-    ghost use Rattle.epoch_words.specs.Seen.{IsLawful};
-    ghost use Rattle.epoch_words.specs.Rule.{at, hardware};
-    ghost use Rattle.epoch_words.specs.Known.{Known, known};
+    ghost use Rattle.epoch_words.specs.inner.Seen.{IsLawful};
+    ghost use Rattle.epoch_words.specs.inner.Rule.{at, hardware};
+    ghost use Rattle.epoch_words.specs.inner.Known.{Known, known};
 
     ghost Value = { Known };
 
@@ -61,8 +62,8 @@ pub struct Pass {
 
 impl Model for Pass {
     ghost use Rattle.std.specs.Prelude.{◌≡◌, length};
-    ghost use Rattle.epoch_words.specs.Rule.{pass};
-    ghost use Rattle.epoch_words.specs.Known.{Known, known};
+    ghost use Rattle.epoch_words.specs.inner.Rule.{pass};
+    ghost use Rattle.epoch_words.specs.inner.Known.{Known, known};
 
     ghost Value = { Known };
 

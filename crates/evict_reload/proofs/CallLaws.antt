@@ -10,21 +10,22 @@ use Rattle.sgx_types.specs.declared.names.Perm.{Perm}
 use Rattle.sgx_types.specs.declared.names.SlotAt.{SlotAt}
 use Rattle.sgx_rules.specs.declared.refusals.Refusal.{Refusal}
 use Rattle.sgx_rules.specs.declared.refusals.Refusal.TheVariants as why
-use Rattle.sgx_rules.specs.Table.{DrainSight, EnclaveSight, refusal_in, first_of_row, is_made, is_va, is_valid, is_loading, is_out_of_range}
+use Rattle.sgx_rules.specs.Table.{DrainSight, EnclaveSight, first_of_row, is_made, is_va, is_valid, is_loading, is_out_of_range}
+use Rattle.sgx_rules.specs.inner.Table.{refusal_in}
 use Rattle.sgx_rules.specs.Table.{ewbstart_row, eldstart_row}
 use Rattle.epcm_entry.specs.declared.entry_view.EntryView.TheVariants as views
-use Rattle.epcm_entry.specs.EntryView.{holding, outgoing}
-use Rattle.epcm_entry.specs.Epc.{EpcFrame, entry_at, with_page, with_sealing, with_loading, cleared}
-use Rattle.epcm_entry.specs.Sights.{held, sight_in}
-use Rattle.epcm_entry.specs.Words.{words_of}
+use Rattle.epcm_entry.specs.inner.EntryView.{holding, outgoing}
+use Rattle.epcm_entry.specs.inner.Epc.{EpcFrame, entry_at, with_page, with_sealing, with_loading, cleared}
+use Rattle.epcm_entry.specs.inner.Sights.{held, sight_in}
+use Rattle.epcm_entry.specs.inner.Words.{words_of}
 use Rattle.version_array.specs.declared.va_page.VaSlot.{VaSlot}
-use Rattle.version_array.specs.Slots.{IsSlot, with_busy, with_version, is_busy_at}
-use Rattle.version_array.specs.Versions.{is_spent_at}
+use Rattle.version_array.specs.inner.Slots.{IsSlot, with_busy, with_version, is_busy_at}
+use Rattle.version_array.specs.inner.Versions.{is_spent_at}
 use Rattle.version_array.proofs.TableLaws.{slot_kept}
 use Rattle.sgx_rules.proofs.Contents.{invalid_no_va, loading_no_va}
 use Rattle.sgx_types.proofs.Truths.{neither}
-use Rattle.evict_reload.specs.Sights.{AreVaPages, slot_sight}
-use Rattle.evict_reload.specs.Effects.{with_ended, with_plain}
+use Rattle.evict_reload.specs.inner.Sights.{AreVaPages, slot_sight}
+use Rattle.evict_reload.specs.inner.Effects.{with_ended, with_plain}
 use Rattle.evict_reload.proofs.SlotLaws.{is_slot}
 use Rattle.evict_reload.proofs.PageLaws.{pages-with_entry, pages-with_words, pages-with_slot, pages-cleared, is_va-outgoing}
 

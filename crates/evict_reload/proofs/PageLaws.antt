@@ -11,15 +11,15 @@ use Rattle.sgx_types.specs.declared.names.SlotAt.{SlotAt}
 use Rattle.sgx_rules.specs.Table.{is_va}
 use Rattle.epcm_entry.specs.declared.entry_view.EntryView.{EntryView}
 use Rattle.epcm_entry.specs.declared.entry_view.EntryView.TheVariants as views
-use Rattle.epcm_entry.specs.EntryView.{holding, with_block, outgoing}
-use Rattle.epcm_entry.specs.Epc.{EpcFrame, entry_at, with_entry, with_page, with_words, cleared, free_frame, free_frames}
-use Rattle.epcm_entry.specs.Sights.{held, sight_in}
+use Rattle.epcm_entry.specs.inner.EntryView.{holding, with_block, outgoing}
+use Rattle.epcm_entry.specs.inner.Epc.{EpcFrame, entry_at, with_entry, with_page, with_words, cleared, free_frame, free_frames}
+use Rattle.epcm_entry.specs.inner.Sights.{held, sight_in}
 use Rattle.epcm_entry.proofs.Columns.{entry_at-with_entry, entry_at-with_words, entry_at-cleared}
 use Rattle.version_array.specs.declared.va_page.VaSlot.{VaSlot}
-use Rattle.version_array.specs.Slots.{IsSlot, with_slot}
-use Rattle.version_array.specs.Slots.{with_page as with_va_page}
+use Rattle.version_array.specs.inner.Slots.{IsSlot, with_slot}
+use Rattle.version_array.specs.inner.Slots.{with_page as with_va_page}
 use Rattle.version_array.proofs.TableLaws.{has_page-with_slot, has_page-with_page}
-use Rattle.evict_reload.specs.Sights.{AreVaPages}
+use Rattle.evict_reload.specs.inner.Sights.{AreVaPages}
 
 -- the entry of one frame changes, and says as before whether the frame holds a version array page
 moved : (epc : List EpcFrame) (f n : ℕ) (entry : EntryView) → is_va (held entry) ≡ is_va (held (entry_at epc f))

@@ -3,12 +3,12 @@ use Rattle.std.proofs.Common.{◌≡◌, ℕ, ◌<◌, true, false, List, Option
 use Rattle.std.proofs.lemmas.Bool.{false≢true}
 use Rattle.sgx_types.specs.declared.names.SlotAt.{SlotAt}
 use Rattle.sgx_rules.specs.Table.{is_va}
-use Rattle.epcm_entry.specs.Epc.{EpcFrame}
-use Rattle.epcm_entry.specs.Sights.{sight_in}
+use Rattle.epcm_entry.specs.inner.Epc.{EpcFrame}
+use Rattle.epcm_entry.specs.inner.Sights.{sight_in}
 use Rattle.version_array.specs.declared.va_page.VaSlot.{VaSlot}
-use Rattle.version_array.specs.Slots.{IsSlot, page_at, page_slots, is_busy_at, empty_slot}
+use Rattle.version_array.specs.inner.Slots.{IsSlot, page_at, page_slots, is_busy_at, empty_slot}
 use Rattle.std.specs.Prelude.{is_some, slice_index_or}
-use Rattle.evict_reload.specs.Sights.{AreVaPages}
+use Rattle.evict_reload.specs.inner.Sights.{AreVaPages}
 
 -- the slots of a version array page in a frame are slots of the table
 pub is_slot : (epc : List EpcFrame) (va : List (Option (List VaSlot))) (slot : SlotAt) → AreVaPages epc va

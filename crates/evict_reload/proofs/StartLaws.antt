@@ -3,9 +3,9 @@ use Rattle.std.proofs.Common.{◌≡◌, ℕ, Bool, true, false, ◌||◌, List,
 use Rattle.sgx_rules.specs.Table.{EnclaveSight, SlotSight, is_busy, is_loading, first_of_row, eldstart_row}
 use Rattle.epcm_entry.specs.declared.entry_view.EntryView.{EntryView}
 use Rattle.epcm_entry.specs.declared.entry_view.EntryView.TheVariants as views
-use Rattle.epcm_entry.specs.EntryView.{claim_answer, goes_out}
-use Rattle.epcm_entry.specs.Epc.{EpcFrame, entry_at}
-use Rattle.epcm_entry.specs.Sights.{sight_in, held}
+use Rattle.epcm_entry.specs.inner.EntryView.{claim_answer, goes_out}
+use Rattle.epcm_entry.specs.inner.Epc.{EpcFrame, entry_at}
+use Rattle.epcm_entry.specs.inner.Sights.{sight_in, held}
 use Rattle.sgx_rules.proofs.Rows.{none_holds}
 use Rattle.sgx_types.proofs.Truths.{neither}
 

@@ -1,2 +1,1 @@
-pub mod Sights
-pub mod Effects
+pub mod inner

@@ -1,10 +1,11 @@
 //! EBLOCK: no new translation of a page is made.
 
 ghost use Rattle.std.specs.Prelude.{◌≡◌, OnOk, OnErr};
-ghost use Rattle.sgx_rules.specs.Table.{refusal_in, first_of_row, block_row};
-ghost use Rattle.epcm_entry.specs.Sights.{sight_in};
-ghost use Rattle.evict_reload.specs.Sights.{IsNumbered};
-ghost use Rattle.evict_reload.specs.Effects.{with_blocked};
+ghost use Rattle.sgx_rules.specs.Table.{first_of_row, block_row};
+ghost use Rattle.sgx_rules.specs.inner.Table.{refusal_in};
+ghost use Rattle.epcm_entry.specs.inner.Sights.{sight_in};
+ghost use Rattle.evict_reload.specs.inner.Sights.{IsNumbered};
+ghost use Rattle.evict_reload.specs.inner.Effects.{with_blocked};
 
 use epcm_entry::entry_view::EntryView;
 use epcm_entry::epc::Epc;

@@ -1,15 +1,16 @@
 //! ELDU by a start and a commit: a page comes back.
 
 ghost use Rattle.std.specs.Prelude.{◌≡◌, ◌<◌, true, false, Some, IfOk, OnOk, OnErr, length};
-ghost use Rattle.sgx_rules.specs.Table.{refusal_in, first_of_row, eldstart_row, is_loading};
-ghost use Rattle.epcm_entry.specs.EntryView.{is_valid};
-ghost use Rattle.epcm_entry.specs.Epc.{entry_at, with_loading, with_page, with_words, cleared};
-ghost use Rattle.epcm_entry.specs.Sights.{sight_in};
-ghost use Rattle.epcm_entry.specs.Words.{words_of};
-ghost use Rattle.version_array.specs.Slots.{IsSlot, version_in, with_busy};
-ghost use Rattle.evict_reload.specs.Sights.{AreVaPages, enclave_sight, is_added, added_in, slot_sight};
-ghost use Rattle.seal_record.specs.Row.{eld_row};
-ghost use Rattle.evict_reload.specs.Effects.{header_in, with_ended, with_reloaded};
+ghost use Rattle.sgx_rules.specs.Table.{first_of_row, eldstart_row, is_loading};
+ghost use Rattle.sgx_rules.specs.inner.Table.{refusal_in};
+ghost use Rattle.epcm_entry.specs.inner.EntryView.{is_valid};
+ghost use Rattle.epcm_entry.specs.inner.Epc.{entry_at, with_loading, with_page, with_words, cleared};
+ghost use Rattle.epcm_entry.specs.inner.Sights.{sight_in};
+ghost use Rattle.epcm_entry.specs.inner.Words.{words_of};
+ghost use Rattle.version_array.specs.inner.Slots.{IsSlot, version_in, with_busy};
+ghost use Rattle.evict_reload.specs.inner.Sights.{AreVaPages, enclave_sight, is_added, added_in, slot_sight};
+ghost use Rattle.seal_record.specs.inner.Row.{eld_row};
+ghost use Rattle.evict_reload.specs.inner.Effects.{header_in, with_ended, with_reloaded};
 
 use crate::slot::{is_out_of_range, is_slot_busy};
 use epcm_entry::epc::Epc;

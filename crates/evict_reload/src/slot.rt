@@ -2,9 +2,9 @@
 
 ghost use Rattle.std.specs.Prelude.{◌≡◌, ◌<◌, length};
 ghost use Rattle.sgx_rules.specs.Table.{is_out_of_range};
-ghost use Rattle.epcm_entry.specs.Sights.{sight_in};
-ghost use Rattle.version_array.specs.Slots.{is_busy_at};
-ghost use Rattle.evict_reload.specs.Sights.{AreVaPages, slot_sight};
+ghost use Rattle.epcm_entry.specs.inner.Sights.{sight_in};
+ghost use Rattle.version_array.specs.inner.Slots.{is_busy_at};
+ghost use Rattle.evict_reload.specs.inner.Sights.{AreVaPages, slot_sight};
 
 use epcm_entry::epc::Epc;
 use sgx_types::names::{Frame, SlotAt};

@@ -1,10 +1,11 @@
 //! ETRACK: an enclave's next epoch begins.
 
 ghost use Rattle.std.specs.Prelude.{◌≡◌, ◌+◌, IfOk, OnOk, OnErr};
-ghost use Rattle.sgx_rules.specs.Table.{refusal_in, first_of_row, track_row};
-ghost use Rattle.track_epoch.specs.Tracks.{track_of};
-ghost use Rattle.evict_reload.specs.Sights.{track_sight};
-ghost use Rattle.evict_reload.specs.Effects.{epoch_tracked, with_tracked};
+ghost use Rattle.sgx_rules.specs.Table.{first_of_row, track_row};
+ghost use Rattle.sgx_rules.specs.inner.Table.{refusal_in};
+ghost use Rattle.track_epoch.specs.inner.Tracks.{track_of};
+ghost use Rattle.evict_reload.specs.inner.Sights.{track_sight};
+ghost use Rattle.evict_reload.specs.inner.Effects.{epoch_tracked, with_tracked};
 
 use secs_state::table::SecsTable;
 use sgx_rules::refusals::Refusal;

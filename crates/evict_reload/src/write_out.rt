@@ -1,13 +1,14 @@
 //! EWB by a start and a commit: a page goes out.
 
 ghost use Rattle.std.specs.Prelude.{◌≡◌, ◌+◌, ◌<◌, true, Some, IfOk, OnOk, OnErr};
-ghost use Rattle.sgx_rules.specs.Table.{refusal_in, first_of_row, ewbstart_row};
-ghost use Rattle.epcm_entry.specs.Epc.{entry_at, with_sealing, cleared};
-ghost use Rattle.epcm_entry.specs.Sights.{sight_in};
-ghost use Rattle.version_array.specs.Slots.{IsSlot, with_busy};
-ghost use Rattle.version_array.specs.Versions.{is_spent_at};
-ghost use Rattle.evict_reload.specs.Sights.{AreVaPages, IsNumbered, slot_sight, drain_sight};
-ghost use Rattle.evict_reload.specs.Effects.{page_of, with_ended};
+ghost use Rattle.sgx_rules.specs.Table.{first_of_row, ewbstart_row};
+ghost use Rattle.sgx_rules.specs.inner.Table.{refusal_in};
+ghost use Rattle.epcm_entry.specs.inner.Epc.{entry_at, with_sealing, cleared};
+ghost use Rattle.epcm_entry.specs.inner.Sights.{sight_in};
+ghost use Rattle.version_array.specs.inner.Slots.{IsSlot, with_busy};
+ghost use Rattle.version_array.specs.inner.Versions.{is_spent_at};
+ghost use Rattle.evict_reload.specs.inner.Sights.{AreVaPages, IsNumbered, slot_sight, drain_sight};
+ghost use Rattle.evict_reload.specs.inner.Effects.{page_of, with_ended};
 
 use crate::slot::{is_out_of_range, is_slot_busy};
 use epcm_entry::entry_view::EntryView;

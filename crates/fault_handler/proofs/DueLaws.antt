@@ -14,7 +14,7 @@ use Rattle.sgx_types.specs.declared.names.SlotAt.{SlotAt}
 use Rattle.sgx_rules.specs.declared.refusals.Refusal.{Refusal}
 use Rattle.sgx_rules.specs.Frames.{content, is_page, least_free}
 use Rattle.sgx_types.specs.Making.{Making}
-use Rattle.sgx_rules.specs.Rules.{LoadsAwayRule}
+use Rattle.sgx_rules.specs.inner.Rules.{LoadsAwayRule}
 use Rattle.sgx_types.specs.Sealed.{Sealed}
 use Rattle.sgx_rules.specs.Starts.{Start, is_load_of, open_start}
 use Rattle.sgx_rules.specs.Table.{first_of_row}
@@ -23,31 +23,31 @@ use Rattle.job_grammar.specs.Jobs.{JobView}
 use Rattle.backing_store.specs.Calls.{Call}
 use Rattle.backing_store.specs.declared.backing.StoreFault.{StoreFault}
 use Rattle.backing_store.specs.declared.backing.StoreFault.TheVariants as faults
-use Rattle.active_list.specs.Places.{IsPlaced}
-use Rattle.active_list.specs.States.{state_of as page_state}
+use Rattle.active_list.specs.inner.Places.{IsPlaced}
+use Rattle.active_list.specs.inner.States.{state_of as page_state}
 use Rattle.active_list.specs.declared.page_states.PageState.{PageState}
 use Rattle.active_list.specs.declared.page_states.PageState.TheVariants as states
-use Rattle.paging_laws.specs.State.{row_of}
-use Rattle.paging_laws.specs.Steps.{IsDone, answer_of, did_by, refused_by}
-use Rattle.paging_machine.specs.Parts.{Parts, state_of}
+use Rattle.paging_laws.specs.inner.State.{row_of}
+use Rattle.paging_laws.specs.inner.Steps.{IsDone, answer_of, did_by, refused_by}
+use Rattle.paging_machine.specs.inner.Parts.{Parts, state_of}
 use Rattle.driver_rules.specs.declared.waits.Why.TheVariants as waits
 use Rattle.driver_rules.specs.Dues.{IsNext}
 use Rattle.driver_rules.specs.Dues as dues
 use Rattle.driver_rules.specs.Places.{Away, is_here, place}
-use Rattle.driver_rules.specs.Reclaims.{is_refused}
+use Rattle.driver_rules.specs.inner.Reclaims.{is_refused}
 use Rattle.driver_rules.specs.Turns.{fetches}
-use Rattle.driver_laws.specs.Kinds.{CanMove}
-use Rattle.driver_laws.specs.Sound.{IsSound, load_slot, slot_if, slot_loading, stands_in}
+use Rattle.driver_laws.specs.inner.Kinds.{CanMove}
+use Rattle.driver_laws.specs.inner.Sound.{IsSound, load_slot, slot_if, slot_loading, stands_in}
 use Rattle.driver_laws.proofs.HistoryLaws.{least_is_free}
 use Rattle.driver_tables.specs.declared.driver.Driver.{Driver}
-use Rattle.driver_tables.specs.Moves.{with_load}
-use Rattle.driver_tables.specs.Tables.{ShowsTables, place_in}
+use Rattle.driver_tables.specs.inner.Moves.{with_load}
+use Rattle.driver_tables.specs.inner.Tables.{ShowsTables, place_in}
 use Rattle.driver_tables.proofs.LoadShowLaws.{shows_bus, shows_load_start}
 use Rattle.fault_handler.specs.declared.answers.FaultAnswer.{FaultAnswer}
 use Rattle.fault_handler.specs.declared.answers.FaultAnswer.TheVariants as answers
-use Rattle.fault_handler.specs.Due.{IsRight, WaitsBy}
-use Rattle.driver_steps.specs.Agrees.{Agrees}
-use Rattle.fault_handler.specs.Resolving.{IsFetch, IsGot, IsResolved, IsSaid, IsStarted}
+use Rattle.fault_handler.specs.inner.Due.{IsRight, WaitsBy}
+use Rattle.driver_steps.specs.inner.Agrees.{Agrees}
+use Rattle.fault_handler.specs.inner.Resolving.{IsFetch, IsGot, IsResolved, IsSaid, IsStarted}
 use Rattle.fault_handler.proofs.LoadRows.{frames_are, load_row}
 
 -- no frame holds or loads a page that is away

@@ -18,39 +18,40 @@ use Rattle.sgx_rules.specs.declared.refusals.Refusal.TheVariants as why
 use Rattle.sgx_rules.specs.Frames.{content}
 use Rattle.sgx_types.specs.Making.{Making}
 use Rattle.sgx_types.specs.Sealed.{Sealed}
-use Rattle.sgx_rules.specs.Starts.{Start, open_start, BareStart}
+use Rattle.sgx_rules.specs.Starts.{Start, open_start}
+use Rattle.sgx_rules.specs.inner.Starts.{BareStart}
 use Rattle.sgx_rules.specs.Table.{first_of_row, is_loading}
 use Rattle.sgx_rules.proofs.Busy.{IsBareOf}
-use Rattle.epcm_entry.specs.Words.{words_of}
+use Rattle.epcm_entry.specs.inner.Words.{words_of}
 use Rattle.job_grammar.specs.Jobs.{JobView}
-use Rattle.active_list.specs.Keeping.{Kept, keeping, kept_at, page_kept}
-use Rattle.active_list.specs.Places.{IsPlaced}
-use Rattle.active_list.specs.States.{state_of as page_state}
+use Rattle.active_list.specs.inner.Keeping.{Kept, keeping, kept_at, page_kept}
+use Rattle.active_list.specs.inner.Places.{IsPlaced}
+use Rattle.active_list.specs.inner.States.{state_of as page_state}
 use Rattle.active_list.specs.declared.page_states.PageState.{PageState}
 use Rattle.active_list.specs.declared.page_states.PageState.TheVariants as states
 use Rattle.seal_record.specs.Cipher.{cipher, tag}
-use Rattle.seal_record.specs.Row.{eld_row, is_header}
-use Rattle.paging_laws.specs.State.{State, after_eld, after_failed_eld}
-use Rattle.paging_laws.specs.Steps.{commit_row, did_by, refused_by}
+use Rattle.seal_record.specs.inner.Row.{eld_row, is_header}
+use Rattle.paging_laws.specs.inner.State.{State, after_eld, after_failed_eld}
+use Rattle.paging_laws.specs.inner.Steps.{commit_row, did_by, refused_by}
 use Rattle.paging_laws.proofs.ColumnLaws.{content_is}
 use Rattle.paging_laws.proofs.SlotLaws.{started_as}
-use Rattle.paging_machine.specs.Parts.{Parts, state_of}
+use Rattle.paging_machine.specs.inner.Parts.{Parts, state_of}
 use Rattle.driver_rules.specs.Places.{Loading, active, place}
 use Rattle.driver_rules.specs.Dues.{Ends, IsNext}
-use Rattle.driver_rules.specs.Reclaims.{is_refused}
+use Rattle.driver_rules.specs.inner.Reclaims.{is_refused}
 use Rattle.driver_rules.specs.Turns.{Fails, Loads, fails_with, last_of, load_of}
-use Rattle.driver_laws.specs.Agrees.{loaded_by}
-use Rattle.driver_laws.specs.Kinds.{CanMove}
-use Rattle.driver_laws.specs.Sound.{is_absent, is_load_start, once_here, slot_at}
+use Rattle.driver_laws.specs.inner.Agrees.{loaded_by}
+use Rattle.driver_laws.specs.inner.Kinds.{CanMove}
+use Rattle.driver_laws.specs.inner.Sound.{is_absent, is_load_start, once_here, slot_at}
 use Rattle.driver_laws.proofs.LoadLaws.{loading_place}
 use Rattle.driver_tables.specs.declared.driver.Driver.{Driver}
-use Rattle.driver_tables.specs.Tables.{ShowsTables, place_in}
+use Rattle.driver_tables.specs.inner.Tables.{ShowsTables, place_in}
 use Rattle.driver_tables.proofs.LoadShowLaws.{shows_bus, shows_load_end, shows_load_refused}
 use Rattle.driver_tables.proofs.ListLaws.{not_listed}
 use Rattle.fault_handler.specs.declared.answers.Loaded.{Loaded}
-use Rattle.fault_handler.specs.Due.{IsRightEnd}
-use Rattle.fault_handler.specs.Finishing.{CanFinish, IsFinished, bus_why}
-use Rattle.driver_steps.specs.Agrees.{Agrees}
+use Rattle.fault_handler.specs.inner.Due.{IsRightEnd}
+use Rattle.fault_handler.specs.inner.Finishing.{CanFinish, IsFinished, bus_why}
+use Rattle.driver_steps.specs.inner.Agrees.{Agrees}
 
 -- ---- what is known of a page that loads
 

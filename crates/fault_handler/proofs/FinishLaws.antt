@@ -5,15 +5,15 @@ use Rattle.sgx_types.specs.declared.names.Frame.{Frame}
 use Rattle.sgx_types.specs.declared.names.Page.{Page}
 use Rattle.sgx_types.specs.declared.names.SlotAt.{SlotAt}
 use Rattle.sgx_types.specs.Sealed.{Sealed}
-use Rattle.active_list.specs.Keeping.{kept_at, record_kept}
-use Rattle.active_list.specs.States.{state_of as page_state}
+use Rattle.active_list.specs.inner.Keeping.{kept_at, record_kept}
+use Rattle.active_list.specs.inner.States.{state_of as page_state}
 use Rattle.active_list.specs.declared.page_states.PageState.{PageState}
 use Rattle.active_list.specs.declared.page_states.PageState.TheVariants.{Loading}
-use Rattle.paging_laws.specs.State.{State}
-use Rattle.paging_machine.specs.Parts.{Parts}
+use Rattle.paging_laws.specs.inner.State.{State}
+use Rattle.paging_machine.specs.inner.Parts.{Parts}
 use Rattle.driver_tables.specs.declared.driver.Driver.{Driver}
 use Rattle.fault_handler.specs.declared.answers.Loaded.{Loaded}
-use Rattle.fault_handler.specs.Finishing.{CanFinish, IsFinished}
+use Rattle.fault_handler.specs.inner.Finishing.{CanFinish, IsFinished}
 
 abbrev frame_or : Frame → PageState → Frame
 frame_or other (Loading frame slot) = frame

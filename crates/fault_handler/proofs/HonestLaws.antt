@@ -14,32 +14,33 @@ use Rattle.sgx_rules.specs.Fresh.{Out, last_out}
 use Rattle.sgx_types.specs.Making.{Making}
 use Rattle.sgx_types.specs.Sealed.{Sealed, header_of}
 use Rattle.sgx_rules.specs.Slots.{version_in}
-use Rattle.sgx_rules.specs.Starts.{Start, loads_page, open_start, BareStart}
+use Rattle.sgx_rules.specs.Starts.{Start, loads_page, open_start}
+use Rattle.sgx_rules.specs.inner.Starts.{BareStart}
 use Rattle.seal_record.specs.Cipher.{tag}
-use Rattle.paging_laws.specs.Columns.{EnclaveColumns}
+use Rattle.paging_laws.specs.inner.Columns.{EnclaveColumns}
 use Rattle.paging_laws.proofs.ColumnLaws.{added_is}
-use Rattle.paging_laws.specs.State.{State}
-use Rattle.paging_laws.specs.Steps.{IsComing}
+use Rattle.paging_laws.specs.inner.State.{State}
+use Rattle.paging_laws.specs.inner.Steps.{IsComing}
 use Rattle.paging_laws.proofs.SlotLaws.{started_as}
-use Rattle.paging_machine.specs.Parts.{Parts, state_of}
+use Rattle.paging_machine.specs.inner.Parts.{Parts, state_of}
 use Rattle.backing_store.specs.Calls.{Call}
 use Rattle.job_grammar.specs.Jobs.{JobView}
 use Rattle.driver_rules.specs.Places.{Loading, place}
-use Rattle.driver_rules.specs.Reclaims.{is_refused}
-use Rattle.driver_laws.specs.Sound.{load_slot, slot_if, slot_outside, version_out}
+use Rattle.driver_rules.specs.inner.Reclaims.{is_refused}
+use Rattle.driver_laws.specs.inner.Sound.{load_slot, slot_if, slot_outside, version_out}
 use Rattle.driver_tables.specs.declared.driver.Driver.{Driver}
-use Rattle.driver_tables.specs.Tables.{place_in}
-use Rattle.driver_steps.specs.Agrees.{Agrees}
+use Rattle.driver_tables.specs.inner.Tables.{place_in}
+use Rattle.driver_steps.specs.inner.Agrees.{Agrees}
 use Rattle.run_history.specs.Given.{gift}
-use Rattle.run_history.specs.Honest.{GiftsAreLast, IsLastPut}
+use Rattle.run_history.specs.inner.Honest.{GiftsAreLast, IsLastPut}
 use Rattle.run_history.specs.Stored.{StoreCalls}
 use Rattle.run_history.proofs.HonestLaws.{last_sealed, load_at}
-use Rattle.active_list.specs.Places.{IsPlaced}
+use Rattle.active_list.specs.inner.Places.{IsPlaced}
 use Rattle.sgx_types.specs.declared.names.Actor.TheVariants as actors
-use Rattle.sgx_rules.specs.Enclaves.{EnclavesAreFlat}
+use Rattle.sgx_rules.specs.inner.Enclaves.{EnclavesAreFlat}
 use Rattle.sgx_rules.proofs.Busy.{IsBareOf}
 use Rattle.fault_handler.specs.declared.answers.Loaded.{Loaded}
-use Rattle.fault_handler.specs.Finishing.{CanFinish, IsBack, IsFinished}
+use Rattle.fault_handler.specs.inner.Finishing.{CanFinish, IsBack, IsFinished}
 use Rattle.fault_handler.proofs.OwnRecords.{own_record}
 
 -- a version that is told

@@ -17,18 +17,18 @@ use Rattle.sgx_rules.specs.Table.{EnclaveSight, FrameSight, SlotSight, eldstart_
 use Rattle.sgx_rules.specs.Starts.{open_start}
 use Rattle.turn_rules.specs.Script.{frame_at}
 use Rattle.job_grammar.specs.Jobs.{JobView}
-use Rattle.version_array.specs.Keeper.{is_added, is_among, is_ours, is_out}
-use Rattle.paging_laws.specs.State.{State, row_of, sight, slot_sight}
+use Rattle.version_array.specs.inner.Keeper.{is_added, is_among, is_ours, is_out}
+use Rattle.paging_laws.specs.inner.State.{State, row_of, sight, slot_sight}
 use Rattle.paging_laws.proofs.ColumnLaws.{added_is, sight_is, version_is}
-use Rattle.paging_laws.specs.Shape.{IsShaped}
-use Rattle.paging_machine.specs.Parts.{Parts, state_of}
+use Rattle.paging_laws.specs.inner.Shape.{IsShaped}
+use Rattle.paging_machine.specs.inner.Parts.{Parts, state_of}
 use Rattle.driver_rules.specs.Places.{Away, place}
-use Rattle.driver_laws.specs.Sound.{is_absent, slot_at}
+use Rattle.driver_laws.specs.inner.Sound.{is_absent, slot_at}
 use Rattle.driver_laws.proofs.HistoryLaws.{least_is_free}
 use Rattle.driver_laws.proofs.RowLaws.{array_within, load_goes}
 use Rattle.driver_steps.proofs.PartLaws.{added_created, seen_made}
 use Rattle.driver_tables.specs.declared.driver.Driver.{Driver}
-use Rattle.driver_steps.specs.Agrees.{Agrees}
+use Rattle.driver_steps.specs.inner.Agrees.{Agrees}
 
 -- ---- the least free frame is one of the EPC
 

@@ -11,10 +11,10 @@ use Rattle.sgx_rules.specs.declared.refusals.Refusal.{Refusal}
 use Rattle.sgx_types.specs.Sealed.{Sealed}
 use Rattle.sgx_rules.specs.Table.{first_of_row}
 use Rattle.seal_record.specs.Cipher.{tag}
-use Rattle.seal_record.specs.Row.{eld_row, same_header}
-use Rattle.paging_laws.specs.State.{State}
-use Rattle.paging_laws.specs.Steps.{IsReloaded, commit_row}
-use Rattle.driver_rules.specs.Reclaims.{is_refused}
+use Rattle.seal_record.specs.inner.Row.{eld_row, same_header}
+use Rattle.paging_laws.specs.inner.State.{State}
+use Rattle.paging_laws.specs.inner.Steps.{IsReloaded, commit_row}
+use Rattle.driver_rules.specs.inner.Reclaims.{is_refused}
 
 same_bytes : (xs : List ℕ) → bytes_eq xs xs ≡ true
 same_bytes xs = (bytes_eq-Decides xs xs).1 refl

@@ -11,19 +11,19 @@ use Rattle.sgx_types.specs.declared.names.Page.{Page}
 use Rattle.sgx_types.specs.declared.names.SlotAt.{SlotAt}
 use Rattle.sgx_rules.specs.declared.refusals.Refusal.{Refusal}
 use Rattle.sgx_rules.specs.Table.{first_of_row, is_loading}
-use Rattle.paging_laws.specs.State.{State, after_eldstart, row_of}
-use Rattle.paging_laws.specs.Steps.{IsDone, IsStep, refused_by}
+use Rattle.paging_laws.specs.inner.State.{State, after_eldstart, row_of}
+use Rattle.paging_laws.specs.inner.Steps.{IsDone, IsStep, refused_by}
 use Rattle.sgx_types.specs.Sealed.{Sealed}
-use Rattle.sgx_rules.specs.Starts.{BareStart}
+use Rattle.sgx_rules.specs.inner.Starts.{BareStart}
 use Rattle.std.specs.Option.{IsSomeAnd}
 use Rattle.std.specs.Global.{Box}
 use Rattle.seal_record.specs.declared.unseal.UnsealWork.{UnsealWork}
-use Rattle.paging_machine.specs.Parts.{Parts, state_of}
-use Rattle.driver_rules.specs.Reclaims.{is_refused}
-use Rattle.driver_steps.specs.Carried.{Carries}
+use Rattle.paging_machine.specs.inner.Parts.{Parts, state_of}
+use Rattle.driver_rules.specs.inner.Reclaims.{is_refused}
+use Rattle.driver_steps.specs.inner.Carried.{Carries}
 use Rattle.driver_tables.specs.declared.driver.Driver.{Driver}
-use Rattle.fault_handler.specs.Resolving.{IsStarted, IsToOpen}
-use Rattle.driver_tables.specs.Moves.{with_load}
+use Rattle.fault_handler.specs.inner.Resolving.{IsStarted, IsToOpen}
+use Rattle.driver_tables.specs.inner.Moves.{with_load}
 use Rattle.fault_handler.specs.declared.answers.FaultAnswer.TheVariants as answers
 
 -- where it is not refused, the frame waits for the page

@@ -1,4 +1,1 @@
-pub mod Resolving
-pub mod Finishing
-pub mod Repeating
-pub mod Due
+pub mod inner

@@ -5,10 +5,10 @@ ghost use Rattle.sgx_types.specs.Making.{Making};
 ghost use Rattle.sgx_rules.specs.declared.entries.Entry.{Entry};
 ghost use Rattle.job_grammar.specs.Jobs.{JobView};
 ghost use Rattle.driver_rules.specs.Turns.{Loads, last_of};
-ghost use Rattle.fault_handler.specs.Due.{IsRightEnd};
-ghost use Rattle.driver_steps.specs.Agrees.{Agrees};
-ghost use Rattle.fault_handler.specs.Finishing.{CanFinish, Ends, IsFinished, IsToList, bus_why};
-ghost use Rattle.paging_machine.specs.Parts.{state_of};
+ghost use Rattle.fault_handler.specs.inner.Due.{IsRightEnd};
+ghost use Rattle.driver_steps.specs.inner.Agrees.{Agrees};
+ghost use Rattle.fault_handler.specs.inner.Finishing.{CanFinish, Ends, IsFinished, IsToList, bus_why};
+ghost use Rattle.paging_machine.specs.inner.Parts.{state_of};
 
 use crate::answers::Loaded;
 use active_list::kept_records::copy_record;

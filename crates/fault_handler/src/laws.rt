@@ -3,27 +3,27 @@
 ghost use Rattle.std.specs.Prelude.{ℕ, ◌≡◌, ◌<◌, false, List, Some, length};
 ghost use Rattle.driver_rules.specs.Turns.{Loads, last_of};
 ghost use Rattle.driver_tables.specs.declared.driver.Driver.{Driver};
-ghost use Rattle.fault_handler.specs.Finishing.{CanFinish, IsBack, IsFinished};
+ghost use Rattle.fault_handler.specs.inner.Finishing.{CanFinish, IsBack, IsFinished};
 ghost use Rattle.fault_handler.specs.declared.answers.Loaded.{Loaded};
 ghost use Rattle.backing_store.specs.Calls.{Call};
 ghost use Rattle.run_history.specs.Given.{gift};
-ghost use Rattle.run_history.specs.Honest.{GiftsAreLast};
+ghost use Rattle.run_history.specs.inner.Honest.{GiftsAreLast};
 ghost use Rattle.run_history.specs.Stored.{StoreCalls};
-ghost use Rattle.driver_steps.specs.Agrees.{Agrees};
-ghost use Rattle.driver_rules.specs.Reclaims.{is_refused};
-ghost use Rattle.paging_laws.specs.State.{State};
-ghost use Rattle.paging_laws.specs.Steps.{IsReloaded};
+ghost use Rattle.driver_steps.specs.inner.Agrees.{Agrees};
+ghost use Rattle.driver_rules.specs.inner.Reclaims.{is_refused};
+ghost use Rattle.paging_laws.specs.inner.State.{State};
+ghost use Rattle.paging_laws.specs.inner.Steps.{IsReloaded};
 ghost use Rattle.seal_record.specs.Cipher.{tag};
 ghost use Rattle.sgx_types.specs.Sealed.{Sealed};
 ghost use Rattle.sgx_types.specs.declared.names.Actor.{Actor};
 ghost use Rattle.sgx_types.specs.declared.names.Frame.{Frame};
 ghost use Rattle.job_grammar.specs.Jobs.{JobView};
-ghost use Rattle.paging_machine.specs.Parts.{Parts, state_of};
+ghost use Rattle.paging_machine.specs.inner.Parts.{Parts, state_of};
 ghost use Rattle.sgx_types.specs.Making.{Making};
 ghost use Rattle.sgx_rules.specs.declared.entries.Entry.{Entry};
 ghost use Rattle.sgx_types.specs.declared.names.Cpu.{Cpu};
 ghost use Rattle.sgx_types.specs.declared.names.Page.{Page};
-ghost use Rattle.sgx_rules.specs.Enclaves.{EnclavesAreFlat};
+ghost use Rattle.sgx_rules.specs.inner.Enclaves.{EnclavesAreFlat};
 
 /// A load that ends by a record with the page's header, and with the tag of it under the version that its start found, is not refused,
 /// whatever the record's cipher is. Nothing is supposed of other records.

@@ -1,8 +1,8 @@
 //! The work of a load that has started, again.
 
 ghost use Rattle.std.specs.Prelude.{◌≡◌, ◌<◌, length, IfOk, IfSome};
-ghost use Rattle.active_list.specs.Keeping.{kept_at, page_kept};
-ghost use Rattle.fault_handler.specs.Repeating.{IsAgain, WaitsFor};
+ghost use Rattle.active_list.specs.inner.Keeping.{kept_at, page_kept};
+ghost use Rattle.fault_handler.specs.inner.Repeating.{IsAgain, WaitsFor};
 
 use crate::rooms::room;
 use active_list::kept_records::copy_record;

@@ -1,17 +1,17 @@
 //! The first half of a fault step: a page's record is asked for, and its load starts.
 
 ghost use Rattle.std.specs.Prelude.{List, ◌≡◌, ◌<◌, ◌≤◌, Some, length, IfOk, OnErr};
-ghost use Rattle.active_list.specs.Places.{IsPlaced};
-ghost use Rattle.active_list.specs.States.{state_of as page_state};
+ghost use Rattle.active_list.specs.inner.Places.{IsPlaced};
+ghost use Rattle.active_list.specs.inner.States.{state_of as page_state};
 ghost use Rattle.sgx_types.specs.Making.{Making};
 ghost use Rattle.sgx_rules.specs.declared.entries.Entry.{Entry};
 ghost use Rattle.job_grammar.specs.Jobs.{JobView};
-ghost use Rattle.fault_handler.specs.Due.{IsRight};
-ghost use Rattle.driver_steps.specs.Agrees.{Agrees};
+ghost use Rattle.fault_handler.specs.inner.Due.{IsRight};
+ghost use Rattle.driver_steps.specs.inner.Agrees.{Agrees};
 ghost use Rattle.std.specs.Result.{IsOkAnd};
-ghost use Rattle.io_edges.specs.Faults.{HasCause};
-ghost use Rattle.fault_handler.specs.Resolving.{TellsFault, IsFetch, IsResolved, IsStarted};
-ghost use Rattle.paging_machine.specs.Parts.{state_of};
+ghost use Rattle.io_edges.specs.inner.Faults.{HasCause};
+ghost use Rattle.fault_handler.specs.inner.Resolving.{TellsFault, IsFetch, IsResolved, IsStarted};
+ghost use Rattle.paging_machine.specs.inner.Parts.{state_of};
 ghost use Rattle.sgx_rules.specs.Frames.{least_free};
 
 use crate::answers::FaultAnswer;

@@ -10,8 +10,9 @@ use Rattle.sgx_rules.specs.Flat.{fresh, rewritten, with_words, with_busy, with_c
 use Rattle.flat_machine.specs.declared.table.PlainPage.{PlainPage}
 use Rattle.flat_machine.specs.declared.flat.Processor.{Processor}
 use Rattle.flat_machine.specs.declared.flat.Enclave.{Enclave}
-use Rattle.flat_machine.specs.Parts.{FlatParts, look, with_slot, with_word, with_busy_mark, page_of, busy_of, cpu_of, memory_of, idle}
-use Rattle.flat_machine.specs.Parts.{enclave_of}
+use Rattle.flat_machine.specs.inner.Parts.{FlatParts, look, with_slot, with_word, with_busy_mark, page_of, busy_of, cpu_of}
+use Rattle.flat_machine.specs.inner.Parts.{memory_of, idle}
+use Rattle.flat_machine.specs.inner.Parts.{enclave_of}
 use Rattle.sgx_types.proofs.Pages.{same_pages}
 use Rattle.sgx_types.proofs.Truths.{eqb-swap}
 use Rattle.flat_machine.proofs.Lists.{get_or-set_if, like}

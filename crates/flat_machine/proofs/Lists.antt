@@ -3,11 +3,12 @@ use Rattle.std.proofs.Common.{ℕ, zero, suc, ◌≡◌, ◌≤◌, ◌<◌, ◌
 use Rattle.std.proofs.Common.{◌∙◌, cond, ◌&&◌, true, false, Option, None, List, [], ◌∷◌, ◌++◌, length, replicate, set}
 use Rattle.std.proofs.Common.{get_or, ltb}
 use Rattle.std.proofs.lemmas.Bool.{ltb-false, cond_both, cases_lt, eqb-true, eq-eqb, false≢true}
-use Rattle.std.proofs.lemmas.List.{replicate-append-replicate, get_or-replicate, length-replicate, get_or-set_same, get_or-set_other}
+use Rattle.std.proofs.lemmas.List.{replicate-append-replicate, get_or-replicate, length-replicate, get_or-set_same}
+use Rattle.std.proofs.lemmas.List.{get_or-set_other}
 use Rattle.std.proofs.lemmas.List.{get_or_past}
 use Rattle.std.specs.List.{flat_map}
 use Rattle.flat_machine.specs.declared.table.PlainPage.{PlainPage}
-use Rattle.flat_machine.specs.Parts.{words_in}
+use Rattle.flat_machine.specs.inner.Parts.{words_in}
 
 -- one item more
 pub replicate_more : {X : Type 0} (n : ℕ) (x : X) → replicate n x ++ x ∷ [] ≡ replicate (n + 1) x

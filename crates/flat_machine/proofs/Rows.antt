@@ -12,12 +12,13 @@ use Rattle.sgx_types.specs.declared.lawful.PageInit.TheVariants as inits
 use Rattle.sgx_types.specs.Pages.{same_page, page_at}
 use Rattle.sgx_rules.specs.Table as table
 use Rattle.sgx_rules.specs.Table.{first_of_row, create_row, add_row}
-use Rattle.sgx_rules.specs.Flat.{FlatMemory, FlatPage, FlatEnclave, open_frame, enclave_sight_of, marked, initialised, with_enclave}
+use Rattle.sgx_rules.specs.Flat.{FlatMemory, FlatPage, FlatEnclave, open_frame, enclave_sight_of, marked, initialised}
+use Rattle.sgx_rules.specs.Flat.{with_enclave}
 use Rattle.sgx_rules.specs.Flat.{with_page, with_busy, with_cpu, with_words, rewritten, left, is_inside_by}
 use Rattle.flat_machine.specs.declared.table.PlainPage.{PlainPage}
 use Rattle.flat_machine.specs.declared.flat.Enclave.{Enclave}
-use Rattle.flat_machine.specs.Parts.{FlatParts, look, with_slot, page_of, busy_of, enclave_of, memory_of, seat}
-use Rattle.flat_machine.specs.Whole.{page_count}
+use Rattle.flat_machine.specs.inner.Parts.{FlatParts, look, with_slot, page_of, busy_of, enclave_of, memory_of, seat}
+use Rattle.flat_machine.specs.inner.Whole.{page_count}
 use Rattle.sgx_types.proofs.Pages.{same_pages}
 use Rattle.sgx_rules.proofs.Rows.{none_holds}
 use Rattle.sgx_types.proofs.Truths.{both_true, eqb-swap, neither, not_false}

@@ -1,4 +1,1 @@
-pub mod Parts
-pub mod Whole
-pub mod Step
-pub mod Bytes
+pub mod inner

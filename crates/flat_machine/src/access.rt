@@ -6,8 +6,8 @@ ghost use Rattle.sgx_rules.specs.Table.{first_of_row, access_row, load_row, stor
 ghost use Rattle.sgx_rules.specs.Table.{outload_row, outstore_row, allows, is_lawful_access, fault_of};
 ghost use Rattle.sgx_rules.specs.declared.entries.AccessOp.TheVariants as accesses;
 ghost use Rattle.sgx_rules.specs.Flat.{flat_translation, added_at_offset, word_seen, stored, sum_of, all_ones, with_acc};
-ghost use Rattle.flat_machine.specs.Parts.{memory_of, kind_of};
-ghost use Rattle.flat_machine.specs.Step.{replied, taken, allowed_by};
+ghost use Rattle.flat_machine.specs.inner.Parts.{memory_of, kind_of};
+ghost use Rattle.flat_machine.specs.inner.Step.{replied, taken, allowed_by};
 
 use crate::flat::{Flat, Mode, Processor};
 use crate::reply::FlatReply;

@@ -2,8 +2,8 @@
 
 ghost use Rattle.std.specs.Prelude.{◌≡◌, true, IfOk, OnOk, OnErr};
 ghost use Rattle.sgx_rules.specs.Flat.{is_visible};
-ghost use Rattle.flat_machine.specs.Parts.{memory_of};
-ghost use Rattle.flat_machine.specs.Step.{IsItsActor, MayNeedMemory, reply_of, step_of};
+ghost use Rattle.flat_machine.specs.inner.Parts.{memory_of};
+ghost use Rattle.flat_machine.specs.inner.Step.{IsItsActor, MayNeedMemory, reply_of, step_of};
 
 use crate::build::extend;
 use crate::flat::Flat;

@@ -5,8 +5,8 @@ ghost use Rattle.sgx_rules.specs.declared.entries.Answer.TheVariants as answers;
 ghost use Rattle.sgx_types.specs.Pages.{page_at};
 ghost use Rattle.sgx_rules.specs.Table.{first_of_row, create_row, add_row, extend_row, init_row};
 ghost use Rattle.sgx_rules.specs.Flat.{open_frame, some_page, enclave_sight, first_words, with_enclave, with_page, initialised};
-ghost use Rattle.flat_machine.specs.Parts.{memory_of};
-ghost use Rattle.flat_machine.specs.Step.{replied, taken};
+ghost use Rattle.flat_machine.specs.inner.Parts.{memory_of};
+ghost use Rattle.flat_machine.specs.inner.Step.{replied, taken};
 
 use crate::flat::{Enclave, Flat};
 use crate::reply::FlatReply;

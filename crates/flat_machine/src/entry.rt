@@ -6,8 +6,8 @@ ghost use Rattle.sgx_types.specs.Pages.{page_at};
 ghost use Rattle.sgx_rules.specs.Table.{first_of_row, when, entry_row, ssa_row, exit_row, aex_row};
 ghost use Rattle.sgx_rules.specs.Flat.{flat_frame, flat_enter_sight, flat_enter_row, flat_resume_row, fields_in};
 ghost use Rattle.sgx_rules.specs.Flat.{with_words, with_cssa, entered, left, saved, resumed, resumed_word};
-ghost use Rattle.flat_machine.specs.Parts.{memory_of, fields_of, seat};
-ghost use Rattle.flat_machine.specs.Step.{replied, taken};
+ghost use Rattle.flat_machine.specs.inner.Parts.{memory_of, fields_of, seat};
+ghost use Rattle.flat_machine.specs.inner.Step.{replied, taken};
 
 use crate::flat::{Flat, Mode, Processor};
 use crate::reply::FlatReply;

@@ -3,9 +3,10 @@
 ghost use Rattle.std.specs.Prelude.{◌≡◌, ◌<◌, true, replicate, slice_index, slice_set, is_some, IfOk, [], None};
 ghost use Rattle.sgx_types.specs.Pages.{page_at};
 ghost use Rattle.sgx_rules.specs.Flat.{fresh, flat_content, reg_perm, added_as, words_of, with_cpu, with_words, with_busy};
-ghost use Rattle.flat_machine.specs.Parts.{memory_of, look, added_in, kind_of, content_in, words_in, enclave_of, inside_of, cpu_of, idle};
-ghost use Rattle.flat_machine.specs.Parts.{with_slot, with_word, with_busy_mark};
-ghost use Rattle.flat_machine.specs.Bytes.{bytes_in};
+ghost use Rattle.flat_machine.specs.inner.Parts.{memory_of, look, added_in, kind_of, content_in, words_in, enclave_of, inside_of};
+ghost use Rattle.flat_machine.specs.inner.Parts.{cpu_of, idle};
+ghost use Rattle.flat_machine.specs.inner.Parts.{with_slot, with_word, with_busy_mark};
+ghost use Rattle.flat_machine.specs.inner.Bytes.{bytes_in};
 
 use crate::table::{Added, Table};
 use crate::words::Words;
@@ -51,11 +52,11 @@ pub struct Flat {
 }
 
 impl Model for Flat {
-    ghost use Rattle.flat_machine.specs.Parts.{FlatParts};
+    ghost use Rattle.flat_machine.specs.inner.Parts.{FlatParts};
 
     ghost Value = { FlatParts };
 
-    ghost use Rattle.flat_machine.specs.Whole.{parts_of, IsWhole};
+    ghost use Rattle.flat_machine.specs.inner.Whole.{parts_of, IsWhole};
 
     ghost view = { parts_of };
 

@@ -3,8 +3,8 @@
 ghost use Rattle.std.specs.Prelude.{◌≡◌, ◌≤◌, ◌<◌, length, replicate, slice_index, slice_set, slice_index_or, is_some};
 ghost use Rattle.std.specs.Prelude.{IfOk, None, Some};
 ghost use Rattle.std.specs.Option.{option_copied};
-ghost use Rattle.flat_machine.specs.Parts.{added_in, busy_of, page_of, words_in, with_word, with_busy_mark};
-ghost use Rattle.flat_machine.specs.Bytes.{bytes_in};
+ghost use Rattle.flat_machine.specs.inner.Parts.{added_in, busy_of, page_of, words_in, with_word, with_busy_mark};
+ghost use Rattle.flat_machine.specs.inner.Bytes.{bytes_in};
 
 use crate::words::Words;
 use sgx_types::names::{Kind, Memory, Perm};

@@ -8,9 +8,10 @@ use Rattle.frame_gate.specs.declared.view.View.{View}
 use Rattle.frame_gate.specs.declared.view.Ledger.{Ledger}
 use Rattle.frame_gate.specs.declared.view.Pair.{Pair}
 use Rattle.frame_gate.specs.declared.view.Role.TheVariants.{Processor}
-use Rattle.frame_gate.specs.Words.{leave_word}
-use Rattle.frame_gate.specs.Views.{visit, ledger}
-use Rattle.frame_gate.specs.Rule.{total, one_if, is_at, role_at, inside_at, role_entries, entries_of, role_seats, seats_of, AreCounted}
+use Rattle.frame_gate.specs.inner.Words.{leave_word}
+use Rattle.frame_gate.specs.inner.Views.{visit, ledger}
+use Rattle.frame_gate.specs.inner.Rule.{total, one_if, is_at, role_at, inside_at, role_entries, entries_of, role_seats, seats_of}
+use Rattle.frame_gate.specs.inner.Rule.{AreCounted}
 use Rattle.frame_gate.proofs.SumLaws.{sum_set, one_of}
 
 pub not_true : (b : Bool) → (b ≡ true → ⊥) → b ≡ false

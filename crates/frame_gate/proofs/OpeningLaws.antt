@@ -7,8 +7,8 @@ use lib.ListN.{get_elem?}
 use Rattle.atomic_table.specs.Table.{opening}
 use Rattle.frame_gate.specs.declared.view.View.{View}
 use Rattle.frame_gate.specs.declared.view.Written.{Written}
-use Rattle.frame_gate.specs.Views.{start, first_view, first_words, untouched, written_of}
-use Rattle.frame_gate.specs.Rule.{AreCounted, IsMarked, Fits, IsKept}
+use Rattle.frame_gate.specs.inner.Views.{start, first_view, first_words, untouched, written_of}
+use Rattle.frame_gate.specs.inner.Rule.{AreCounted, IsMarked, Fits, IsKept}
 use Rattle.frame_gate.proofs.ProcessorLaws.{all_past_drained}
 
 zeros : (n i : ℕ) → get_or (replicate {A = ℕ} n 0) i 0 ≡ 0

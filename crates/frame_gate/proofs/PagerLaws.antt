@@ -19,13 +19,14 @@ use Rattle.frame_gate.specs.declared.view.Pair.{Pair}
 use Rattle.frame_gate.specs.declared.view.Written.{Written}
 use Rattle.frame_gate.specs.declared.view.Role.{Role}
 use Rattle.frame_gate.specs.declared.view.Role.TheVariants.{Pager, Processor}
-use Rattle.frame_gate.specs.Words.{TableId, leave_word, frame_word, free_word, held_word, blocked_word, generation_in, IsFree, IsHeld}
-use Rattle.frame_gate.specs.Views.{IsDrained, view, after_step, after_load, ledger, emptied, settled}
-use Rattle.frame_gate.specs.Views.{set_back, tracked, written, untouched, written_of, role_settled}
-use Rattle.frame_gate.specs.Views.{role_set_back, role_tracked, blocked_by, role_wrote, role_split, newcomer}
-use Rattle.frame_gate.specs.Rule.{Shared, Seat, total, one_if, is_at, role_at, inside_at, role_entries}
-use Rattle.frame_gate.specs.Rule.{entries_of, role_seats, seats_of, AreCounted, IsMarked, AreWritten}
-use Rattle.frame_gate.specs.Rule.{HasEpoch, IsUntil, CanHold, AreHeld, Fits, IsKept, Settles, SetsBack, Tracks, WritesFrame}
+use Rattle.frame_gate.specs.inner.Words.{TableId, leave_word, frame_word, free_word, held_word, blocked_word, generation_in}
+use Rattle.frame_gate.specs.inner.Words.{IsFree, IsHeld}
+use Rattle.frame_gate.specs.inner.Views.{IsDrained, view, after_step, after_load, ledger, emptied, settled}
+use Rattle.frame_gate.specs.inner.Views.{set_back, tracked, written, untouched, written_of, role_settled}
+use Rattle.frame_gate.specs.inner.Views.{role_set_back, role_tracked, blocked_by, role_wrote, role_split, newcomer}
+use Rattle.frame_gate.specs.inner.Rule.{Shared, Seat, total, one_if, is_at, role_at, inside_at, role_entries}
+use Rattle.frame_gate.specs.inner.Rule.{entries_of, role_seats, seats_of, AreCounted, IsMarked, AreWritten}
+use Rattle.frame_gate.specs.inner.Rule.{HasEpoch, IsUntil, CanHold, AreHeld, Fits, IsKept, Settles, SetsBack, Tracks, WritesFrame}
 use Rattle.frame_gate.proofs.SumLaws.{inside, each_set, sum_snoc, sum_none, none_each}
 use Rattle.frame_gate.proofs.CountLaws.{not_true, at_other, learn_counts, still_counts}
 use Rattle.frame_gate.proofs.ProcessorLaws.{few_entries, frames_still, frames_later, same_sums, all_past_drained}

@@ -19,12 +19,12 @@ use Rattle.frame_gate.specs.declared.view.Pair.{Pair}
 use Rattle.frame_gate.specs.declared.view.Written.{Written}
 use Rattle.frame_gate.specs.declared.view.Role.{Role}
 use Rattle.frame_gate.specs.declared.view.Role.TheVariants.{Pager, Processor}
-use Rattle.frame_gate.specs.Words.{leave_word, frame_word}
-use Rattle.frame_gate.specs.Views.{view, after_step, after_load, visit, pair, generation_of, put}
-use Rattle.frame_gate.specs.Views.{filled, written_of, role_entered, role_left, role_filled, role_holds}
-use Rattle.frame_gate.specs.Rule.{Shared, Seat, total, one_if, is_at, role_at, inside_at, role_entries, entries_of}
-use Rattle.frame_gate.specs.Rule.{role_seats, seats_of, AreCounted, IsMarked, AreWritten, HasEpoch, IsUntil}
-use Rattle.frame_gate.specs.Rule.{CanHold, AreHeld, Fits, IsPastDrained, IsKept, Enters, Leaves, Meets, Fills, Touches}
+use Rattle.frame_gate.specs.inner.Words.{leave_word, frame_word}
+use Rattle.frame_gate.specs.inner.Views.{view, after_step, after_load, visit, pair, generation_of, put}
+use Rattle.frame_gate.specs.inner.Views.{filled, written_of, role_entered, role_left, role_filled, role_holds}
+use Rattle.frame_gate.specs.inner.Rule.{Shared, Seat, total, one_if, is_at, role_at, inside_at, role_entries, entries_of}
+use Rattle.frame_gate.specs.inner.Rule.{role_seats, seats_of, AreCounted, IsMarked, AreWritten, HasEpoch, IsUntil}
+use Rattle.frame_gate.specs.inner.Rule.{CanHold, AreHeld, Fits, IsPastDrained, IsKept, Enters, Leaves, Meets, Fills, Touches}
 use Rattle.frame_gate.proofs.SumLaws.{each_set, sum_set, sum_below, none_each, one_of}
 use Rattle.frame_gate.proofs.CountLaws.{not_true, at_itself, enter_counts, leave_counts, still_counts}
 

@@ -3,7 +3,7 @@ use Rattle.std.proofs.Common.{◌≡◌, ◌≢◌, ℕ, zero, suc, ◌+◌, ◌
 use Rattle.std.proofs.Common.{◌∷◌, ◌++◌, length, set, refl, sym, ap, subst, ⊎_elim, arith}
 use mathlib.Core.Option.{some, some-injective, some-ne-none}
 use lib.ListN.{get_elem?}
-use Rattle.frame_gate.specs.Rule.{total}
+use Rattle.frame_gate.specs.inner.Rule.{total}
 use Rattle.atomic_table.proofs.Lists.{at_set}
 
 module _ {A : Type 0} where

@@ -1,5 +1,1 @@
-pub mod Words
-pub mod Views
-pub mod Rule
-pub mod Known
-pub mod Rounds
+pub mod inner

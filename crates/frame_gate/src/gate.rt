@@ -2,14 +2,15 @@
 
 ghost use Rattle.std.specs.Prelude.{◌≡◌, ◌≢◌, ◌+◌, ◌-◌, ◌*◌, ◌/◌, ◌%◌, ◌<◌, ◌≤◌, ◌⊎◌};
 ghost use Rattle.std.specs.Prelude.{true, Some, None, length, replicate, IfOk, IfErr, OnOk};
-ghost use Rattle.frame_gate.specs.declared.limits.TheConstants.{MOST_FRAMES, MOST_PAIRS, MOST_ENTRIES, LAST_EPOCH, LAST_GENERATION};
+ghost use Rattle.frame_gate.specs.declared.limits.TheConstants.{MOST_FRAMES, MOST_PAIRS, MOST_ENTRIES, LAST_EPOCH};
+ghost use Rattle.frame_gate.specs.declared.limits.TheConstants.{LAST_GENERATION};
 ghost use Rattle.sgx_types.specs.declared.names.TheConstants.{PROCESSORS};
-ghost use Rattle.frame_gate.specs.Words.{free_word, held_word, blocked_word, IsFrame, IsFree, IsHeld, IsBlocked};
-ghost use Rattle.frame_gate.specs.Views.{first_words, untouched};
-ghost use Rattle.frame_gate.specs.Known.{newcomer_of, StepsAtMost, IsOutside, IsInside, HoldsFrame, entered, outside};
-ghost use Rattle.frame_gate.specs.Known.{Filled, RefusedFill, Touched};
-ghost use Rattle.frame_gate.specs.Known.{first_pager, word_now, generation_now, with_frame, settled_pager, RefusedOlder};
-ghost use Rattle.frame_gate.specs.Known.{next_pager, Tracked, RefusedTrack, settled_if, Evicted, RefusedEvict, HasDrained};
+ghost use Rattle.frame_gate.specs.inner.Words.{free_word, held_word, blocked_word, IsFrame, IsFree, IsHeld, IsBlocked};
+ghost use Rattle.frame_gate.specs.inner.Views.{first_words, untouched};
+ghost use Rattle.frame_gate.specs.inner.Known.{newcomer_of, StepsAtMost, IsOutside, IsInside, HoldsFrame, entered, outside};
+ghost use Rattle.frame_gate.specs.inner.Known.{Filled, RefusedFill, Touched};
+ghost use Rattle.frame_gate.specs.inner.Known.{first_pager, word_now, generation_now, with_frame, settled_pager, RefusedOlder};
+ghost use Rattle.frame_gate.specs.inner.Known.{next_pager, Tracked, RefusedTrack, settled_if, Evicted, RefusedEvict, HasDrained};
 
 use crate::limits::{LAST_EPOCH, LAST_GENERATION, MOST_ENTRIES, MOST_PAIRS};
 use crate::refusals::{EntriesSpent, EvictRefusal, GenerationSpent, NotHeld, Older, TrackRefusal};

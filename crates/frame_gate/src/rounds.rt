@@ -5,10 +5,10 @@ ghost use Rattle.std.specs.Prelude.{slice_index_or};
 ghost use Rattle.std.specs.Thread.{IsSync};
 ghost use Rattle.frame_gate.specs.declared.limits.TheConstants.{MOST_FRAMES, MOST_PAIRS, MOST_ENTRIES};
 ghost use Rattle.sgx_types.specs.declared.names.TheConstants.{PROCESSORS};
-ghost use Rattle.frame_gate.specs.Words.{IsFrame};
-ghost use Rattle.frame_gate.specs.Views.{visit};
-ghost use Rattle.frame_gate.specs.Known.{newcomer_of, IsOutside, IsInside};
-ghost use Rattle.frame_gate.specs.Rounds.{IsReady, HasEntered, HaveEntered, AreOutside};
+ghost use Rattle.frame_gate.specs.inner.Words.{IsFrame};
+ghost use Rattle.frame_gate.specs.inner.Views.{visit};
+ghost use Rattle.frame_gate.specs.inner.Known.{newcomer_of, IsOutside, IsInside};
+ghost use Rattle.frame_gate.specs.inner.Rounds.{IsReady, HasEntered, HaveEntered, AreOutside};
 
 use crate::gate::FrameGate;
 use crate::limits::MOST_PAIRS;

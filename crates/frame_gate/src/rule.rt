@@ -7,8 +7,8 @@ use atomic_table::{Play, Split, TableRule};
 pub struct GateRule;
 
 impl TableRule<(), View, u32> for GateRule {
-    ghost use Rattle.frame_gate.specs.Views.{first_view};
-    ghost use Rattle.frame_gate.specs.Rule.{IsKept};
+    ghost use Rattle.frame_gate.specs.inner.Views.{first_view};
+    ghost use Rattle.frame_gate.specs.inner.Rule.{IsKept};
 
     ghost holds = { IsKept };
 
@@ -19,7 +19,7 @@ impl TableRule<(), View, u32> for GateRule {
 pub struct Enter;
 
 impl Play<(), View> for Enter {
-    ghost use Rattle.frame_gate.specs.Rule.{Enters};
+    ghost use Rattle.frame_gate.specs.inner.Rule.{Enters};
 
     ghost then = { Enters };
 }
@@ -28,7 +28,7 @@ impl Play<(), View> for Enter {
 pub struct Leave;
 
 impl Play<(), View> for Leave {
-    ghost use Rattle.frame_gate.specs.Rule.{Leaves};
+    ghost use Rattle.frame_gate.specs.inner.Rule.{Leaves};
 
     ghost then = { Leaves };
 }
@@ -37,7 +37,7 @@ impl Play<(), View> for Leave {
 pub struct Fill;
 
 impl Play<(), View> for Fill {
-    ghost use Rattle.frame_gate.specs.Rule.{Fills};
+    ghost use Rattle.frame_gate.specs.inner.Rule.{Fills};
 
     ghost then = { Fills };
 }
@@ -46,7 +46,7 @@ impl Play<(), View> for Fill {
 pub struct Touch;
 
 impl Play<(), View> for Touch {
-    ghost use Rattle.frame_gate.specs.Rule.{Touches};
+    ghost use Rattle.frame_gate.specs.inner.Rule.{Touches};
 
     ghost then = { Touches };
 }
@@ -55,7 +55,7 @@ impl Play<(), View> for Touch {
 pub struct Settle;
 
 impl Play<(), View> for Settle {
-    ghost use Rattle.frame_gate.specs.Rule.{Settles};
+    ghost use Rattle.frame_gate.specs.inner.Rule.{Settles};
 
     ghost then = { Settles };
 }
@@ -64,7 +64,7 @@ impl Play<(), View> for Settle {
 pub struct SetBack;
 
 impl Play<(), View> for SetBack {
-    ghost use Rattle.frame_gate.specs.Rule.{SetsBack};
+    ghost use Rattle.frame_gate.specs.inner.Rule.{SetsBack};
 
     ghost then = { SetsBack };
 }
@@ -73,7 +73,7 @@ impl Play<(), View> for SetBack {
 pub struct Track;
 
 impl Play<(), View> for Track {
-    ghost use Rattle.frame_gate.specs.Rule.{Tracks};
+    ghost use Rattle.frame_gate.specs.inner.Rule.{Tracks};
 
     ghost then = { Tracks };
 }
@@ -83,7 +83,7 @@ impl Play<(), View> for Track {
 pub struct WriteFrame;
 
 impl Play<(), View> for WriteFrame {
-    ghost use Rattle.frame_gate.specs.Rule.{WritesFrame};
+    ghost use Rattle.frame_gate.specs.inner.Rule.{WritesFrame};
 
     ghost then = { WritesFrame };
 }
@@ -92,7 +92,7 @@ impl Play<(), View> for WriteFrame {
 pub struct NewProcessor;
 
 impl Split<View> for NewProcessor {
-    ghost use Rattle.frame_gate.specs.Views.{view, role_split, newcomer};
+    ghost use Rattle.frame_gate.specs.inner.Views.{view, role_split, newcomer};
 
     ghost left = { λ v. view (role_split v.role) v.counter };
 

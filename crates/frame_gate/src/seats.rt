@@ -2,9 +2,9 @@
 
 ghost use Rattle.std.specs.Prelude.{◌≡◌, ◌<◌, ◌↔◌, length, IsTrue};
 ghost use Rattle.frame_gate.specs.declared.limits.TheConstants.{MOST_PAIRS};
-ghost use Rattle.frame_gate.specs.Words.{IsFrame, IsFree, IsHeld, IsBlocked};
-ghost use Rattle.frame_gate.specs.Views.{generation_of};
-ghost use Rattle.frame_gate.specs.Known.{word_now};
+ghost use Rattle.frame_gate.specs.inner.Words.{IsFrame, IsFree, IsHeld, IsBlocked};
+ghost use Rattle.frame_gate.specs.inner.Views.{generation_of};
+ghost use Rattle.frame_gate.specs.inner.Known.{word_now};
 
 use crate::limits::MOST_PAIRS;
 use crate::view::{Ledger, Pair, View, Visit, Written};
@@ -32,7 +32,7 @@ impl Model for ProcSeat {
     ghost use Rattle.std.specs.Prelude.{◌≡◌, ◌≤◌, [], None, vec_capacity};
     ghost use Rattle.frame_gate.specs.declared.view.Role.TheVariants.{Processor};
     ghost use Rattle.frame_gate.specs.declared.limits.TheConstants.{MOST_ENTRIES, MOST_PAIRS};
-    ghost use Rattle.frame_gate.specs.Known.{ProcKnown};
+    ghost use Rattle.frame_gate.specs.inner.Known.{ProcKnown};
 
     ghost Value = { ProcKnown };
 
@@ -55,7 +55,7 @@ impl Model for PagerSeat {
     ghost use Rattle.std.specs.Prelude.{◌≡◌, ◌≤◌, ◌<◌, ◌+◌, length};
     ghost use Rattle.frame_gate.specs.declared.view.Role.TheVariants.{Pager};
     ghost use Rattle.frame_gate.specs.declared.limits.TheConstants.{LAST_EPOCH};
-    ghost use Rattle.frame_gate.specs.Known.{PagerKnown, AreMarked};
+    ghost use Rattle.frame_gate.specs.inner.Known.{PagerKnown, AreMarked};
 
     ghost Value = { PagerKnown };
 

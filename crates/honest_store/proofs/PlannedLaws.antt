@@ -10,9 +10,9 @@ use Rattle.sgx_types.specs.Pages.{same_page}
 use Rattle.sgx_types.specs.Sealed.{Sealed}
 use Rattle.backing_store.specs.declared.calls.StoreCall.{StoreCall}
 use Rattle.backing_store.specs.declared.calls.StoreCall.TheVariants.{Room, Put, Got}
-use Rattle.backing_store.specs.Store.{AreByRule, IsStore, StoreState, given, is_put, newest, nth, records_of}
-use Rattle.backing_store.specs.Told.{record_at, told_of}
-use Rattle.backing_store.specs.Told as told
+use Rattle.backing_store.specs.inner.Store.{AreByRule, IsStore, StoreState, given, is_put, newest, nth, records_of}
+use Rattle.backing_store.specs.inner.Told.{record_at, told_of}
+use Rattle.backing_store.specs.inner.Told as told
 use Rattle.backing_store.proofs.AnswerLaws.{slice_get-push}
 use Rattle.backing_store.proofs.CallLaws.{one_put_more}
 use Rattle.backing_store.proofs.GoodLaws.{given_is_there}

@@ -1,7 +1,7 @@
 //! Laws of the definitions. A law is the contract of a function without arguments.
 
-ghost use Rattle.backing_store.specs.Store.{IsStore, StoreState, is_put};
-ghost use Rattle.backing_store.specs.Told.{told_of};
+ghost use Rattle.backing_store.specs.inner.Store.{IsStore, StoreState, is_put};
+ghost use Rattle.backing_store.specs.inner.Told.{told_of};
 ghost use Rattle.driver_rules.specs.Scripts.{IsDone, IsEnded};
 ghost use Rattle.driver_rules.specs.Stops.{is_spent};
 ghost use Rattle.job_grammar.specs.Jobs.{JobView};

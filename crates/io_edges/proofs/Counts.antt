@@ -1,7 +1,8 @@
 -- How counts of faults go on over several calls.
 use Rattle.std.proofs.Common.{ℕ, ◌<◌, ◌≤◌, ◌-◌, ◌^◌, ◌⊎◌, inl, inr, arith}
 use Rattle.std.proofs.lemmas.Bool.{cases_lt}
-use Rattle.io_edges.specs.Faults.{HasRisen, HasCause}
+use Rattle.io_edges.specs.Faults.{HasRisen}
+use Rattle.io_edges.specs.inner.Faults.{HasCause}
 
 -- a count that has risen is greater, or stands at its last value
 pub HasRisen-cases : (old new : ℕ) → old ≤ new → HasRisen old new → (old < new) ⊎ (2 ^ 64 - 1 ≤ new)

@@ -3,7 +3,8 @@ use Rattle.std.proofs.Common.{◌≡◌, ◌+◌, ℕ, List, ◌++◌, length, t
 use Rattle.std.proofs.Common.{append_assoc}
 use Rattle.std.proofs.Math.Seq.{take-add, take-length}
 use Rattle.std.proofs.lemmas.List.{append-nil}
-use Rattle.io_edges.specs.Sinks.{followed_by, GivesFront, GivesPart}
+use Rattle.io_edges.specs.Sinks.{followed_by, GivesPart}
+use Rattle.io_edges.specs.inner.Sinks.{GivesFront}
 
 -- one text, and then another
 pub followed_by-followed_by : (given : Option (List ℕ)) (xs ys : List ℕ)

@@ -4,7 +4,8 @@ use Rattle.std.proofs.Common.{Err, refl, ap, sym, ◌∙◌, arith, length-appen
 use Rattle.std.specs.Prelude.{IfSome, OnErr}
 use Rattle.std.proofs.Math.Seq.{take-add}
 use Rattle.std.proofs.lemmas.List.{drop-drop, length-take-le, length-take, length-drop, take_at, take_all}
-use Rattle.io_edges.specs.Sources.{fewer, emptied, Gives, HasRead, TakesAtMost}
+use Rattle.io_edges.specs.Sources.{fewer, TakesAtMost}
+use Rattle.io_edges.specs.inner.Sources.{emptied, Gives, HasRead}
 
 -- some bytes taken, and then some more
 pub fewer-fewer : (m n : ℕ) (left : Option (List ℕ)) → fewer m (fewer n left) ≡ fewer (n + m) left

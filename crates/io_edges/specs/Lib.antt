@@ -1,5 +1,4 @@
 pub mod Faults
-pub mod MemSink
-pub mod MemSource
 pub mod Sinks
 pub mod Sources
+pub mod inner

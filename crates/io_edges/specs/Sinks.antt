@@ -5,10 +5,6 @@ use Rattle.std.specs.Prelude.{◌≡◌, ◌<◌, ℕ, List, ◌++◌, length, t
 abbrev pub followed_by : Option (List ℕ) → List ℕ → Option (List ℕ)
 followed_by given bytes = option_map (λ before. before ++ bytes) given
 
--- a front of the text was given, maybe all of it
-abbrev pub GivesFront : Option (List ℕ) → Option (List ℕ) → List ℕ → Type 0
-GivesFront before now text = (n : ℕ) × (now ≡ followed_by before (take n text))
-
 -- a front of the text was given, and not all of it
 abbrev pub GivesPart : Option (List ℕ) → Option (List ℕ) → List ℕ → Type 0
 GivesPart before now text = (n : ℕ) × (n < length text) × (now ≡ followed_by before (take n text))

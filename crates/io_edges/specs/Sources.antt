@@ -1,25 +1,9 @@
 -- What calls of a source do with the bytes that it has left, where it tells them.
-use Rattle.std.specs.Prelude.{◌≡◌, ◌≤◌, ℕ, List, [], ◌++◌, length, take, drop, Option, option_map, IfSome}
+use Rattle.std.specs.Prelude.{◌≡◌, ◌≤◌, ℕ, List, drop, Option, option_map}
 
 -- what is left after n bytes were taken
 abbrev pub fewer : ℕ → Option (List ℕ) → Option (List ℕ)
 fewer n left = option_map (drop n) left
-
--- what is left at the end of the input
-abbrev pub emptied : Option (List ℕ) → Option (List ℕ)
-emptied left = option_map (λ _. []) left
-
--- The first n bytes of what was left stand at the front of the slice, and behind them it is as it was.
--- None are given only where none were left.
-pub record Gives (slice filled : List ℕ) (n : ℕ) (left : List ℕ) : Type 0 where
-  pub enough : n ≤ length left
-  pub front : filled ≡ take n left ++ drop n slice
-  pub at_end : n ≡ 0 → left ≡ []
-
--- these bytes were the front of what was left first, and the rest is left now
-pub record HasRead (first now : Option (List ℕ)) (bytes : List ℕ) : Type 0 where
-  pub front : IfSome first (λ all. bytes ≡ take (length bytes) all)
-  pub rest : now ≡ fewer (length bytes) first
 
 -- no more than so many bytes were taken
 abbrev pub TakesAtMost : ℕ → Option (List ℕ) → Option (List ℕ) → Type 0

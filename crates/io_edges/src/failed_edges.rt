@@ -1,7 +1,7 @@
 //! Edges that fail at every call.
 
 ghost use Rattle.std.specs.Prelude.{◌≡◌, ◌<◌, [], length, None, Some, IsErr};
-ghost use Rattle.io_edges.specs.Faults.{HasCause, one_more};
+ghost use Rattle.io_edges.specs.inner.Faults.{HasCause, one_more};
 
 use crate::faults::Failed;
 use crate::sinks::Sink;

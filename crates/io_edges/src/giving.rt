@@ -1,7 +1,7 @@
 //! Giving a whole text to a sink.
 
 ghost use Rattle.std.specs.Prelude.{◌≡◌, [], OnOk, OnErr, IsErr};
-ghost use Rattle.io_edges.specs.Faults.{HasCause};
+ghost use Rattle.io_edges.specs.inner.Faults.{HasCause};
 ghost use Rattle.io_edges.specs.Sinks.{followed_by, GivesPart};
 
 use crate::faults::Failed;

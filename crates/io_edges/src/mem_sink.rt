@@ -1,7 +1,7 @@
 //! A sink over memory.
 
 ghost use Rattle.std.specs.Prelude.{◌≡◌, ◌<◌, ◌≤◌, length, Some, IfOk, IsErr};
-ghost use Rattle.io_edges.specs.Faults.{HasCause};
+ghost use Rattle.io_edges.specs.inner.Faults.{HasCause};
 
 use crate::faults::Failed;
 use crate::sinks::Sink;
@@ -24,7 +24,7 @@ pub struct MemSink {
 
 impl Model for MemSink {
     ghost use Rattle.std.specs.Prelude.{◌≤◌, vec_len, vec_capacity};
-    ghost use Rattle.io_edges.specs.MemSink.{SinkState};
+    ghost use Rattle.io_edges.specs.inner.MemSink.{SinkState};
     ghost use Rattle.io_edges.specs.declared.mem_sink.TheConstants.{CAPACITY};
 
     ghost Value = { SinkState };
@@ -42,7 +42,7 @@ impl Model for MemSink {
 }
 
 impl MemSink {
-    ghost use Rattle.io_edges.specs.MemSink.{new_sink};
+    ghost use Rattle.io_edges.specs.inner.MemSink.{new_sink};
 
     /// An empty sink with room for 2^24 bytes. A call takes at most `piece` bytes. Exactly the calls whose number is
     /// in `fails` fail, where the first call has number 1, and those into a full sink.
@@ -75,7 +75,7 @@ impl MemSink {
 }
 
 impl Sink for MemSink {
-    ghost use Rattle.io_edges.specs.MemSink.{give_of};
+    ghost use Rattle.io_edges.specs.inner.MemSink.{give_of};
 
     ghost given = { λ s. Some s.given };
 

@@ -1,9 +1,9 @@
 //! A source over memory.
 
 ghost use Rattle.std.specs.Prelude.{◌≡◌, ◌<◌, ◌≤◌, length, Some, IfOk, IsErr};
-ghost use Rattle.io_edges.specs.Faults.{HasCause};
-ghost use Rattle.io_edges.specs.Sources.{Gives};
-ghost use Rattle.io_edges.specs.MemSource.{new_source, take_of};
+ghost use Rattle.io_edges.specs.inner.Faults.{HasCause};
+ghost use Rattle.io_edges.specs.inner.Sources.{Gives};
+ghost use Rattle.io_edges.specs.inner.MemSource.{new_source, take_of};
 
 use crate::faults::Failed;
 use crate::sources::Source;
@@ -24,7 +24,7 @@ pub struct MemSource {
 
 impl Model for MemSource {
     ghost use Rattle.std.specs.Prelude.{◌≤◌, drop, vec_len};
-    ghost use Rattle.io_edges.specs.MemSource.{SourceState};
+    ghost use Rattle.io_edges.specs.inner.MemSource.{SourceState};
 
     ghost Value = { SourceState };
 

@@ -3,8 +3,9 @@
 ghost use Rattle.std.specs.Prelude.{◌≡◌, ◌<◌, ◌≤◌, ◌+◌, ◌^◌, ◌++◌, [], take, length, vec_len, IfOk, OnOk};
 ghost use Rattle.std.specs.Prelude.{OnErr, IfSome, IsErrOf};
 ghost use Rattle.io_edges.specs.declared.reading.ReadEnd.TheVariants as ends;
-ghost use Rattle.io_edges.specs.Faults.{HasCause};
-ghost use Rattle.io_edges.specs.Sources.{fewer, emptied, HasRead, TakesAtMost};
+ghost use Rattle.io_edges.specs.inner.Faults.{HasCause};
+ghost use Rattle.io_edges.specs.Sources.{fewer, TakesAtMost};
+ghost use Rattle.io_edges.specs.inner.Sources.{emptied, HasRead};
 
 use crate::faults::Failed;
 use crate::sources::Source;

@@ -1,7 +1,7 @@
 //! Where bytes go to.
 
 ghost use Rattle.std.specs.Prelude.{◌≡◌, ◌<◌, ◌≤◌, ℕ, List, Option, length, take, IfOk, OnErr, IsErr};
-ghost use Rattle.io_edges.specs.Faults.{HasCause};
+ghost use Rattle.io_edges.specs.inner.Faults.{HasCause};
 ghost use Rattle.io_edges.specs.Sinks.{followed_by};
 
 use crate::faults::Failed;

@@ -1,8 +1,9 @@
 //! Where bytes come from.
 
 ghost use Rattle.std.specs.Prelude.{◌≡◌, ◌<◌, ◌≤◌, ℕ, List, Option, length, IfOk, OnErr, OnSome, IfSome, IsErr};
-ghost use Rattle.io_edges.specs.Faults.{HasCause};
-ghost use Rattle.io_edges.specs.Sources.{Gives, fewer};
+ghost use Rattle.io_edges.specs.inner.Faults.{HasCause};
+ghost use Rattle.io_edges.specs.Sources.{fewer};
+ghost use Rattle.io_edges.specs.inner.Sources.{Gives};
 
 use crate::faults::Failed;
 

@@ -1,7 +1,7 @@
 //! Edges over the readers and writers of the system.
 
 ghost use Rattle.std.specs.Prelude.{◌≡◌, ◌<◌, ◌≤◌, length, None, IfOk, OnOk, OnErr, IsErr};
-ghost use Rattle.io_edges.specs.Faults.{HasCause, one_more};
+ghost use Rattle.io_edges.specs.inner.Faults.{HasCause, one_more};
 
 use crate::faults::Failed;
 use crate::sinks::Sink;

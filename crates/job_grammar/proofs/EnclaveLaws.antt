@@ -3,8 +3,9 @@ use Rattle.std.proofs.Common.{◌≡◌, ℕ, zero, suc, ◌^◌, ◌<◌, ◌�
 use Rattle.std.proofs.Common.{None, MatchOption, HoldsAt, Bor, map, option_map, refl, sym, ap, arith}
 use Rattle.std.proofs.lemmas.Bool.{and_parts, leb-true}
 use Rattle.job_grammar.specs.declared.jobs.EnclaveJob.{EnclaveJob}
-use Rattle.job_grammar.specs.Jobs.{EnclaveView, enclave_at, enclave_view}
-use Rattle.job_grammar.specs.Valid.{IsValidEnclave}
+use Rattle.job_grammar.specs.Jobs.{EnclaveView, enclave_at}
+use Rattle.job_grammar.specs.inner.Jobs.{enclave_view}
+use Rattle.job_grammar.specs.inner.Valid.{IsValidEnclave}
 
 pub lawful-size : (e : EnclaveView) → IsValidEnclave e → e.size ≤ 2 ^ 24
 lawful-size e valid = let size = and_parts _ _ valid.range in let most = and_parts _ _ size.0 in leb-true _ _ most.1

@@ -1,17 +1,13 @@
 -- Jobs as contracts see them, and what their lines say.
 use Rattle.std.specs.Prelude.{ℕ, zero, suc, ◌==◌, ◌+◌, ◌*◌, ◌/◌, ◌&&◌, Bool, true, false, min, List, [], Option, Some}
-use Rattle.std.specs.Prelude.{None, length, map, sum_by, nat_le, nat_lt, slice_get, find}
-use Rattle.std.specs.Global.{Vec}
+use Rattle.std.specs.Prelude.{None, length, sum_by, nat_le, nat_lt, slice_get, find}
 use Rattle.std.specs.List.{list_any}
-use Rattle.sgx_types.specs.declared.names.Page.{Page}
 use Rattle.io_edges.specs.declared.plans.PlanLine.{PlanLine}
 use Rattle.job_grammar.specs.declared.jobs.Marks.{Marks}
 use Rattle.job_grammar.specs.declared.jobs.PageLine.{PageLine}
 use Rattle.job_grammar.specs.declared.jobs.PageLine.TheVariants.{Tcs, Reg}
-use Rattle.job_grammar.specs.declared.jobs.EnclaveJob.{EnclaveJob}
 use Rattle.job_grammar.specs.declared.jobs.Op.{Op}
 use Rattle.job_grammar.specs.declared.jobs.Op.TheVariants.{Enter, Resume}
-use Rattle.job_grammar.specs.declared.jobs.JobParts.{JobParts}
 
 pub record EnclaveView : Type 0 where
   pub base : ℕ
@@ -29,25 +25,6 @@ pub record JobView : Type 0 where
   pub plans : List PlanLine
   pub scripts : List (List Op)
 
-abbrev pub enclave_view : EnclaveJob → EnclaveView
-enclave_view e = record { base = e.base; size = e.size; lines = e.lines.items; expect = e.expect }
-
-abbrev pub script_ops : List (Vec Op) → List (List Op)
-script_ops scripts = map (λ script. script.items) scripts
-
--- the job of these parts
-abbrev pub parts_view : JobParts → JobView
-parts_view p = record {
-  epc = p.epc;
-  marks = p.marks;
-  key = p.key;
-  start_epoch = p.start_epoch;
-  start_version = p.start_version;
-  enclaves = map enclave_view p.enclaves.items;
-  plans = p.plans.items;
-  scripts = script_ops p.scripts.items;
-}
-
 -- ---- pages
 
 -- a line adds the page of this number
@@ -59,10 +36,6 @@ abbrev pub is_tcs_line : PageLine → Bool
 is_tcs_line (Tcs page ossa nssa plain) = true
 is_tcs_line _ = false
 
-abbrev pub is_reg_line : PageLine → Bool
-is_reg_line (Reg first count perm value plain) = true
-is_reg_line _ = false
-
 -- a line of pages that hold saved state: REG pages with R and W
 abbrev pub is_save_line : PageLine → Bool
 is_save_line (Reg first count perm value plain) = perm.r && perm.w
@@ -70,9 +43,6 @@ is_save_line _ = false
 
 abbrev pub is_tcs_page : List PageLine → ℕ → Bool
 is_tcs_page lines n = list_any (λ line. is_tcs_line line && covers n line) lines
-
-abbrev pub is_reg_page : List PageLine → ℕ → Bool
-is_reg_page lines n = list_any (λ line. is_reg_line line && covers n line) lines
 
 abbrev pub is_save_page : List PageLine → ℕ → Bool
 is_save_page lines n = list_any (λ line. is_save_line line && covers n line) lines
@@ -93,10 +63,6 @@ lines_at es n = lines_in (enclave_at es n)
 abbrev pub first_page : PageLine → ℕ
 first_page (Tcs page ossa nssa plain) = page
 first_page (Reg first count perm value plain) = first
-
--- a page of an enclave is added
-abbrev pub is_added_page : List EnclaveView → Page → Bool
-is_added_page es page = list_any (covers page.number) (lines_at es page.enclave)
 
 -- how many pages a line adds
 abbrev pub page_count : PageLine → ℕ

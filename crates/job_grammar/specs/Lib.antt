@@ -1,3 +1,2 @@
 pub mod Jobs
-pub mod Valid
-pub mod Kept
+pub mod inner

@@ -1,7 +1,8 @@
 //! How many pages, frames and version array pages a job needs.
 
 ghost use Rattle.std.specs.Prelude.{◌≡◌, ◌+◌, ◌-◌, ◌*◌, ◌/◌, ◌^◌, ◌≤◌, length, map, min, sum_by};
-ghost use Rattle.job_grammar.specs.Jobs.{enclave_view, page_count, enclave_pages};
+ghost use Rattle.job_grammar.specs.Jobs.{page_count, enclave_pages};
+ghost use Rattle.job_grammar.specs.inner.Jobs.{enclave_view};
 
 use crate::jobs::{EnclaveJob, Op, PageLine};
 

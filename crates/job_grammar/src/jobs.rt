@@ -1,8 +1,10 @@
 //! A job: an EPC, enclaves, scripts, and what the store does.
 
 ghost use Rattle.std.specs.Prelude.{◌≡◌, map};
-ghost use Rattle.job_grammar.specs.Jobs.{JobView, enclave_view, default_marks, first_page, page_count, is_tcs_line, is_reg_line};
-ghost use Rattle.job_grammar.specs.Jobs.{is_save_line, job_pages, parts_view, va_pages, needed};
+ghost use Rattle.job_grammar.specs.Jobs.{JobView, default_marks, first_page, page_count, is_tcs_line};
+ghost use Rattle.job_grammar.specs.inner.Jobs.{enclave_view, is_reg_line};
+ghost use Rattle.job_grammar.specs.Jobs.{is_save_line, job_pages, va_pages, needed};
+ghost use Rattle.job_grammar.specs.inner.Jobs.{parts_view};
 
 use crate::counts::{needed_by, total_pages, va_pages_of};
 use io_edges::plans::PlanLine;
@@ -147,7 +149,7 @@ impl Model for Job {
 
     ghost Value = { JobView };
 
-    ghost use Rattle.job_grammar.specs.Kept.{view_of, IsKept};
+    ghost use Rattle.job_grammar.specs.inner.Kept.{view_of, IsKept};
 
     ghost view = { view_of };
 
@@ -156,7 +158,7 @@ impl Model for Job {
 
 impl Job {
     ghost use Rattle.std.specs.Prelude.{◌+◌, ◌^◌, ◌≤◌, ◌<◌, map};
-    ghost use Rattle.job_grammar.specs.Valid.{IsValid};
+    ghost use Rattle.job_grammar.specs.inner.Valid.{IsValid};
 
     /// The job of these parts, which are those of a valid one.
     pub fn new(parts: JobParts) -> Self

@@ -12,7 +12,8 @@ use Rattle.job_lines.specs.declared.keywords.Keyword.TheVariants as keywords
 use Rattle.job_lines.specs.declared.keywords.PlanWord.{PlanWord}
 use Rattle.job_lines.specs.declared.keywords.PlanWord.TheVariants as plan_words
 use Rattle.job_lines.specs.Statements.{Says, plan_of, row, epc_row, marks_row, key_row, start_row, enclave_row, tcs_row, reg_row}
-use Rattle.job_lines.specs.Statements.{expect_row, fail_row, drop_row, flip_row, replay_row, swap_row, plan_row, cpu_row, outload_row}
+use Rattle.job_lines.specs.Statements.{expect_row, fail_row, drop_row, flip_row, replay_row, swap_row, plan_row, cpu_row}
+use Rattle.job_lines.specs.Statements.{outload_row}
 use Rattle.job_lines.specs.Statements.{outstore_row, statement_of}
 
 -- ---- the carriage return

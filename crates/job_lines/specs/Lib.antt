@@ -1,3 +1,3 @@
 pub mod Words
 pub mod Statements
-pub mod Spelled
+pub mod inner

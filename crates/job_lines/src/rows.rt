@@ -1,9 +1,11 @@
 //! What the words of each line say, a function a row.
 
 ghost use Rattle.std.specs.Prelude.{◌≡◌, map, IfOk};
-ghost use Rattle.job_lines.specs.Spelled.{IsSpelled, IsSpelledOp};
-ghost use Rattle.job_lines.specs.Statements.{epc_row, marks_row, key_row, start_row, enclave_row, tcs_row, reg_row, expect_row, fail_row};
-ghost use Rattle.job_lines.specs.Statements.{drop_row, flip_row, replay_row, swap_row, plan_row, cpu_row, on_tcs, alone, with_one};
+ghost use Rattle.job_lines.specs.inner.Spelled.{IsSpelled, IsSpelledOp};
+ghost use Rattle.job_lines.specs.Statements.{epc_row, marks_row, key_row, start_row, enclave_row, tcs_row, reg_row, expect_row};
+ghost use Rattle.job_lines.specs.Statements.{fail_row};
+ghost use Rattle.job_lines.specs.Statements.{drop_row, flip_row, replay_row, swap_row, plan_row, cpu_row, on_tcs, alone};
+ghost use Rattle.job_lines.specs.Statements.{with_one};
 ghost use Rattle.job_lines.specs.Statements.{with_two, outload_row, outstore_row, statement_of};
 ghost use Rattle.job_lines.specs.declared.statements.Operation.TheVariants as ops;
 

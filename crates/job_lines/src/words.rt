@@ -2,7 +2,8 @@
 
 ghost use Rattle.std.specs.Prelude.{◌≡◌, ◌==◌, ◌||◌, ◌≤◌, true, map, IfOk, take};
 ghost use Rattle.sgx_types.specs.Digests.{IsDigest};
-ghost use Rattle.job_lines.specs.Words.{without_return, words_of, is_skipped, keyword_of, plan_word_of, call_word_of, as_number, as_letter};
+ghost use Rattle.job_lines.specs.Words.{without_return, words_of, is_skipped, keyword_of, plan_word_of, call_word_of, as_number};
+ghost use Rattle.job_lines.specs.Words.{as_letter};
 ghost use Rattle.job_lines.specs.Words.{as_perm, as_hash, as_plain};
 
 use crate::keywords::{CallWord, Keyword, PlanWord};

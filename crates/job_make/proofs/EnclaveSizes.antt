@@ -6,7 +6,8 @@ use Rattle.std.specs.Int.RustNames.{count_ones}
 use Rattle.std.proofs.lemmas.Bool.{and_parts, cases_eq, cases_lt, eq-eqb, eqb-true, leb-true, le-leb, lt-leb}
 use Rattle.std.proofs.lemmas.Nat.{mod-mul-add, ones_cat, ones_le_self, pow-add, pow_below, pow_pos, zero_from_ones}
 use Rattle.sgx_types.specs.Lawful.{is_lawful}
-use Rattle.job_make.specs.MadeJob.{IsLeastLawful, least_size, made_bytes}
+use Rattle.job_make.specs.MadeJob.{least_size, made_bytes}
+use Rattle.job_make.specs.inner.MadeJob.{IsLeastLawful}
 
 -- ---- powers of two
 

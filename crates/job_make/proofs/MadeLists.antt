@@ -4,7 +4,7 @@ use Rattle.std.proofs.Common.{sym, ap, ◌∙◌, arith}
 use Rattle.std.specs.Global.{Vec}
 use Rattle.std.proofs.lemmas.List.{append-nil, map_push}
 use Rattle.job_grammar.specs.declared.jobs.Op.{Op}
-use Rattle.job_grammar.specs.Jobs.{script_ops}
+use Rattle.job_grammar.specs.inner.Jobs.{script_ops}
 use Rattle.job_make.specs.MadeOps.{made_op, made_ops, made_script, made_scripts, state_behind_op, state_behind_ops}
 
 one-more : {A : Type 0} (front : List A) (x : A) (rest whole : List A) → front ++ x ∷ rest ≡ whole → (front ++ x ∷ []) ++ rest ≡ whole

@@ -7,8 +7,9 @@ use Rattle.io_edges.specs.declared.plans.PlanLine.{PlanLine}
 use Rattle.job_grammar.specs.declared.jobs.EnclaveJob.{EnclaveJob}
 use Rattle.job_grammar.specs.declared.jobs.Marks.{Marks}
 use Rattle.job_grammar.specs.declared.jobs.Op.{Op}
-use Rattle.job_grammar.specs.Jobs.{EnclaveView, default_marks, enclave_view, parts_view, script_ops}
-use Rattle.job_grammar.specs.Valid.{AreValidMarks, IsPlanAmong, IsValid, IsValidEnclave}
+use Rattle.job_grammar.specs.Jobs.{EnclaveView, default_marks}
+use Rattle.job_grammar.specs.inner.Jobs.{enclave_view, parts_view, script_ops}
+use Rattle.job_grammar.specs.inner.Valid.{AreValidMarks, IsPlanAmong, IsValid, IsValidEnclave}
 use Rattle.job_make.specs.MadeJob.{made_enclave, made_epc, made_job}
 use Rattle.job_make.specs.MadeOps.{made_scripts}
 use Rattle.job_make.proofs.EnclaveSizes.{least_is_least, lawful_most}

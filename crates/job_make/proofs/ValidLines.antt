@@ -7,7 +7,7 @@ use Rattle.std.proofs.lemmas.List.Sums.{sum_by-cons}
 use Rattle.job_grammar.specs.declared.jobs.PageLine.{PageLine}
 use Rattle.job_grammar.specs.declared.jobs.PageLine.TheVariants as pages
 use Rattle.job_grammar.specs.Jobs.{covers, first_page, is_save_page, is_tcs_page, page_count}
-use Rattle.job_grammar.specs.Valid.{HasSavePages, IsValidLine}
+use Rattle.job_grammar.specs.inner.Valid.{HasSavePages, IsValidLine}
 use Rattle.job_make.specs.MadeJob.{made_lines}
 
 -- ---- each page once

@@ -9,9 +9,10 @@ use Rattle.std.proofs.lemmas.List.Sums.{sum_by-cons}
 use Rattle.job_grammar.specs.declared.jobs.Op.{Op}
 use Rattle.job_grammar.specs.declared.jobs.Op.TheVariants as ops
 use Rattle.job_grammar.specs.Jobs.{EnclaveView, lines_at, is_tcs_page, names_tcs, script_names}
-use Rattle.job_grammar.specs.Valid.{IsOpAmong, IsValidOffset}
+use Rattle.job_grammar.specs.inner.Valid.{IsOpAmong, IsValidOffset}
 use Rattle.job_make.specs.Generator.{draw, number_below}
-use Rattle.job_make.specs.MadeOps.{made_op, made_ops, made_script, made_scripts, op_of, own_offset, shared_offset, state_behind_op}
+use Rattle.job_make.specs.MadeOps.{made_op, made_ops, made_script, made_scripts, op_of, own_offset, shared_offset}
+use Rattle.job_make.specs.MadeOps.{state_behind_op}
 use Rattle.job_make.specs.MadeOps.{state_behind_ops}
 
 -- ---- numbers that are drawn

@@ -1,3 +1,4 @@
 pub mod Generator
 pub mod MadeOps
 pub mod MadeJob
+pub mod inner

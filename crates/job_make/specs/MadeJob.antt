@@ -1,7 +1,6 @@
 -- The job that is made of a number and a size.
-use Rattle.std.specs.Prelude.{ℕ, ◌≡◌, ◌+◌, ◌*◌, ◌/◌, ◌^◌, ◌≤◌, true, false, max, List, [], ◌∷◌, None}
+use Rattle.std.specs.Prelude.{ℕ, ◌+◌, ◌*◌, ◌/◌, ◌^◌, true, false, max, List, [], ◌∷◌, None}
 use Rattle.std.specs.Prelude.{find, map, nat_le, replicate, unwrap_or}
-use Rattle.sgx_types.specs.Lawful.{is_lawful}
 use Rattle.sgx_types.specs.declared.names.Perm.{Perm}
 use Rattle.job_grammar.specs.declared.jobs.PageLine.{PageLine}
 use Rattle.job_grammar.specs.declared.jobs.PageLine.TheVariants.{Tcs, Reg}
@@ -33,12 +32,6 @@ lawful_sizes = map (λ k. 2 ^ k) (13 ∷ 14 ∷ 15 ∷ 16 ∷ 17 ∷ 18 ∷ 19 �
 -- the first of them that has room for so many bytes
 unfoldable pub least_size : ℕ → ℕ
 least_size bytes = unwrap_or (find (nat_le bytes) lawful_sizes) 0
-
--- no lawful size at this base that has room for so many bytes is less
-pub record IsLeastLawful (base bytes size : ℕ) : Type 0 where
-  pub lawful : is_lawful base size ≡ true
-  pub room : bytes ≤ size
-  pub least : (other : ℕ) → is_lawful base other ≡ true → bytes ≤ other → size ≤ other
 
 -- the enclave, of which no measurement is expected
 abbrev pub made_enclave : ℕ → EnclaveView

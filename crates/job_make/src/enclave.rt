@@ -1,7 +1,7 @@
 //! The enclave of a made job.
 
 ghost use Rattle.std.specs.Prelude.{◌≡◌, ◌≤◌, IfOk};
-ghost use Rattle.job_grammar.specs.Jobs.{enclave_view};
+ghost use Rattle.job_grammar.specs.inner.Jobs.{enclave_view};
 ghost use Rattle.job_make.specs.MadeJob.{least_size, made_bytes, made_enclave, tcs_of};
 
 use job_grammar::jobs::{EnclaveJob, PageLine};

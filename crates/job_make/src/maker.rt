@@ -1,8 +1,9 @@
 //! Making a job.
 
 ghost use Rattle.std.specs.Prelude.{◌≡◌, ◌≤◌, ℕ, IfOk};
-ghost use Rattle.job_grammar.specs.Valid.{IsValid};
-ghost use Rattle.job_make.specs.MadeJob.{IsLeastLawful, least_size, made_bytes, made_job};
+ghost use Rattle.job_grammar.specs.inner.Valid.{IsValid};
+ghost use Rattle.job_make.specs.MadeJob.{least_size, made_bytes, made_job};
+ghost use Rattle.job_make.specs.inner.MadeJob.{IsLeastLawful};
 
 use crate::enclave::enclave_of;
 use crate::scripts::draw_scripts;

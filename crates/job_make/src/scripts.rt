@@ -1,8 +1,9 @@
 //! The scripts of the processors, drawn from a generator.
 
 ghost use Rattle.std.specs.Prelude.{◌≡◌, ◌≤◌, IfOk, OnOk};
-ghost use Rattle.job_grammar.specs.Jobs.{script_ops};
-ghost use Rattle.job_make.specs.MadeOps.{own_offset, shared_offset, made_op, made_script, made_scripts, state_behind_op, state_behind_ops};
+ghost use Rattle.job_grammar.specs.inner.Jobs.{script_ops};
+ghost use Rattle.job_make.specs.MadeOps.{own_offset, shared_offset, made_op, made_script, made_scripts, state_behind_op};
+ghost use Rattle.job_make.specs.MadeOps.{state_behind_ops};
 
 use crate::generator::Generator;
 use job_grammar::jobs::Op;

@@ -11,12 +11,13 @@ use Rattle.sgx_types.specs.Digests.{IsDigest}
 use Rattle.job_grammar.specs.declared.jobs.PageLine.{PageLine}
 use Rattle.job_grammar.specs.declared.jobs.PageLine.TheVariants as pages
 use Rattle.job_grammar.specs.Jobs.{EnclaveView, JobView, enclave_pages, first_page, is_save_page, page_count}
-use Rattle.job_grammar.specs.Valid.{HasSavePages, IsValidEnclave, IsValidLine}
+use Rattle.job_grammar.specs.inner.Valid.{HasSavePages, IsValidEnclave, IsValidLine}
 use Rattle.job_grammar.proofs.EnclaveLaws.{lawful-size}
 use Rattle.job_lines.specs.declared.statements.Statement.TheVariants as says
 use Rattle.job_text.specs.declared.tcs_lines.TcsLine.{TcsLine}
 use Rattle.job_text.specs.Drafts.{Draft, add_digest, add_page, keep, last, new_enclave}
-use Rattle.job_text.specs.Faults.{added_pages, is_any_added, is_in_range, is_missing, is_out_of_order, is_shared, is_too_many, is_twice}
+use Rattle.job_text.specs.Faults.{added_pages, is_any_added, is_in_range, is_missing, is_out_of_order, is_shared, is_too_many}
+use Rattle.job_text.specs.Faults.{is_twice}
 use Rattle.job_text.specs.Faults.{lines_here}
 use Rattle.job_text.specs.Reading.{are_save_pages, has_save_pages}
 use Rattle.job_print.specs.JobText.{enclave_says, expect_says, numbered, page_says}

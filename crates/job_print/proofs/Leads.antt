@@ -3,7 +3,7 @@ use Rattle.std.proofs.Common.{◌≡◌, ℕ, ◌+◌, List, [], ◌∷◌, ◌+
 use Rattle.std.specs.List.{AllByRecursion}
 use Rattle.job_lines.specs.declared.statements.Statement.{Statement}
 use Rattle.job_text.specs.Drafts.{Draft, keep}
-use Rattle.job_text.specs.Faults.{HasNoFault}
+use Rattle.job_text.specs.inner.Faults.{HasNoFault}
 use Rattle.job_text.specs.Reading.{read_lines}
 use Rattle.job_print.proofs.Printable.{IsPrintable}
 use Rattle.job_print.proofs.LineTexts.{line-read, line_of}

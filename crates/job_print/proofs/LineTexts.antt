@@ -16,7 +16,8 @@ use Rattle.job_lines.specs.declared.statements.Operation.TheVariants as ops
 use Rattle.job_lines.specs.declared.statements.Operation.{Operation}
 use Rattle.job_lines.specs.Words.{is_skipped, lines_of, without_empty_last, without_return, words_of}
 use Rattle.job_text.specs.Drafts.{Draft, has_some, keep}
-use Rattle.job_text.specs.Faults.{HasNoFault, faults, first_of, is_out_of_order}
+use Rattle.job_text.specs.Faults.{faults, first_of, is_out_of_order}
+use Rattle.job_text.specs.inner.Faults.{HasNoFault}
 use Rattle.job_text.specs.Reading.{read_line}
 use Rattle.job_print.specs.JobText.{statement_text, statement_words, statements_text}
 use Rattle.job_print.proofs.Printable.{IsPrintable}

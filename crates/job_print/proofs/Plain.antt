@@ -14,7 +14,7 @@ use Rattle.hex.proofs.HexLemmas.{IsDigits-lower_digits}
 use Rattle.sgx_types.specs.declared.names.Perm.{Perm}
 use Rattle.text_words.specs.Words.{Words, digest_word, enclave_word, hexadecimal, letter, perm_word}
 use Rattle.sgx_types.specs.Digests.{IsDigest}
-use Rattle.text_words.specs.Reading.{IsLetter}
+use Rattle.text_words.specs.inner.Reading.{IsLetter}
 use Rattle.text_words.proofs.Splits.{is_word}
 use Rattle.text_words.proofs.WordLaws.{decimal-is_word, digest-is_word, hexadecimal-is_word, letter-is_word}
 

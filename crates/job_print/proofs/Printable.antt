@@ -1,7 +1,7 @@
 -- What can be printed: the statements whose words have a spelling.
 use Rattle.std.specs.Prelude.{◌≡◌, ℕ, ◌^◌, ◌<◌, true}
 use Rattle.sgx_types.specs.Digests.{IsDigest}
-use Rattle.text_words.specs.Reading.{IsLetter}
+use Rattle.text_words.specs.inner.Reading.{IsLetter}
 use Rattle.job_lines.specs.declared.statements.NamedPage.{NamedPage}
 use Rattle.job_lines.specs.declared.statements.Plan.{Plan}
 use Rattle.job_lines.specs.declared.statements.Plan.TheVariants as plans

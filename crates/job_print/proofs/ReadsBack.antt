@@ -4,7 +4,7 @@ use Rattle.std.proofs.Common.{◌++◌, None, Ok, find, length, All, refl, sym, 
 use Rattle.std.proofs.lemmas.Bool.{and_from, le-leb, lt-ltb, ne_eqb}
 use Rattle.std.proofs.lemmas.List.Elements.{All-head, All-nil, All-tail}
 use Rattle.job_grammar.specs.Jobs.{JobView}
-use Rattle.job_grammar.specs.Valid.{IsValid}
+use Rattle.job_grammar.specs.inner.Valid.{IsValid}
 use Rattle.job_lines.specs.Words.{lines_of}
 use Rattle.job_text.specs.declared.tcs_lines.TcsLine.{TcsLine}
 use Rattle.job_text.specs.Drafts.{Draft, empty_draft, has_some, job_of, keep}

@@ -7,27 +7,31 @@ use Rattle.std.proofs.lemmas.Bool.{and_from, and_parts, eq-eqb, eqb-true, le-leb
 use Rattle.std.proofs.lemmas.List.{append-nil, length-append}
 use Rattle.std.proofs.lemmas.List.Elements.{All-head, All-tail}
 use Rattle.sgx_types.specs.declared.names.Page.{Page}
-use Rattle.text_words.specs.Reading.{IsLetter}
+use Rattle.text_words.specs.inner.Reading.{IsLetter}
 use Rattle.io_edges.specs.declared.plans.PlanLine.{PlanLine}
 use Rattle.io_edges.specs.declared.plans.PlanLine.TheVariants as kept_plans
 use Rattle.job_grammar.specs.declared.jobs.PageLine.{PageLine}
 use Rattle.job_grammar.specs.declared.jobs.PageLine.TheVariants as pages
 use Rattle.job_grammar.specs.declared.jobs.Op.{Op}
 use Rattle.job_grammar.specs.declared.jobs.Op.TheVariants as kept_ops
-use Rattle.job_grammar.specs.Jobs.{EnclaveView, JobView, covers, enclave_at, is_added_page, is_tcs_line, is_tcs_page, lines_at, lines_in}
+use Rattle.job_grammar.specs.Jobs.{EnclaveView, JobView, covers, enclave_at, is_tcs_line, is_tcs_page, lines_at, lines_in}
+use Rattle.job_grammar.specs.inner.Jobs.{is_added_page}
 use Rattle.job_grammar.specs.Jobs.{names_tcs, script_names}
-use Rattle.job_grammar.specs.Valid.{IsOpAmong, IsOuterOffset, IsPlanAmong, IsValid, IsValidEnclave, IsValidLine, IsValidOffset}
+use Rattle.job_grammar.specs.inner.Valid.{IsOpAmong, IsOuterOffset, IsPlanAmong, IsValid, IsValidEnclave, IsValidLine}
+use Rattle.job_grammar.specs.inner.Valid.{IsValidOffset}
 use Rattle.job_grammar.proofs.EnclaveLaws.{lawful-size}
 use Rattle.job_lines.specs.declared.statements.Statement.TheVariants as says
 use Rattle.job_lines.specs.Statements.{page_of}
 use Rattle.job_text.specs.Drafts.{Draft, keep, kept_op, kept_plan}
-use Rattle.job_text.specs.Faults.{is_in_range, is_missing, is_op_in_range, is_out_of_order, is_outer_offset, is_plan_in_range, is_shared}
+use Rattle.job_text.specs.Faults.{is_in_range, is_missing, is_op_in_range, is_out_of_order, is_outer_offset, is_plan_in_range}
+use Rattle.job_text.specs.Faults.{is_shared}
 use Rattle.job_text.specs.Faults.{is_too_many, is_twice, op_stands, plan_stands}
 use Rattle.job_print.specs.JobText.{named, numbered, op_says, plan_says, plans_say, script_says}
 use Rattle.job_print.proofs.Printable.{Fits, IsPageName, IsPrintableOp, IsPrintablePlan}
 use Rattle.job_print.proofs.Stands.{Stands}
 use Rattle.job_print.proofs.Leads.{Leads, Steps, leads-on}
-use Rattle.job_print.proofs.ListLaws.{All-seam, any-seam, change_last-push, earlier-push, last-length, none-any, none-before, push-push}
+use Rattle.job_print.proofs.ListLaws.{All-seam, any-seam, change_last-push, earlier-push, last-length, none-any, none-before}
+use Rattle.job_print.proofs.ListLaws.{push-push}
 use Rattle.job_print.proofs.ListLaws.{sum-seam}
 use Rattle.job_print.proofs.PartLaws.{any-part, no-script, not-true, or-false, some-push}
 

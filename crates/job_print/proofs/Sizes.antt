@@ -14,19 +14,20 @@ use Rattle.hex.proofs.HexLemmas.{length-encode_with}
 use Rattle.sgx_types.specs.declared.names.Perm.{Perm}
 use Rattle.text_words.specs.Words.{Words, digest_word, enclave_word, hexadecimal, line_text, perm_word}
 use Rattle.sgx_types.specs.Digests.{IsDigest}
-use Rattle.text_words.specs.Reading.{IsLetter}
+use Rattle.text_words.specs.inner.Reading.{IsLetter}
 use Rattle.job_grammar.specs.declared.jobs.PageLine.{PageLine}
 use Rattle.job_grammar.specs.declared.jobs.PageLine.TheVariants as pages
 use Rattle.job_grammar.specs.declared.jobs.Op.{Op}
 use Rattle.job_grammar.specs.Jobs.{EnclaveView, JobView, enclave_pages, page_count}
-use Rattle.job_grammar.specs.Valid.{IsValid, IsValidEnclave, IsValidLine}
+use Rattle.job_grammar.specs.inner.Valid.{IsValid, IsValidEnclave, IsValidLine}
 use Rattle.job_lines.specs.declared.statements.Plan.{Plan}
 use Rattle.job_lines.specs.declared.statements.Plan.TheVariants as plans
 use Rattle.job_lines.specs.declared.statements.Operation.{Operation}
 use Rattle.job_lines.specs.declared.statements.Operation.TheVariants as ops
 use Rattle.job_lines.specs.declared.statements.Statement.{Statement}
 use Rattle.job_lines.specs.declared.statements.Statement.TheVariants as says
-use Rattle.job_print.specs.JobText.{enclave_says, expect_says, job_says, job_text, numbered, op_says, op_words, options_say, page_says}
+use Rattle.job_print.specs.JobText.{enclave_says, expect_says, job_says, job_text, numbered, op_says, op_words, options_say}
+use Rattle.job_print.specs.JobText.{page_says}
 use Rattle.job_print.specs.JobText.{plain_words, plan_says, plan_words, plans_say, script_says, statement_text, statement_words}
 use Rattle.job_print.specs.JobText.{statements_text}
 use Rattle.job_print.proofs.Printable.{Fits, IsPrintable, IsPrintableOp, IsPrintablePlan}

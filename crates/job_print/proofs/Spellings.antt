@@ -3,7 +3,8 @@ use Rattle.std.proofs.Common.{◌≡◌, ℕ, Bool, true, false, [], ◌∷◌, 
 use Rattle.std.specs.Fmt.{decimal}
 use Rattle.sgx_types.specs.declared.names.Perm.{Perm}
 use Rattle.text_words.specs.Words.{Words, enclave_word, perm_word}
-use Rattle.text_words.specs.Reading.{IsLetter, letter_of}
+use Rattle.text_words.specs.Reading.{letter_of}
+use Rattle.text_words.specs.inner.Reading.{IsLetter}
 use Rattle.text_words.proofs.Numerals.{number_of-decimal, number_of-hexadecimal}
 use Rattle.text_words.proofs.WordLaws.{digest_of-encode_lower, letter_of-letter}
 use Rattle.job_lines.specs.declared.statements.NamedPage.{NamedPage}
@@ -14,11 +15,14 @@ use Rattle.job_lines.specs.declared.statements.Operation.TheVariants as ops
 use Rattle.job_lines.specs.declared.statements.Statement.{Statement}
 use Rattle.job_lines.specs.declared.statements.Statement.TheVariants as says
 use Rattle.job_lines.specs.Words.{as_plain, call_word_of, keyword_of, perm_of, plan_word_of}
-use Rattle.job_lines.specs.Statements.{cpu_row, drop_row, enclave_row, epc_row, expect_row, fail_row, flip_row, key_row, marks_row}
-use Rattle.job_lines.specs.Statements.{outload_row, outstore_row, plan_row, reg_row, replay_row, start_row, statement_of, swap_row, tcs_row}
+use Rattle.job_lines.specs.Statements.{cpu_row, drop_row, enclave_row, epc_row, expect_row, fail_row, flip_row, key_row}
+use Rattle.job_lines.specs.Statements.{marks_row}
+use Rattle.job_lines.specs.Statements.{outload_row, outstore_row, plan_row, reg_row, replay_row, start_row, statement_of}
+use Rattle.job_lines.specs.Statements.{swap_row, tcs_row}
 use Rattle.job_print.specs.JobText.{op_words, plain_words, plan_words, statement_words}
 use Rattle.job_print.proofs.Printable.{IsPageName, IsPrintable, IsPrintableOp, IsPrintablePlan}
-use Rattle.job_print.proofs.Plain.{ArePlain, decimal-plain, digest-plain, enclave-plain, hexadecimal-plain, letter-word, perm-plain}
+use Rattle.job_print.proofs.Plain.{ArePlain, decimal-plain, digest-plain, enclave-plain, hexadecimal-plain, letter-word}
+use Rattle.job_print.proofs.Plain.{perm-plain}
 
 -- ---- single words
 

@@ -5,7 +5,8 @@ use Rattle.std.proofs.lemmas.List.{append-nil, length-map, length-take-le, map_m
 use Rattle.std.proofs.lemmas.Grind.{flat_map-append}
 use Rattle.job_grammar.specs.Jobs.{JobView}
 use Rattle.job_lines.specs.declared.statements.Statement.{Statement}
-use Rattle.job_print.specs.JobText.{enclave_says, job_text, numbered, options_say, plans_say, script_says, statement_text, statements_text}
+use Rattle.job_print.specs.JobText.{enclave_says, job_text, numbered, options_say, plans_say, script_says, statement_text}
+use Rattle.job_print.specs.JobText.{statements_text}
 
 -- the lines of some, and of others behind them
 pub joined : (text : List ℕ) (some others : List Statement)

@@ -1,8 +1,9 @@
 //! Printing a job.
 
 ghost use Rattle.std.specs.Prelude.{◌≡◌, ◌++◌, ◌≤◌, IfOk, OnOk, Ok, length, map};
-ghost use Rattle.job_grammar.specs.Jobs.{JobView, enclave_view, script_ops};
-ghost use Rattle.job_grammar.specs.Valid.{IsValid};
+ghost use Rattle.job_grammar.specs.Jobs.{JobView};
+ghost use Rattle.job_grammar.specs.inner.Jobs.{enclave_view, script_ops};
+ghost use Rattle.job_grammar.specs.inner.Valid.{IsValid};
 ghost use Rattle.job_text.specs.Reading.{read};
 ghost use Rattle.job_print.specs.JobText.{enclave_says, job_text, numbered, options_say, plans_say, script_says, statements_text};
 

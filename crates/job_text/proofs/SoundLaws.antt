@@ -14,8 +14,9 @@ use Rattle.io_edges.specs.declared.plans.PlanLine.{PlanLine}
 use Rattle.job_grammar.specs.declared.jobs.PageLine.{PageLine}
 use Rattle.job_grammar.specs.declared.jobs.PageLine.TheVariants as pages
 use Rattle.job_grammar.specs.declared.jobs.Op.{Op}
-use Rattle.job_grammar.specs.Jobs.{EnclaveView, enclave_at, enclave_pages, first_page, lines_in, names_tcs, page_count, script_names}
-use Rattle.job_grammar.specs.Valid.{IsOpAmong, IsOuterOffset, IsPlanAmong, IsValidLine}
+use Rattle.job_grammar.specs.Jobs.{EnclaveView, enclave_at, enclave_pages, first_page, lines_in, names_tcs, page_count}
+use Rattle.job_grammar.specs.Jobs.{script_names}
+use Rattle.job_grammar.specs.inner.Valid.{IsOpAmong, IsOuterOffset, IsPlanAmong, IsValidLine}
 use Rattle.job_lines.specs.declared.statements.Start.{Start}
 use Rattle.job_text.specs.declared.tcs_lines.TcsLine.{TcsLine}
 use Rattle.job_lines.specs.declared.statements.Plan.{Plan}
@@ -24,14 +25,18 @@ use Rattle.job_lines.specs.declared.statements.Operation.{Operation}
 use Rattle.job_lines.specs.declared.statements.Operation.TheVariants as ops
 use Rattle.job_lines.specs.declared.statements.Statement.{Statement}
 use Rattle.job_lines.specs.declared.statements.Statement.TheVariants as says
-use Rattle.job_text.specs.Drafts.{Draft, add_digest, add_op, add_page, change_last, empty_draft, has_some, keep, kept_op, kept_plan, last}
+use Rattle.job_text.specs.Drafts.{Draft, add_digest, add_op, add_page, change_last, empty_draft, has_some, keep, kept_op}
+use Rattle.job_text.specs.Drafts.{kept_plan, last}
 use Rattle.job_text.specs.Drafts.{new_enclave}
-use Rattle.job_lines.specs.Spelled.{IsSpelled, IsSpelledOp, IsSpelledPlan}
-use Rattle.job_text.specs.Faults.{HasNoFault, earlier, is_any_added, is_in_range, is_misplaced, is_op_in_range, is_out_of_order}
-use Rattle.job_text.specs.Faults.{is_outer_offset, is_plan_in_range, is_shared, is_too_many, latest_part, op_stands, pages_in, part_of}
+use Rattle.job_lines.specs.inner.Spelled.{IsSpelled, IsSpelledOp, IsSpelledPlan}
+use Rattle.job_text.specs.Faults.{earlier, is_any_added, is_in_range, is_misplaced, is_op_in_range, is_out_of_order}
+use Rattle.job_text.specs.inner.Faults.{HasNoFault}
+use Rattle.job_text.specs.Faults.{is_outer_offset, is_plan_in_range, is_shared, is_too_many, latest_part, op_stands, pages_in}
+use Rattle.job_text.specs.Faults.{part_of}
 use Rattle.job_text.specs.Faults.{plan_stands}
-use Rattle.job_text.specs.Sound.{AreFrames, AreNoted, AreSoundEnclaves, AreSoundPlans, AreSoundScripts, IsNoted, IsSound, IsSoundEnclave}
-use Rattle.job_text.specs.Sound.{tests}
+use Rattle.job_text.specs.inner.Sound.{AreFrames, AreNoted, AreSoundEnclaves, AreSoundPlans, AreSoundScripts, IsNoted, IsSound}
+use Rattle.job_text.specs.inner.Sound.{IsSoundEnclave}
+use Rattle.job_text.specs.inner.Sound.{tests}
 use Rattle.job_text.proofs.FaultLaws.{cpu_next, enclave_next, op_fits, plan_fits, reg_fits, some-last, tcs_fits}
 use Rattle.job_text.proofs.LastItem.{enclave-more, length-change_last, ops-more, pages-more, pages-same, sum-same}
 use Rattle.job_text.proofs.PageLaws.{once-more, free-of}

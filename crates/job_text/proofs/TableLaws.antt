@@ -8,7 +8,7 @@ use Rattle.std.proofs.lemmas.List.Folds.{find-append}
 use Rattle.std.proofs.lemmas.List.Sums.{sum_by-cons}
 use Rattle.job_grammar.specs.declared.jobs.PageLine.{PageLine}
 use Rattle.job_grammar.specs.Jobs.{covers}
-use Rattle.job_text.specs.PageTables.{Table, IsTableOf, AddsLine}
+use Rattle.job_text.specs.inner.PageTables.{Table, IsTableOf, AddsLine}
 
 -- no item of those that pass is also of kind q
 any-none : {X : Type 0} (p q : X → Bool) (xs : List X) → count_by p xs ≡ 0 → list_any (λ x. q x && p x) xs ≡ false

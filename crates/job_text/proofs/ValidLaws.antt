@@ -9,12 +9,12 @@ use Rattle.sgx_types.specs.Digests.{IsDigest}
 use Rattle.job_grammar.specs.declared.jobs.PageLine.{PageLine}
 use Rattle.job_grammar.specs.declared.jobs.PageLine.TheVariants as pages
 use Rattle.job_grammar.specs.Jobs.{EnclaveView, JobView, default_marks, is_save_page, lines_at, lines_in, needed}
-use Rattle.job_grammar.specs.Valid.{AreValidMarks, HasSavePages, IsValid, IsValidEnclave}
+use Rattle.job_grammar.specs.inner.Valid.{AreValidMarks, HasSavePages, IsValid, IsValidEnclave}
 use Rattle.job_text.specs.declared.refusals.Fault.{Fault}
 use Rattle.job_text.specs.declared.tcs_lines.TcsLine.{TcsLine}
 use Rattle.job_text.specs.Drafts.{Draft, first_start, has_some, job_of}
 use Rattle.job_text.specs.Reading.{are_save_pages, has_save_pages, is_incomplete, unsaved_line, whole}
-use Rattle.job_text.specs.Sound.{AreNoted, IsNoted, IsSound, IsSoundEnclave, IsSoundStart, tests}
+use Rattle.job_text.specs.inner.Sound.{AreNoted, IsNoted, IsSound, IsSoundEnclave, IsSoundStart, tests}
 use Rattle.job_text.proofs.WholeLaws.{whole_incomplete, whole_job, whole_none, whole_small, whole_unsaved}
 
 -- ---- state save pages

@@ -1,12 +1,13 @@
 //! What a line that has no fault adds to a draft.
 
 ghost use Rattle.std.specs.Prelude.{◌≡◌, ◌≤◌, ◌<◌, true, IfOk};
-ghost use Rattle.job_text.specs.Faults.{is_plan_in_range, is_added, plan_stands, op_stands, HasNoFault};
+ghost use Rattle.job_text.specs.Faults.{is_plan_in_range, is_added, plan_stands, op_stands};
+ghost use Rattle.job_text.specs.inner.Faults.{HasNoFault};
 ghost use Rattle.job_grammar.specs.Jobs.{first_page, page_count};
 ghost use Rattle.job_lines.specs.declared.statements.Statement.TheVariants as says;
-ghost use Rattle.job_text.specs.Facts.{HasRoom};
-ghost use Rattle.job_text.specs.Scripts.{AreSmall};
-ghost use Rattle.job_lines.specs.Spelled.{IsSpelled};
+ghost use Rattle.job_text.specs.inner.Facts.{HasRoom};
+ghost use Rattle.job_text.specs.inner.Scripts.{AreSmall};
+ghost use Rattle.job_lines.specs.inner.Spelled.{IsSpelled};
 ghost use Rattle.job_text.specs.Drafts.{add_page, keep, kept_page, kept_op, kept_plan};
 
 use crate::drafts::JobDraft;

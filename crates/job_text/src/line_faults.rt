@@ -3,9 +3,11 @@
 ghost use Rattle.std.specs.Prelude.{◌≡◌, ◌≤◌, ◌+◌, ◌^◌, ◌&&◌, nat_le, nat_lt, true, false};
 ghost use Rattle.sgx_types.specs.Lawful.{is_lawful};
 ghost use Rattle.job_text.specs.Faults.{part_of, is_between, is_plan_in_range, latest_part, is_any_added, lines_here, has_digest};
-ghost use Rattle.job_text.specs.Faults.{is_misplaced, is_out_of_order, is_twice, is_in_range, is_outer_offset, is_op_in_range, is_too_many};
-ghost use Rattle.job_text.specs.Faults.{is_added, is_tcs, plan_stands, op_stands, is_missing, is_named_before, is_shared, faults, first_of};
-ghost use Rattle.job_text.specs.Faults.{HasNoFault};
+ghost use Rattle.job_text.specs.Faults.{is_misplaced, is_out_of_order, is_twice, is_in_range, is_outer_offset, is_op_in_range};
+ghost use Rattle.job_text.specs.Faults.{is_too_many};
+ghost use Rattle.job_text.specs.Faults.{is_added, is_tcs, plan_stands, op_stands, is_missing, is_named_before, is_shared, faults};
+ghost use Rattle.job_text.specs.Faults.{first_of};
+ghost use Rattle.job_text.specs.inner.Faults.{HasNoFault};
 ghost use Rattle.job_grammar.specs.Jobs.{enclave_at};
 ghost use Rattle.job_text.specs.Drafts.{last};
 

@@ -2,7 +2,7 @@
 
 ghost use Rattle.std.specs.Prelude.{◌≡◌, ◌+◌, ◌*◌, ◌<◌, ◌≤◌, ℕ, Some, cond, vec_len};
 ghost use Rattle.job_grammar.specs.Jobs.{names_tcs};
-ghost use Rattle.job_text.specs.Scripts.{AreSmall, owner_at};
+ghost use Rattle.job_text.specs.inner.Scripts.{AreSmall, owner_at};
 
 use crate::lasts::add_op;
 use job_grammar::jobs::Op;
@@ -25,7 +25,7 @@ pub(crate) struct Scripts {
 impl Model for Scripts {
     ghost use Rattle.std.specs.Prelude.{List};
     ghost use Rattle.job_grammar.specs.declared.jobs.Op.{Op};
-    ghost use Rattle.job_text.specs.Scripts.{view_of, IsKept};
+    ghost use Rattle.job_text.specs.inner.Scripts.{view_of, IsKept};
 
     ghost Value = { List (List Op) };
 
@@ -59,7 +59,8 @@ fn note(owners: &mut Vec<Option<u8>>, op: Op, script: u8)
 impl Scripts {
     ghost use Rattle.std.specs.Prelude.{[], ◌∷◌, ◌++◌, ◌==◌, length, IfOk, IfErr, true, false};
     ghost use Rattle.std.specs.List.{list_any};
-    ghost use Rattle.job_grammar.specs.Jobs.{script_names, script_ops};
+    ghost use Rattle.job_grammar.specs.Jobs.{script_names};
+    ghost use Rattle.job_grammar.specs.inner.Jobs.{script_ops};
     ghost use Rattle.job_text.specs.Drafts.{add_op};
     ghost use Rattle.job_text.specs.Faults.{earlier};
 

@@ -1,9 +1,10 @@
 //! The job of a draft of all lines, or what is missing in it.
 
 ghost use Rattle.std.specs.Prelude.{◌≡◌, ℕ, unwrap_or, Some, Ok, Err, IfOk, MatchOption};
-ghost use Rattle.job_grammar.specs.Jobs.{is_save_page, lines_at, needed, parts_view};
+ghost use Rattle.job_grammar.specs.Jobs.{is_save_page, lines_at, needed};
+ghost use Rattle.job_grammar.specs.inner.Jobs.{parts_view};
 ghost use Rattle.job_text.specs.Reading.{has_save_pages, is_incomplete, unsaved_line, whole};
-ghost use Rattle.job_text.specs.Sound.{IsSound};
+ghost use Rattle.job_text.specs.inner.Sound.{IsSound};
 ghost use Rattle.job_text.specs.Drafts.{first_start, job_of};
 
 use crate::drafts::JobDraft;

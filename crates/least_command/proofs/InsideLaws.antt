@@ -5,7 +5,7 @@ use Rattle.trace_text.proofs.EntryLaws.{newest_more}
 use Rattle.sgx_rules.specs.declared.entries.Entry.{Entry}
 use Rattle.sgx_types.specs.declared.names.Page.{Page}
 use Rattle.least_command.specs.Accesses.{accessed, accesses_of}
-use Rattle.least_command.specs.Kept.{AreInside}
+use Rattle.least_command.specs.inner.Kept.{AreInside}
 
 pub inside_more : (entries : List Entry) (i : ℕ) (d : Entry) (inside : List (Option ℕ)) → i < length entries
     → AreInside (get_or entries i d ∷ reverse (take i entries)) inside

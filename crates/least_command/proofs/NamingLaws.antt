@@ -9,8 +9,8 @@ use Rattle.sgx_types.proofs.Pages.{same_pages, same_page-refl}
 use Rattle.sgx_types.proofs.Truths.{apart}
 use Rattle.least_reloads.specs.Plans.{has}
 use Rattle.least_command.specs.declared.accesses.Access.{Access}
-use Rattle.least_command.specs.Kept.{page_of}
-use Rattle.least_command.specs.Naming.{AreNamed, Renaming, name}
+use Rattle.least_command.specs.inner.Kept.{page_of}
+use Rattle.least_command.specs.inner.Naming.{AreNamed, Renaming, name}
 
 -- ---- two pages change their names
 

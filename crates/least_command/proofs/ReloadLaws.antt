@@ -5,7 +5,7 @@ use Rattle.trace_text.proofs.EntryLaws.{newest_more}
 use Rattle.sgx_rules.specs.declared.entries.Entry.{Entry}
 use Rattle.sgx_types.specs.declared.names.Page.{Page}
 use Rattle.least_command.specs.Accesses.{brings_back, made}
-use Rattle.least_command.specs.Reloads.{AreRegs}
+use Rattle.least_command.specs.inner.Reloads.{AreRegs}
 
 pub regs_more : (entries : List Entry) (i : ℕ) (d : Entry) (regs : List Page) → i < length entries
     → AreRegs (get_or entries i d ∷ reverse (take i entries)) regs

@@ -10,7 +10,7 @@ use Rattle.sgx_types.proofs.Pages.{same_pages, same_page-refl}
 use Rattle.least_reloads.specs.Plans.{StepView, PlanView, IsStep, IsRun, IsLawful, after, has, kept, loads_of}
 use Rattle.least_reloads.proofs.Pages.{distinct_cons, distinct_parts, none_distinct}
 use Rattle.least_command.specs.Fewest.{IsFewest}
-use Rattle.least_command.specs.Naming.{Renaming}
+use Rattle.least_command.specs.inner.Naming.{Renaming}
 
 -- the names the other way
 abbrev pub turned : Renaming → Renaming

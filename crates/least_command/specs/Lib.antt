@@ -1,5 +1,3 @@
 pub mod Accesses
 pub mod Fewest
-pub mod Kept
-pub mod Reloads
-pub mod Naming
+pub mod inner

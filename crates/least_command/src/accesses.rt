@@ -4,7 +4,7 @@ ghost use Rattle.std.specs.Prelude.{◌≡◌, ◌∷◌, ◌++◌, List, map, r
 ghost use Rattle.sgx_rules.specs.declared.entries.Entry.{Entry};
 ghost use Rattle.sgx_rules.specs.Processors.{move_by};
 ghost use Rattle.least_command.specs.Accesses.{accessed, accesses_of, offset_of};
-ghost use Rattle.least_command.specs.Kept.{AreInside, enclave_after, page_of};
+ghost use Rattle.least_command.specs.inner.Kept.{AreInside, enclave_after, page_of};
 
 use sgx_rules::entries::{Action, Entry, Event};
 use sgx_types::names::{Actor, Memory, PAGE_BYTES};

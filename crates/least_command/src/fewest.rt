@@ -3,8 +3,8 @@
 ghost use Rattle.std.specs.Prelude.{◌≤◌, [], ◌∷◌, ◌++◌, List, IfOk, map};
 ghost use Rattle.std.specs.HashMap.{get, hash_map_len};
 ghost use Rattle.least_command.specs.Fewest.{IsFewest};
-ghost use Rattle.least_command.specs.Kept.{page_of, same_access};
-ghost use Rattle.least_command.specs.Naming.{AreNamed, AreOtherNames, access_of, name};
+ghost use Rattle.least_command.specs.inner.Kept.{page_of, same_access};
+ghost use Rattle.least_command.specs.inner.Naming.{AreNamed, AreOtherNames, access_of, name};
 ghost use Rattle.sgx_types.specs.declared.names.Page.{Page};
 
 use crate::accesses::Access;

@@ -1,7 +1,7 @@
 //! The text on a trace of a job, given to a sink.
 
 ghost use Rattle.std.specs.Prelude.{◌≡◌, List, IsErrOf, OnOk, reverse, ℕ};
-ghost use Rattle.io_edges.specs.Faults.{HasCause};
+ghost use Rattle.io_edges.specs.inner.Faults.{HasCause};
 ghost use Rattle.io_edges.specs.Sinks.{GivesPart, followed_by};
 ghost use Rattle.least_command.specs.Fewest.{IsLeastText};
 

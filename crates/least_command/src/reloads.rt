@@ -3,7 +3,7 @@
 ghost use Rattle.std.specs.Prelude.{◌≡◌, ◌∷◌, List, IfOk, OnOk, reverse};
 ghost use Rattle.sgx_rules.specs.declared.entries.Entry.{Entry};
 ghost use Rattle.least_command.specs.Accesses.{brings_back, made};
-ghost use Rattle.least_command.specs.Reloads.{AreRegs};
+ghost use Rattle.least_command.specs.inner.Reloads.{AreRegs};
 
 use least_reloads::page_set::PageSet;
 use sgx_rules::entries::{Action, Answer, Entry, Event};

@@ -14,7 +14,7 @@ use Rattle.sgx_types.specs.declared.names.Page.{Page}
 use Rattle.sgx_types.specs.Pages.{same_page}
 use Rattle.sgx_types.proofs.Pages.{same_pages, same_page-refl}
 use Rattle.least_reloads.specs.Plans.{StepView, has, kept, after}
-use Rattle.least_reloads.specs.Farthest.{stays, comes, swaps, IsUsedLast, Hit, Fill, Swap, Holds, next_use, Keeps, Chosen}
+use Rattle.least_reloads.specs.inner.Farthest.{stays, comes, swaps, IsUsedLast, Hit, Fill, Swap, Holds, next_use, Keeps, Chosen}
 use Rattle.least_reloads.proofs.Soon.{without, length-without}
 use Rattle.least_reloads.proofs.Held.{has-append}
 use Rattle.least_reloads.proofs.FarthestLaws.{all_kept}

@@ -8,12 +8,14 @@ use Rattle.sgx_types.specs.declared.names.Page.{Page}
 use Rattle.sgx_types.specs.Pages.{same_page}
 use Rattle.sgx_types.proofs.Pages.{same_page-refl}
 use Rattle.sgx_types.proofs.CountLaws.{one_if}
-use Rattle.least_reloads.specs.Plans.{StepView, PlanView, has, kept, after, IsStep, IsRun, loads_of, IsLawful, IsLeast}
-use Rattle.least_reloads.specs.Farthest.{stays, comes, swaps, IsUsedLast, IsBest, Hit, Fill, Swap, IsBestRun, Holds}
+use Rattle.least_reloads.specs.Plans.{StepView, PlanView, has, kept, after, IsStep, IsRun, loads_of, IsLawful}
+use Rattle.least_reloads.specs.inner.Plans.{IsLeast}
+use Rattle.least_reloads.specs.inner.Farthest.{stays, comes, swaps, IsUsedLast, IsBest, Hit, Fill, Swap, IsBestRun, Holds}
 use Rattle.least_reloads.proofs.Pages.{none_distinct, one_distinct}
 use Rattle.least_reloads.proofs.Held.{has-kept, has_one, loaded, distinct-after}
 use Rattle.least_reloads.proofs.Soon.{count, soon, count-append, count-le, count-filter, count-all, none_soon}
-use Rattle.least_reloads.proofs.Soon.{count-or_is_held, count-or_is_absent, count-or_is_once, without, count-without, length-without}
+use Rattle.least_reloads.proofs.Soon.{count-or_is_held, count-or_is_absent, count-or_is_once, without, count-without}
+use Rattle.least_reloads.proofs.Soon.{length-without}
 
 -- no more of their held pages are used soon than of ours, but for d, however soon is meant
 abbrev pub Behind : List Page → List Page → List Page → ℕ → Type 0

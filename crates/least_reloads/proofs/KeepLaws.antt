@@ -16,7 +16,7 @@ use Rattle.sgx_types.specs.declared.names.Page.{Page}
 use Rattle.sgx_types.specs.Pages.{same_page}
 use Rattle.sgx_types.proofs.Pages.{same_pages, same_page-refl}
 use Rattle.least_reloads.specs.Plans.{has}
-use Rattle.least_reloads.specs.Farthest.{next_use, IsUse, Keeps}
+use Rattle.least_reloads.specs.inner.Farthest.{next_use, IsUse, Keeps}
 use Rattle.least_reloads.proofs.Soon.{without, length-without}
 use Rattle.least_reloads.proofs.Held.{has-filter, has-append, has_one}
 

@@ -6,7 +6,7 @@ use Rattle.std.proofs.lemmas.Bool.{or_from}
 use Rattle.sgx_types.specs.declared.names.Page.{Page}
 use Rattle.sgx_types.specs.Pages.{same_page}
 use Rattle.least_reloads.specs.declared.page_key.PageKey.{PageKey}
-use Rattle.least_reloads.specs.Keys.{same_key, key_of, page_of}
+use Rattle.least_reloads.specs.inner.Keys.{same_key, key_of, page_of}
 use Rattle.least_reloads.specs.Plans.{has}
 use Rattle.least_reloads.proofs.Pages.{distinct_cons, none_distinct}
 

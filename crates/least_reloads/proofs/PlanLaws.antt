@@ -3,8 +3,9 @@ use Rattle.std.proofs.Common.{◌≡◌, ℕ, ◌+◌, ◌<◌, ◌≤◌, List,
 use Rattle.std.proofs.Common.{get_or, Some, is_some, cond, arith, refl, sym, subst, append_assoc}
 use Rattle.std.proofs.lemmas.List.{drop_more, drop_all, append-nil, length-append}
 use Rattle.sgx_types.specs.declared.names.Page.{Page}
-use Rattle.least_reloads.specs.Plans.{StepView, PlanView, after, loads_of, IsLawful, IsLeast}
-use Rattle.least_reloads.specs.Farthest.{IsBest, Hit, Fill, Swap, IsBestRun, Holds, IsUseAt, Keeps, Chosen}
+use Rattle.least_reloads.specs.Plans.{StepView, PlanView, after, loads_of, IsLawful}
+use Rattle.least_reloads.specs.inner.Plans.{IsLeast}
+use Rattle.least_reloads.specs.inner.Farthest.{IsBest, Hit, Fill, Swap, IsBestRun, Holds, IsUseAt, Keeps, Chosen}
 use Rattle.least_reloads.proofs.FarthestLaws.{holds_next, holds_none, reached, least}
 use Rattle.least_reloads.proofs.RunLaws.{loads_of-append}
 use Rattle.least_reloads.proofs.KeepLaws.{Changes, keeps_next, keeps_like}

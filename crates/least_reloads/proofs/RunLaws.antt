@@ -9,7 +9,7 @@ use Rattle.std.proofs.lemmas.Map.Made.{length-from_same_keys}
 use Rattle.sgx_types.specs.declared.names.Page.{Page}
 use Rattle.sgx_types.specs.Pages.{same_page}
 use Rattle.least_reloads.specs.Plans.{StepView, has, kept, after, loads_of, IsStep, IsRun}
-use Rattle.least_reloads.specs.Sets.{AreOf, CanLeave, CanJoin, Leave, Join}
+use Rattle.least_reloads.specs.inner.Sets.{AreOf, CanLeave, CanJoin, Leave, Join}
 use Rattle.least_reloads.proofs.Pages.{page_laws, none_distinct}
 use Rattle.least_reloads.proofs.Held.{has-kept, has-after, distinct-after}
 

@@ -1,5 +1,2 @@
 pub mod Plans
-pub mod Sets
-pub mod Keys
-pub mod KeptPages
-pub mod Farthest
+pub mod inner

@@ -52,7 +52,3 @@ loads_of (step ∷ steps) = length step.load + loads_of steps
 pub record IsLawful (accesses : List Page) (frames : ℕ) (plan : PlanView) : Type 0 where
   pub run : IsRun frames [] accesses plan.steps
   pub counted : plan.loads ≡ loads_of plan.steps
-
--- every lawful plan for these accesses and frames makes at least as many loads
-abbrev pub IsLeast : List Page → ℕ → PlanView → Type 0
-IsLeast accesses frames plan = (other : PlanView) → IsLawful accesses frames other → plan.loads ≤ other.loads

@@ -4,8 +4,9 @@ ghost use Rattle.std.specs.Prelude.{◌≡◌, ◌≤◌, List, ◌∷◌, lengt
 ghost use Rattle.std.specs.Ordering.{nat_cmp};
 ghost use Rattle.std.specs.BTreeMap.{get, btree_map_len};
 ghost use Rattle.sgx_types.specs.declared.names.Page.{Page};
-ghost use Rattle.least_reloads.specs.Plans.{IsLawful, IsLeast};
-ghost use Rattle.least_reloads.specs.Farthest.{AreUses, Holds, Keeps, Chosen};
+ghost use Rattle.least_reloads.specs.Plans.{IsLawful};
+ghost use Rattle.least_reloads.specs.inner.Plans.{IsLeast};
+ghost use Rattle.least_reloads.specs.inner.Farthest.{AreUses, Holds, Keeps, Chosen};
 
 use crate::load_plan::{LoadPlan, Step};
 use crate::page_key::PageKey;

@@ -3,7 +3,7 @@
 ghost use Rattle.std.specs.Prelude.{◌≡◌, ◌↔◌, [], length, IsTrue, IfOk};
 ghost use Rattle.std.specs.Bool.{MatchBool};
 ghost use Rattle.least_reloads.specs.Plans.{loads_of, IsRun, IsLawful};
-ghost use Rattle.least_reloads.specs.Sets.{CanLeave, CanJoin, Leave, Join, Serves};
+ghost use Rattle.least_reloads.specs.inner.Sets.{CanLeave, CanJoin, Leave, Join, Serves};
 
 use crate::load_plan::{LoadPlan, Step};
 use crate::page_set::PageSet;

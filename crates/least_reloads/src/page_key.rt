@@ -1,7 +1,7 @@
 //! Pages as the keys of maps.
 
 ghost use Rattle.std.specs.Prelude.{◌≡◌};
-ghost use Rattle.least_reloads.specs.Keys.{key_of};
+ghost use Rattle.least_reloads.specs.inner.Keys.{key_of};
 
 use sgx_types::names::Page;
 

@@ -24,7 +24,7 @@ impl Model for PageSet {
 
     ghost Value = { List Page };
 
-    ghost use Rattle.least_reloads.specs.KeptPages.{pages_of};
+    ghost use Rattle.least_reloads.specs.inner.KeptPages.{pages_of};
 
     ghost view = { pages_of };
 }

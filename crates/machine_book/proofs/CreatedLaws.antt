@@ -16,13 +16,14 @@ use Rattle.sgx_types.specs.declared.names.Perm.{Perm}
 use Rattle.sgx_types.specs.Pages.{no_perm}
 use Rattle.sgx_rules.specs.declared.entries.Event.{Event}
 use Rattle.sgx_rules.specs.declared.entries.Event.TheVariants.{Did}
-use Rattle.sgx_rules.specs.Enclaves.{created, created_by}
+use Rattle.sgx_rules.specs.inner.Enclaves.{created, created_by}
 use Rattle.sgx_rules.specs.Flat.{FlatEnclave, marked}
 use Rattle.sgx_rules.specs.Rules.{Along}
 use Rattle.job_grammar.specs.Jobs.{EnclaveView, JobView, va_pages}
 use Rattle.job_grammar.specs.declared.jobs.PageLine.{PageLine}
 use Rattle.job_grammar.specs.declared.jobs.PageLine.TheVariants as lines
-use Rattle.turn_rules.specs.Script.{build_of, built, enclave_steps, enclaves_steps, line_steps, numbers_from, page_steps, step_action}
+use Rattle.turn_rules.specs.Script.{build_of, built, enclave_steps, enclaves_steps, line_steps, numbers_from, page_steps}
+use Rattle.turn_rules.specs.Script.{step_action}
 use Rattle.turn_rules.specs.declared.steps.BuildStep.{BuildStep}
 use Rattle.turn_rules.specs.declared.steps.BuildStep.TheVariants as builds
 use Rattle.driver_rules.specs.Ages.{AgeRule}

@@ -16,21 +16,21 @@ use Rattle.sgx_rules.specs.Rules.{Along}
 use Rattle.driver_rules.specs.Ages.{AgeRule}
 use Rattle.driver_rules.specs.Scripts.{ScriptRule}
 use Rattle.driver_laws.proofs.StepLaws.{Builds, ByStep, NoStep, builds_or_none}
-use Rattle.driver_laws.specs.Tracking.{TrackingRule}
+use Rattle.driver_laws.specs.inner.Tracking.{TrackingRule}
 use Rattle.turn_rules.specs.Script.{action_of, is_builder, step_action}
 use Rattle.turn_rules.specs.declared.steps.BuildStep.{BuildStep}
 use Rattle.turn_rules.specs.declared.steps.BuildStep.TheVariants as builds
 use Rattle.job_grammar.specs.Jobs.{JobView}
-use Rattle.job_grammar.specs.Valid.{IsValid}
+use Rattle.job_grammar.specs.inner.Valid.{IsValid}
 use Rattle.run_turns.specs.declared.turn.Turn.{Turn}
 use Rattle.run_turns.specs.declared.turn.Turn.TheVariants as turns
-use Rattle.run_turns.specs.Turns.{EndsBy, EndsLoad, EndsOut, RefusesLoad}
-use Rattle.run_turns.specs.Views.{BookView, HasGrown, Holds, IsBuild, IsLoadEnd, IsOutEnd, IsReclaim, IsRun}
+use Rattle.run_turns.specs.inner.Turns.{EndsBy, EndsLoad, EndsOut, RefusesLoad}
+use Rattle.run_turns.specs.inner.Views.{BookView, HasGrown, Holds, IsBuild, IsLoadEnd, IsOutEnd, IsReclaim, IsRun}
 use Rattle.epoch_words.specs.declared.seen.Seen.{Seen}
-use Rattle.epoch_words.specs.Seen.{starting_at}
-use Rattle.epoch_notes.specs.Notes.{CanNote, IsOfCpus, NotesView, TableId, TellsEntries}
+use Rattle.epoch_words.specs.inner.Seen.{starting_at}
+use Rattle.epoch_notes.specs.inner.Notes.{CanNote, IsOfCpus, NotesView, TableId, TellsEntries}
 use Rattle.epoch_notes.proofs.NoteLaws.{tells_none, tells_other, tells_quiet}
-use Rattle.machine_book.specs.Words.{KeepsWords}
+use Rattle.machine_book.specs.inner.Words.{KeepsWords}
 use Rattle.machine_book.proofs.CreatedLaws.{created_are_jobs}
 
 -- ---- what a turn made

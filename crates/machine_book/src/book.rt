@@ -1,10 +1,10 @@
 //! The book of a run with its tracking words.
 
 ghost use Rattle.std.specs.Prelude.{◌≡◌, ◌≤◌, ◌<◌, [], false, true, IfOk, IfSome, OnErr, drop, length, replicate, reverse};
-ghost use Rattle.epoch_words.specs.Known.{enclaves};
-ghost use Rattle.epoch_words.specs.Seen.{starting_at};
-ghost use Rattle.epoch_notes.specs.Notes.{TellsEntries};
-ghost use Rattle.run_turns.specs.Views.{Holds, IsBuild, IsLoadEnd, IsOutEnd, IsReclaim, IsRun};
+ghost use Rattle.epoch_words.specs.inner.Known.{enclaves};
+ghost use Rattle.epoch_words.specs.inner.Seen.{starting_at};
+ghost use Rattle.epoch_notes.specs.inner.Notes.{TellsEntries};
+ghost use Rattle.run_turns.specs.inner.Views.{Holds, IsBuild, IsLoadEnd, IsOutEnd, IsReclaim, IsRun};
 
 use backing_store::backing::Backing;
 use epoch_notes::notes::EpochNotes;
@@ -30,7 +30,7 @@ pub struct MachineBook<B: Backing> {
 }
 
 impl<B: Backing> Model for MachineBook<B> {
-    ghost use Rattle.machine_book.specs.Words.{KeepsWords, MachineView};
+    ghost use Rattle.machine_book.specs.inner.Words.{KeepsWords, MachineView};
 
     ghost Value = { MachineView };
 

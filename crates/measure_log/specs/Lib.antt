@@ -2,3 +2,4 @@ pub mod Blocks
 pub mod Log
 pub mod Measure
 pub mod Rule
+pub mod inner

@@ -3,7 +3,7 @@
 ghost use Rattle.std.specs.Prelude.{ℕ, List, ◌++◌};
 ghost use Rattle.std.specs.Int.{w64, to_le_bytes};
 ghost use Rattle.measure_log.specs.Blocks.{ecreate_block, eadd_block, eextend_block};
-ghost use Rattle.measure_log.specs.Measure.{HoldsLog, TakesIn, FinishesTo};
+ghost use Rattle.measure_log.specs.inner.Measure.{HoldsLog, TakesIn, FinishesTo};
 
 use sha2::{Digest, Sha256};
 

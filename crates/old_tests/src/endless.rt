@@ -1,7 +1,7 @@
 //! A source that has no end.
 
 ghost use Rattle.std.specs.Prelude.{◌≡◌, ◌<◌, ◌≤◌, length, None, IfOk, IsErr};
-ghost use Rattle.io_edges.specs.Faults.{HasCause};
+ghost use Rattle.io_edges.specs.inner.Faults.{HasCause};
 
 use io_edges::faults::Failed;
 use io_edges::sources::Source;

@@ -3,17 +3,19 @@ use Rattle.std.proofs.Common.{◌≡◌, ◌<◌, ◌≤◌, ◌^◌, ℕ, List,
 use Rattle.std.proofs.Common.{inl, refl, sym, ap, subst, append_assoc, take, length-append, length-take, arith}
 use Rattle.std.specs.Prelude.{IfErr, IfOk, IfSome, IsErrOf}
 use Rattle.std.proofs.lemmas.List.{append-nil}
-use Rattle.io_edges.specs.Sources.{HasRead}
+use Rattle.io_edges.specs.inner.Sources.{HasRead}
 use Rattle.io_edges.proofs.Read.{HasRead-all, HasRead-append, HasRead-bound}
 use Rattle.sgx_rules.specs.declared.entries.Entry.{Entry}
-use Rattle.trace_reader.specs.Faults.{IsFirstFault, Progress, Reading, Faulted}
-use Rattle.trace_reader.specs.Outcomes.{Feeds, Finishes, Tells}
+use Rattle.trace_reader.specs.Faults.{IsFirstFault}
+use Rattle.trace_reader.specs.inner.Faults.{Progress, Reading, Faulted}
+use Rattle.trace_reader.specs.inner.Outcomes.{Feeds, Finishes, Tells}
 use Rattle.trace_reader.specs.declared.refusals.TraceRefusal.{TraceRefusal}
 use Rattle.trace_reader.specs.declared.refusals.TraceRefusal.TheVariants.{Fault, Memory}
 use Rattle.old_trace.specs.declared.unread.Unread.{Unread}
 use Rattle.old_trace.specs.declared.unread.Unread.TheVariants as ends
-use Rattle.old_trace.specs.Reading.{IsFaultOf, OfRead, Reads}
-use Rattle.old_trace.specs.Seen.{HasSeen}
+use Rattle.old_trace.specs.Reading.{OfRead, Reads}
+use Rattle.old_trace.specs.inner.Reading.{IsFaultOf}
+use Rattle.old_trace.specs.inner.Seen.{HasSeen}
 
 -- a piece more, which was read or has or had the fault
 pub seen_more : (old new : Progress) (bytes piece : List ℕ) (told : Result (Unit {0}) TraceRefusal) → Feeds old piece told new

@@ -5,8 +5,6 @@ use Rattle.std.specs.Fmt.{decimal}
 use Rattle.sgx_rules.specs.declared.entries.Entry.{Entry}
 use Rattle.trace_reader.specs.Faults.{IsFirstFault, text_of}
 use Rattle.trace_text.specs.Readable.{AreReadable}
-use Rattle.old_trace.specs.declared.unread.Unread.{Unread}
-use Rattle.old_trace.specs.declared.unread.Unread.TheVariants.{Bad}
 
 -- The bytes are the text of these entries, which stand oldest first; or this is their first line with which no trace goes on, and line 0
 -- where they are too many.
@@ -17,11 +15,6 @@ Reads bytes (Err line) = ((2 ^ 30 < length bytes) × (line ≡ 0)) ⊎ ((length 
 -- a fact of the bytes that a source had, where it tells them, and of some bytes otherwise
 abbrev pub OfRead : Option (List ℕ) → (List ℕ → Type 0) → Type 0
 OfRead left P = (bytes : List ℕ) × IfSome left (λ all. bytes ≡ all) × P bytes
-
--- where there is no trace for a fault of its text, it is what reading the bytes gives
-abbrev pub IsFaultOf : Option (List ℕ) → Unread → Type 0
-IsFaultOf left (Bad line) = OfRead left (λ bytes. Reads bytes (Err line))
-IsFaultOf left _ = Unit {0}
 
 -- the line on the first fault of a trace
 abbrev pub fault_line : ℕ → List ℕ

@@ -2,10 +2,12 @@
 
 ghost use Rattle.std.specs.Prelude.{◌≡◌, ◌<◌, ◌≤◌, ◌+◌, ◌^◌, ◌++◌, [], ℕ, List, Err, Ok, take, length, IfErr};
 ghost use Rattle.std.specs.Prelude.{IfOk, IfSome, IsErrOf, OnErr, Result};
-ghost use Rattle.io_edges.specs.Faults.{HasCause};
-ghost use Rattle.io_edges.specs.Sources.{HasRead, TakesAtMost};
-ghost use Rattle.old_trace.specs.Reading.{IsFaultOf, OfRead, Reads};
-ghost use Rattle.old_trace.specs.Seen.{HasSeen};
+ghost use Rattle.io_edges.specs.inner.Faults.{HasCause};
+ghost use Rattle.io_edges.specs.Sources.{TakesAtMost};
+ghost use Rattle.io_edges.specs.inner.Sources.{HasRead};
+ghost use Rattle.old_trace.specs.Reading.{OfRead, Reads};
+ghost use Rattle.old_trace.specs.inner.Reading.{IsFaultOf};
+ghost use Rattle.old_trace.specs.inner.Seen.{HasSeen};
 ghost use Rattle.sgx_rules.specs.declared.entries.Entry.{Entry};
 
 use crate::unread::Unread;

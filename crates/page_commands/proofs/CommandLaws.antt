@@ -5,7 +5,8 @@ use Rattle.std.specs.Prelude.{IfSome, replicate}
 use Rattle.std.proofs.Math.Seq.{drop-length}
 use Rattle.std.proofs.lemmas.List.{length-replicate}
 use Rattle.sgx_rules.specs.declared.entries.Entry.{Entry}
-use Rattle.io_edges.specs.Sources.{emptied, TakesAtMost}
+use Rattle.io_edges.specs.Sources.{TakesAtMost}
+use Rattle.io_edges.specs.inner.Sources.{emptied}
 use Rattle.io_edges.specs.declared.plans.PlanLine.{PlanLine}
 use Rattle.job_lines.specs.declared.kinds.JobKind.TheVariants.{TooLong}
 use Rattle.job_text.specs.Reading.{at, read}
@@ -17,7 +18,8 @@ use Rattle.run_jobs.specs.Runs.{WholeRun}
 use Rattle.page_commands.specs.declared.jobs.Unread.TheVariants as unread
 use Rattle.job_make.specs.MadeJob.{made_job}
 use Rattle.old_trace.specs.Reading.{OfRead}
-use Rattle.page_commands.specs.Runs.{DemoBy, IsFaultOf, RanBy}
+use Rattle.page_commands.specs.Runs.{DemoBy, RanBy}
+use Rattle.page_commands.specs.inner.Runs.{IsFaultOf}
 
 -- ---- the bytes read
 

@@ -20,19 +20,6 @@ ReadsOld command = (command ≡ Some commands.Least) ⊎ (command ≡ Some comma
 abbrev pub ReadsJob : Option Command → Type 0
 ReadsJob command = (command ≡ Some commands.Run) ⊎ ReadsOld command
 
--- the exit status of the program
-abbrev pub number_of : Status → ℕ
-number_of statuses.Done = 0
-number_of statuses.BadJob = 1
-number_of statuses.BadWords = 2
-number_of statuses.ReadFault = 3
-number_of statuses.WriteFault = 4
-number_of statuses.Memory = 5
-number_of statuses.AuditNo = 6
-number_of statuses.Bus = 7
-number_of statuses.BadTrace = 8
-number_of statuses.Spent = 9
-
 -- the status of a run whose texts were given
 abbrev pub status_of : End → Status
 status_of ends.Done = statuses.Done
@@ -59,19 +46,6 @@ IsUnrun status = MayStandIn status
 abbrev pub IsUntraced : Status → Type 0
 IsUntraced statuses.BadTrace = Unit {0}
 IsUntraced status = IsUnrun status
-
--- a run that ended so: its status, where its texts were given, and else a fault or want of memory
-abbrev pub IsGiven : End → Status → Type 0 → Type 0
-IsGiven end statuses.WriteFault Given = Unit {0}
-IsGiven end statuses.Memory Given = Unit {0}
-IsGiven end status Given = (status ≡ status_of end) × Given
-
--- how `run` may end, how `demo`, how `least` and how `audit`
-abbrev pub IsRunEnd : Status → Type 0
-IsRunEnd statuses.BadWords = ⊥
-IsRunEnd statuses.BadTrace = ⊥
-IsRunEnd statuses.AuditNo = ⊥
-IsRunEnd status = Unit {0}
 
 abbrev pub IsDemoEnd : Status → Type 0
 IsDemoEnd statuses.BadWords = ⊥

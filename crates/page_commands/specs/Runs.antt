@@ -11,11 +11,8 @@ use Rattle.job_text.specs.Reading.{read}
 use Rattle.job_grammar.specs.Jobs.{JobView}
 use Rattle.job_make.specs.MadeJob.{made_job}
 use Rattle.backing_store.specs.Calls.{Call}
-use Rattle.old_trace.specs.Reading.{OfRead}
 use Rattle.run_jobs.specs.declared.ends.End.{End}
 use Rattle.run_jobs.specs.Runs.{WholeRun}
-use Rattle.page_commands.specs.declared.jobs.Unread.{Unread}
-use Rattle.page_commands.specs.declared.jobs.Unread.TheVariants.{Bad}
 use Rattle.run_replies.specs.OutText.{out_of}
 use Rattle.page_commands.specs.declared.status.Status.{Status}
 use Rattle.page_commands.specs.declared.status.Status.TheVariants as statuses
@@ -97,13 +94,3 @@ Told bytes out out' = (fault : Fault) × (read bytes ≡ Err fault) × (out' ≡
 -- .. or a proper front of it
 abbrev pub HalfTold : List ℕ → Option (List ℕ) → Option (List ℕ) → Type 0
 HalfTold bytes out out' = (fault : Fault) × (read bytes ≡ Err fault) × GivesPart out out' (fault_line fault)
-
--- if there is no job for a fault of its text, it is what reading the bytes gives
-abbrev pub IsFaultOf : Option (List ℕ) → Unread → Type 0
-IsFaultOf left (Bad fault) = OfRead left (λ bytes. read bytes ≡ Err fault)
-IsFaultOf left _ = Unit {0}
-
--- there is no job for a fault of its text, and this of it
-abbrev pub IsFaultAnd : Unread → (Fault → Type 0) → Type 0
-IsFaultAnd (Bad fault) P = P fault
-IsFaultAnd _ P = ⊥

@@ -6,7 +6,8 @@ ghost use Rattle.io_edges.specs.Sources.{TakesAtMost};
 ghost use Rattle.old_trace.specs.Reading.{OfRead};
 ghost use Rattle.page_commands.specs.Commands.{IsAuditEnd, MayStandIn, NoFault};
 ghost use Rattle.page_commands.specs.Runs.{HalfTold, HasFault, HasJob, Told};
-ghost use Rattle.page_commands.specs.Traces.{HalfJudged, HalfLineTold, HasTrace, HasWrongLine, IsRight, IsWrong, LineTold, NoTold, YesTold};
+ghost use Rattle.page_commands.specs.Traces.{HalfJudged, HalfLineTold, HasTrace, HasWrongLine, IsRight, IsWrong, LineTold};
+ghost use Rattle.page_commands.specs.Traces.{NoTold, YesTold};
 
 use crate::status::Status;
 use crate::traces::read_traced;

@@ -12,10 +12,12 @@ ghost use Rattle.job_make.specs.MadeJob.{made_job};
 ghost use Rattle.job_print.specs.JobText.{job_text};
 ghost use Rattle.run_summary.specs.Summary.{summary_of};
 ghost use Rattle.old_trace.specs.Reading.{OfRead};
-ghost use Rattle.page_commands.specs.Commands.{HasEnded, IsAuditEnd, IsDemoEnd, IsLeastEnd, MayStandIn, NoFault, ReadsJob, ReadsOld};
+ghost use Rattle.page_commands.specs.Commands.{HasEnded, IsAuditEnd, IsDemoEnd, IsLeastEnd, MayStandIn, NoFault, ReadsJob};
+ghost use Rattle.page_commands.specs.Commands.{ReadsOld};
 ghost use Rattle.page_commands.specs.Commands.{status_of};
 ghost use Rattle.page_commands.specs.Runs.{BothGiven, DemoBy, HalfGiven, HalfTold, HasFault, HasJob, IsTextGiven, RanBy, Told};
-ghost use Rattle.page_commands.specs.Traces.{HalfJudged, HalfLineTold, HasTrace, HasWrongLine, IsRight, IsWrong, LeastBy, LineTold, NoTold};
+ghost use Rattle.page_commands.specs.Traces.{HalfJudged, HalfLineTold, HasTrace, HasWrongLine, IsRight, IsWrong, LeastBy};
+ghost use Rattle.page_commands.specs.Traces.{LineTold, NoTold};
 ghost use Rattle.page_commands.specs.Traces.{YesTold};
 ghost use Rattle.run_jobs.specs.declared.ends.End.{End};
 

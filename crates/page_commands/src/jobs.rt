@@ -7,7 +7,8 @@ ghost use Rattle.io_edges.specs.Sources.{TakesAtMost};
 ghost use Rattle.page_commands.specs.Commands.{IsUnrun};
 ghost use Rattle.job_text.specs.Reading.{read};
 ghost use Rattle.old_trace.specs.Reading.{OfRead};
-ghost use Rattle.page_commands.specs.Runs.{IsFaultAnd, IsFaultOf, fault_line};
+ghost use Rattle.page_commands.specs.Runs.{fault_line};
+ghost use Rattle.page_commands.specs.inner.Runs.{IsFaultAnd, IsFaultOf};
 
 use crate::fault_lines::print_fault;
 use crate::status::Status;

@@ -6,7 +6,8 @@ ghost use Rattle.io_edges.specs.Sinks.{GivesPart, followed_by};
 ghost use Rattle.job_make.specs.MadeJob.{made_job};
 ghost use Rattle.job_print.specs.JobText.{job_text};
 ghost use Rattle.run_summary.specs.Summary.{summary_of};
-ghost use Rattle.page_commands.specs.Commands.{IsDemoEnd, IsGiven, status_of};
+ghost use Rattle.page_commands.specs.Commands.{IsDemoEnd, status_of};
+ghost use Rattle.page_commands.specs.inner.Commands.{IsGiven};
 ghost use Rattle.page_commands.specs.Runs.{DemoBy, IsTextGiven};
 ghost use Rattle.run_jobs.specs.declared.ends.End.{End};
 

@@ -1,7 +1,8 @@
 //! How a command ended.
 
 ghost use Rattle.std.specs.Prelude.{◌≡◌};
-ghost use Rattle.page_commands.specs.Commands.{number_of, status_of};
+ghost use Rattle.page_commands.specs.Commands.{status_of};
+ghost use Rattle.page_commands.specs.inner.Commands.{number_of};
 
 use run_jobs::ends::End;
 

@@ -24,11 +24,11 @@ use Rattle.sgx_types.specs.Pages.{same_slot}
 use Rattle.sgx_rules.specs.Slots.{open_slot, slot_of, version_in}
 use Rattle.sgx_rules.specs.Starts.{Start, open_start}
 use Rattle.sgx_rules.specs.Table.{EnclaveSight, FrameSight, add_row, create_row, epa_row, first_of_row, is_valid}
-use Rattle.page_history.specs.Copies.{InFrame, InSlot, OneLiveCopy, copy, copy_after, in_slot}
+use Rattle.page_history.specs.inner.Copies.{InFrame, InSlot, OneLiveCopy, copy, copy_after, in_slot}
 use Rattle.sgx_rules.specs.Fresh.{FreshRule, IsLastOut, Out, last_out, out_after}
 use Rattle.sgx_types.specs.Making.{Making}
 use Rattle.sgx_rules.specs.Ends.{EndsIn}
-use Rattle.page_history.specs.Once.{DrawnOnce, Gone, IsGone, KeepsMoves, StartsApart, gone, gone_after}
+use Rattle.page_history.specs.inner.Once.{DrawnOnce, Gone, IsGone, KeepsMoves, StartsApart, gone, gone_after}
 use Rattle.page_history.proofs.DrawnLaws.{drawn_once}
 use Rattle.page_history.proofs.FlatLaws.{added_flat}
 use Rattle.sgx_rules.proofs.Contents.{one_page, vacant}

@@ -16,7 +16,7 @@ use Rattle.sgx_rules.specs.Rules.{EndsWriteOut, EvictRule, RisingRule}
 use Rattle.sgx_rules.specs.Slots.{is_draw, next_version}
 use Rattle.sgx_rules.specs.Starts.{Start, open_start, version_told}
 use Rattle.sgx_types.specs.Making.{Making}
-use Rattle.page_history.specs.Once.{DrawnOnce, Gone, IsGone, KeepsMoves, gone}
+use Rattle.page_history.specs.inner.Once.{DrawnOnce, Gone, IsGone, KeepsMoves, gone}
 use Rattle.page_history.proofs.OpenStarts.{any_cases, apart_frames, ended_cases, entry_of, opened_cases}
 
 -- the next version is not below the first

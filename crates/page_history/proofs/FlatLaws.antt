@@ -16,8 +16,10 @@ use Rattle.sgx_types.specs.declared.names.Page.{Page}
 use Rattle.sgx_types.specs.declared.names.Perm.{Perm}
 use Rattle.sgx_types.specs.declared.record.Header.{Header}
 use Rattle.sgx_rules.specs.Flat.{FlatEnclave, FlatMemory, FlatPage, Inside, accepts, added_as, at_offset, build_after, cpu_after}
-use Rattle.sgx_rules.specs.Flat.{enclave_sight, event_after, fields_in, first_words, flat, flat_build_row, header_by, header_in, marked}
-use Rattle.sgx_rules.specs.Flat.{memory_after, open_frame, rewritten, saved, stored, sum_of, with_cssa, with_words, word_index, word_seen}
+use Rattle.sgx_rules.specs.Flat.{enclave_sight, event_after, fields_in, first_words, flat, flat_build_row, header_by, header_in}
+use Rattle.sgx_rules.specs.Flat.{marked}
+use Rattle.sgx_rules.specs.Flat.{memory_after, open_frame, rewritten, saved, stored, sum_of, with_cssa, with_words, word_index}
+use Rattle.sgx_rules.specs.Flat.{word_seen}
 use Rattle.sgx_types.specs.Pages.{page_at, same_page}
 use Rattle.sgx_rules.specs.Frames.{added}
 use Rattle.sgx_rules.specs.Rules.{Along, FlatRule}

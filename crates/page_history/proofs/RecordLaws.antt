@@ -21,8 +21,9 @@ use Rattle.seal_record.specs.Cipher.{tag, sealed}
 use Rattle.seal_record.specs.Records.{Made}
 use Rattle.sgx_rules.specs.Fresh.{Out, last_out}
 use Rattle.sgx_types.specs.Making.{Making}
-use Rattle.page_history.specs.Once.{DrawnOnce, Gone, IsGone, IsLastMade, IsMade, IsOfPage, KeepsMoves, MadeOnce, gone}
-use Rattle.seal_record.specs.Sealing.{IsSealed, SealedRule, made_by, made_with, more_made, record_in}
+use Rattle.page_history.specs.inner.Once.{DrawnOnce, Gone, IsGone, IsLastMade, IsMade, IsOfPage, KeepsMoves, MadeOnce, gone}
+use Rattle.seal_record.specs.Sealing.{IsSealed, SealedRule, made_with, record_in}
+use Rattle.seal_record.specs.inner.Sealing.{made_by, more_made}
 use Rattle.page_history.proofs.DrawnLaws.{drawn_once, keeps_before}
 use Rattle.page_history.proofs.FlatLaws.{header_still}
 use Rattle.page_history.proofs.OpenStarts.{any_front, any_head, any_last, any_rest, ended_cases, entry_of, opened_cases}

@@ -4,7 +4,8 @@ use Rattle.std.proofs.Common.{◌≡◌, ℕ, ◌<◌, ◌==◌, ◌||◌, not, 
 use Rattle.std.proofs.Common.{subst, Option, Some, None, is_none, is_some, List, [], ◌∷◌, length}
 use Rattle.std.proofs.lemmas.Bool.{cond_both, eqb-true, false≢true, leb-false}
 use Rattle.sgx_rules.specs.declared.entries.Action.{Action}
-use Rattle.sgx_rules.specs.declared.entries.Action.TheVariants.{Epa, Create, Add, Extend, Enter, Resume, Fill, Block, EwbStart, Ewb}
+use Rattle.sgx_rules.specs.declared.entries.Action.TheVariants.{Epa, Create, Add, Extend, Enter, Resume, Fill, Block, EwbStart}
+use Rattle.sgx_rules.specs.declared.entries.Action.TheVariants.{Ewb}
 use Rattle.sgx_rules.specs.declared.entries.Action.TheVariants.{EldStart, Eld}
 use Rattle.sgx_types.specs.declared.names.Actor.{Actor}
 use Rattle.sgx_rules.specs.declared.entries.Answer.{Answer}
@@ -20,10 +21,12 @@ use Rattle.sgx_rules.specs.Flat.{FlatPage, added_as, enclave_sight, flat, flat_b
 use Rattle.sgx_types.specs.Pages.{page_at, same_page}
 use Rattle.sgx_rules.specs.Frames.{Content, Free, IsVa, SecsOf, Holds, IsLoading, added, content, is_page, reloaded}
 use Rattle.sgx_types.specs.Making.{Making}
-use Rattle.sgx_rules.specs.Rules.{Along, Fits, FitsRule, LoadsAwayRule, NamesFrames, RefusalRule, TakesFree}
+use Rattle.sgx_rules.specs.Rules.{Along, Fits, FitsRule, NamesFrames, RefusalRule, TakesFree}
+use Rattle.sgx_rules.specs.inner.Rules.{LoadsAwayRule}
 use Rattle.sgx_rules.specs.Sights.{enclave_of_stay, row_at, sight_at, stay_of}
 use Rattle.sgx_rules.specs.Slots.{is_slot_busy}
-use Rattle.sgx_rules.specs.Starts.{LoadsAreApart, Start, is_load_of, loads_page, open_start, version_told}
+use Rattle.sgx_rules.specs.Starts.{Start, is_load_of, loads_page, open_start, version_told}
+use Rattle.sgx_rules.specs.inner.Starts.{LoadsAreApart}
 use Rattle.sgx_types.specs.Lawful.{is_enclave, is_lawful}
 use Rattle.sgx_rules.specs.Table.{EnclaveSight, FrameSight, add_row, fill_row, is_busy}
 use Rattle.sgx_rules.proofs.Contents.{free_there}

@@ -24,7 +24,7 @@ use Rattle.sgx_rules.specs.Slots.{is_slot_busy, names_slot, open_slot, slot_of, 
 use Rattle.sgx_rules.specs.Starts.{Start, open_start, opened_by, version_told}
 use Rattle.sgx_rules.specs.Table.{EnclaveSight, FrameSight, add_row, is_busy, is_loading, is_out_of_range}
 use Rattle.sgx_types.specs.Making.{Making}
-use Rattle.page_history.specs.Once.{KeepsMoves, StartsApart}
+use Rattle.page_history.specs.inner.Once.{KeepsMoves, StartsApart}
 use Rattle.page_history.proofs.DrawnLaws.{keeps_before}
 use Rattle.page_history.proofs.FlatLaws.{added_flat}
 use Rattle.sgx_rules.proofs.Busy.{open_busy}

@@ -2,14 +2,15 @@
 
 ghost use Rattle.std.specs.Prelude.{ℕ, ◌≡◌, ◌≤◌, ◌<◌, List, Some};
 ghost use Rattle.sgx_rules.specs.declared.entries.Entry.{Entry};
-ghost use Rattle.sgx_rules.specs.Rules.{Along, Fits, LoadsAwayRule, RefusalRule};
+ghost use Rattle.sgx_rules.specs.Rules.{Along, Fits, RefusalRule};
+ghost use Rattle.sgx_rules.specs.inner.Rules.{LoadsAwayRule};
 ghost use Rattle.sgx_rules.specs.Slots.{version_in};
-ghost use Rattle.sgx_rules.specs.Starts.{LoadsAreApart};
+ghost use Rattle.sgx_rules.specs.inner.Starts.{LoadsAreApart};
 ghost use Rattle.sgx_types.specs.declared.names.Page.{Page};
 ghost use Rattle.sgx_types.specs.declared.names.SlotAt.{SlotAt};
-ghost use Rattle.page_history.specs.Copies.{InSlot, OneLiveCopy, copy};
+ghost use Rattle.page_history.specs.inner.Copies.{InSlot, OneLiveCopy, copy};
 ghost use Rattle.sgx_types.specs.Making.{Making};
-ghost use Rattle.page_history.specs.Once.{DrawnOnce, KeepsMoves, MadeOnce, StartsApart};
+ghost use Rattle.page_history.specs.inner.Once.{DrawnOnce, KeepsMoves, MadeOnce, StartsApart};
 ghost use Rattle.seal_record.specs.Sealing.{SealedRule};
 
 /// Where the rules are kept, each version is drawn once, and each open start has its slot for itself.

@@ -15,20 +15,22 @@ use Rattle.sgx_types.specs.declared.names.Perm.{Perm}
 use Rattle.sgx_types.specs.Pages.{page_at, no_perm}
 use Rattle.sgx_rules.specs.Frames.{Content, Holds, is_page, SecsOf, Free, IsVa, IsLoading}
 use Rattle.sgx_rules.specs.Processors.{Seat, Stay, stay, holds_number, translations}
-use Rattle.sgx_rules.specs.Table.{FrameSight, is_busy, is_loading, is_reg, perm_in, allows_read, allows_write, allows_update, access_row}
+use Rattle.sgx_rules.specs.Table.{FrameSight, is_busy, is_loading, is_reg, perm_in, allows_read, allows_write, allows_update}
+use Rattle.sgx_rules.specs.Table.{access_row}
 use Rattle.sgx_rules.specs.Table.{fill_row, first_of_row}
 use Rattle.sgx_rules.specs.Flat.{flat, flat_translation, memory_after, stored, sum_of, with_words, word_index, word_seen}
 use Rattle.sgx_rules.specs.Sights.{translation_at}
 use Rattle.cached_translations.specs.declared.cache.Translation.{Translation}
-use Rattle.cached_translations.specs.Translations.{translation_of, with_translation}
-use Rattle.paging_laws.specs.State.{State, sight, seat_enclave, perm_of_held, translation, row_of, frame_in, rewritten, after_fill}
-use Rattle.paging_laws.specs.State.{after_store, after_xadd, word_at}
-use Rattle.paging_laws.specs.Stands.{Stands, IsTranslation, IsSeated, IsSound, inside_of_stay, Shows}
+use Rattle.cached_translations.specs.inner.Translations.{translation_of, with_translation}
+use Rattle.paging_laws.specs.inner.State.{State, sight, seat_enclave, perm_of_held, translation, row_of, frame_in, rewritten}
+use Rattle.paging_laws.specs.inner.State.{after_fill}
+use Rattle.paging_laws.specs.inner.State.{after_store, after_xadd, word_at}
+use Rattle.paging_laws.specs.inner.Stands.{Stands, IsTranslation, IsSeated, IsSound, inside_of_stay, Shows}
 use Rattle.paging_laws.proofs.TestLaws.{each_there}
 use Rattle.paging_laws.proofs.Contents.{IsKindOf, reg_there}
 use Rattle.paging_laws.proofs.WordLaws.{once_in_state, shows_changed}
 use Rattle.paging_laws.proofs.ProcessorLaws.{mode_in_flat}
-use Rattle.paging_laws.specs.Columns.{seat_of_stay}
+use Rattle.paging_laws.specs.inner.Columns.{seat_of_stay}
 use Rattle.paging_laws.proofs.NextEntry.{BringsDone}
 use Rattle.paging_laws.proofs.ColumnLaws.{inside_flat, inside_is, translations_are}
 use Rattle.paging_laws.proofs.SoundLaws.{seat_at}

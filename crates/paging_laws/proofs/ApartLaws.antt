@@ -4,11 +4,11 @@ use Rattle.std.proofs.Common.{None, ◌⊎◌, inl, inr}
 use Rattle.std.proofs.lemmas.Bool.{cond_both, eqb-true, eq-eqb, false≢true}
 use Rattle.sgx_types.specs.declared.names.SlotAt.{SlotAt}
 use Rattle.sgx_types.specs.Pages.{same_slot}
-use Rattle.sgx_rules.specs.Starts.{BareStart}
+use Rattle.sgx_rules.specs.inner.Starts.{BareStart}
 use Rattle.sgx_rules.proofs.Busy.{same_slot-refl}
 use Rattle.sgx_types.proofs.Pages.{same_slots}
 use Rattle.page_history.proofs.OpenStarts.{ended_cases, opened_cases}
-use Rattle.paging_laws.specs.Guarded.{AreApart, IsNamed}
+use Rattle.paging_laws.specs.inner.Guarded.{AreApart, IsNamed}
 
 -- .. of a frame that had none, with a slot that was not busy
 pub started_apart : (frames : ℕ) (opened : ℕ → Option BareStart) (busy : SlotAt → Bool) (f : ℕ) (x : BareStart) → f < frames

@@ -17,7 +17,8 @@ use Rattle.sgx_rules.specs.Frames.{Content, Free, IsVa, SecsOf, Holds, content}
 use Rattle.sgx_types.specs.Lawful.{is_enclave, is_lawful}
 use Rattle.sgx_rules.specs.Table.{FrameSight, is_busy, is_valid, epa_row, create_row, add_row, EnclaveSight}
 use Rattle.sgx_rules.specs.Table.{first_of_row}
-use Rattle.sgx_rules.specs.Flat.{FlatEnclave, FlatPage, FlatMemory, added_as, flat, open_frame, enclave_sight_of, first_words, with_page}
+use Rattle.sgx_rules.specs.Flat.{FlatEnclave, FlatPage, FlatMemory, added_as, flat, open_frame, enclave_sight_of, first_words}
+use Rattle.sgx_rules.specs.Flat.{with_page}
 use Rattle.sgx_rules.specs.Flat.{marked}
 use Rattle.sgx_types.specs.Layouts.{flags_of}
 use Rattle.sgx_rules.proofs.Contents.{free_there}
@@ -26,15 +27,15 @@ use Rattle.sgx_types.proofs.Truths.{neither}
 use Rattle.sgx_types.proofs.Pages.{same_page-at, same_pages}
 use Rattle.measure_log.specs.declared.measure.Measure.{Measure}
 use Rattle.measure_log.specs.Blocks.{ecreate_block, eadd_block}
-use Rattle.measure_log.specs.Measure.{HoldsLog, TakesIn}
+use Rattle.measure_log.specs.inner.Measure.{HoldsLog, TakesIn}
 use Rattle.measure_log.specs.Rule.{log, MeasureRule}
-use Rattle.paging_laws.specs.State.{State, sight, row_of, after_epa, after_create, after_add, after_init}
-use Rattle.paging_laws.specs.Stands.{Stands, IsSound, EnclavesSeen, HasWords, enclaves_flat, enclaves_seen}
+use Rattle.paging_laws.specs.inner.State.{State, sight, row_of, after_epa, after_create, after_add, after_init}
+use Rattle.paging_laws.specs.inner.Stands.{Stands, IsSound, EnclavesSeen, HasWords, enclaves_flat, enclaves_seen}
 use Rattle.paging_laws.proofs.TestLaws.{both_false, is_none-None, none_there}
 use Rattle.paging_laws.proofs.MeasureLaws.{begins, goes_on, stays}
 use Rattle.paging_laws.proofs.SoundLaws.{sound-put}
 use Rattle.paging_laws.proofs.WordLaws.{length-first_words}
-use Rattle.paging_laws.specs.Steps.{did_by}
+use Rattle.paging_laws.specs.inner.Steps.{did_by}
 use Rattle.paging_laws.proofs.NextEntry.{BringsDone}
 use Rattle.paging_laws.proofs.ColumnLaws.{added_flat, enclave_flat}
 

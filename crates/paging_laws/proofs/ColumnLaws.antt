@@ -4,17 +4,19 @@ use Rattle.std.proofs.Common.{[], ◌∷◌, map, is_some}
 use Rattle.sgx_rules.specs.declared.entries.Entry.{Entry}
 use Rattle.sgx_types.specs.declared.names.Page.{Page}
 use Rattle.sgx_types.specs.declared.names.SlotAt.{SlotAt}
-use Rattle.sgx_rules.specs.Enclaves.{EnclavesAreFlat, created}
-use Rattle.sgx_rules.specs.Epochs.{block_epoch, epoch, epoch_in, noted}
+use Rattle.sgx_rules.specs.inner.Enclaves.{EnclavesAreFlat, created}
+use Rattle.sgx_rules.specs.Epochs.{epoch, epoch_in}
+use Rattle.sgx_rules.specs.inner.Epochs.{block_epoch, noted}
 use Rattle.sgx_rules.specs.Flat.{added_as, flat}
 use Rattle.sgx_rules.specs.Frames.{added, content, is_block, is_blocked, is_put, is_sealing, made_before, put_by}
 use Rattle.sgx_rules.specs.Processors.{stay, translations}
 use Rattle.sgx_rules.specs.Sights.{sight_at}
 use Rattle.sgx_rules.specs.Slots.{next_version, version_in}
-use Rattle.sgx_rules.specs.Starts.{bare_start, open_start}
-use Rattle.paging_laws.specs.Columns.{HasColumns, noted_inside, without_perm, seat_of_stay}
-use Rattle.paging_laws.specs.Stands.{Stands, inside_of_stay}
-use Rattle.paging_laws.specs.State.{State, sight}
+use Rattle.sgx_rules.specs.Starts.{open_start}
+use Rattle.sgx_rules.specs.inner.Starts.{bare_start}
+use Rattle.paging_laws.specs.inner.Columns.{HasColumns, noted_inside, without_perm, seat_of_stay}
+use Rattle.paging_laws.specs.inner.Stands.{Stands, inside_of_stay}
+use Rattle.paging_laws.specs.inner.State.{State, sight}
 
 -- ---- by the entries
 

@@ -17,17 +17,21 @@ use Rattle.sgx_rules.specs.declared.refusals.Refusal.TheVariants as why
 use Rattle.sgx_types.specs.Pages.{page_at, same_page}
 use Rattle.sgx_rules.specs.Frames.{Content, Holds, is_page}
 use Rattle.sgx_rules.specs.Processors.{Seat, stay, stay_from}
-use Rattle.sgx_rules.specs.Table.{Case, when, FrameSight, EnterSight, TcsSight, EnclaveSight, is_busy, is_loading, is_tcs, is_reg, is_made}
+use Rattle.sgx_rules.specs.Table.{Case, when, FrameSight, EnterSight, TcsSight, EnclaveSight, is_busy, is_loading, is_tcs}
+use Rattle.sgx_rules.specs.Table.{is_reg, is_made}
 use Rattle.sgx_rules.specs.Table.{is_ready, perm_in, allows_update, entry_row, enter_row, resume_row, first_of_row}
-use Rattle.sgx_rules.specs.Flat.{FlatCpu, page_words, flat_content, flat, enclave_sight_of, tcs_fields, fields_in, with_cssa, with_words}
+use Rattle.sgx_rules.specs.Flat.{FlatCpu, page_words, flat_content, flat, enclave_sight_of, tcs_fields, fields_in, with_cssa}
+use Rattle.sgx_rules.specs.Flat.{with_words}
 use Rattle.sgx_rules.specs.Flat.{words_of, flat_enter_sight, resumed_word, entered, memory_after, FlatMemory}
 use Rattle.sgx_rules.specs.Sights.{seat_of}
-use Rattle.paging_laws.specs.State.{State, enter_sight, row_of, cssa_in, saved_word, rewritten, after_enter, after_resume}
-use Rattle.paging_laws.specs.Stands.{Stands, IsUsable, IsSeated, IsSound, inside_of_stay, next_save, EnclavesSeen, cpu_shown}
+use Rattle.paging_laws.specs.inner.State.{State, enter_sight, row_of, cssa_in, saved_word, rewritten, after_enter, after_resume}
+use Rattle.paging_laws.specs.inner.Stands.{Stands, IsUsable, IsSeated, IsSound, inside_of_stay, next_save, EnclavesSeen}
+use Rattle.paging_laws.specs.inner.Stands.{cpu_shown}
 use Rattle.paging_laws.proofs.TestLaws.{both_false, equal}
 use Rattle.paging_laws.proofs.Contents.{IsKindOf, tcs_there, reg_there}
 use Rattle.paging_laws.proofs.SoundLaws.{sound-inside, sized-rewritten}
-use Rattle.paging_laws.proofs.WordLaws.{once_in_state, ossa-with_cssa, cssa-with_cssa, cssa_small, length-with_cssa, shows_changed}
+use Rattle.paging_laws.proofs.WordLaws.{once_in_state, ossa-with_cssa, cssa-with_cssa, cssa_small, length-with_cssa}
+use Rattle.paging_laws.proofs.WordLaws.{shows_changed}
 use Rattle.paging_laws.proofs.ProcessorLaws.{mode_in_flat}
 use Rattle.paging_laws.proofs.NextEntry.{BringsDone}
 use Rattle.paging_laws.proofs.ColumnLaws.{busy_flat, enclave_flat}

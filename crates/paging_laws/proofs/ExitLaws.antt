@@ -13,17 +13,19 @@ use Rattle.sgx_types.specs.declared.names.Kind.TheVariants as kinds
 use Rattle.sgx_types.specs.Pages.{page_at}
 use Rattle.sgx_rules.specs.Processors.{Seat, Stay, stay}
 use Rattle.sgx_rules.specs.Table.{TcsSight, inside_row, first_of_row}
-use Rattle.sgx_rules.specs.Flat.{FlatCpu, Inside, flat, fields_in, left, saved, tcs_fields, with_cssa, with_words, page_words, memory_after}
+use Rattle.sgx_rules.specs.Flat.{FlatCpu, Inside, flat, fields_in, left, saved, tcs_fields, with_cssa, with_words, page_words}
+use Rattle.sgx_rules.specs.Flat.{memory_after}
 use Rattle.sgx_rules.specs.Flat.{FlatMemory, is_inside_by}
-use Rattle.paging_laws.specs.State.{State, row_of, cssa_in, rewritten, with_saved, after_exit, after_aex, is_seated_by}
-use Rattle.paging_laws.specs.Stands.{IsSound, inside_of_stay, next_save, Shows, Stands, cpu_shown, enclaves_flat, enclaves_seen}
+use Rattle.paging_laws.specs.inner.State.{State, row_of, cssa_in, rewritten, with_saved, after_exit, after_aex, is_seated_by}
+use Rattle.paging_laws.specs.inner.Stands.{IsSound, inside_of_stay, next_save, Shows, Stands, cpu_shown, enclaves_flat}
+use Rattle.paging_laws.specs.inner.Stands.{enclaves_seen}
 use Rattle.paging_laws.proofs.TestLaws.{equal}
 use Rattle.paging_laws.proofs.Contents.{one_named, tcs_there, tcs_no_reg}
 use Rattle.paging_laws.proofs.SoundLaws.{sound-left, sized-rewritten, seat_at}
 use Rattle.paging_laws.proofs.WordLaws.{once_in_state, length-with_cssa, shows_changed}
 use Rattle.paging_laws.proofs.ProcessorLaws.{mode_in_flat, seated_in_flat}
-use Rattle.paging_laws.specs.Steps.{did_by}
-use Rattle.paging_laws.specs.Columns.{seat_of_stay}
+use Rattle.paging_laws.specs.inner.Steps.{did_by}
+use Rattle.paging_laws.specs.inner.Columns.{seat_of_stay}
 use Rattle.paging_laws.proofs.NextEntry.{BringsDone}
 use Rattle.paging_laws.proofs.ColumnLaws.{acc_flat, inside_flat, inside_is}
 use Rattle.sgx_rules.specs.Rules.{NoPageTwice}

@@ -17,11 +17,11 @@ use Rattle.sgx_types.proofs.Truths.{neither}
 use Rattle.sgx_types.specs.Layouts.{bytes_of}
 use Rattle.measure_log.specs.declared.measure.Measure.{Measure}
 use Rattle.measure_log.specs.Blocks.{eextend_block, chunk_of}
-use Rattle.measure_log.specs.Measure.{TakesIn}
+use Rattle.measure_log.specs.inner.Measure.{TakesIn}
 use Rattle.measure_log.specs.Log.{Logged, logged_chunk}
 use Rattle.measure_log.specs.Rule.{page_in, log}
-use Rattle.paging_laws.specs.State.{State, sight, is_closed, row_of, after_extend}
-use Rattle.paging_laws.specs.Stands.{HasEnclaves, Stands}
+use Rattle.paging_laws.specs.inner.State.{State, sight, is_closed, row_of, after_extend}
+use Rattle.paging_laws.specs.inner.Stands.{HasEnclaves, Stands}
 use Rattle.paging_laws.proofs.TestLaws.{is_none-None}
 use Rattle.paging_laws.proofs.MeasureLaws.{goes_on}
 use Rattle.paging_laws.proofs.NextEntry.{BringsDone}

@@ -17,20 +17,23 @@ use Rattle.sgx_types.specs.declared.names.SlotAt.{SlotAt}
 use Rattle.sgx_rules.specs.declared.refusals.Refusal.{Refusal}
 use Rattle.sgx_types.specs.Pages.{page_at, same_page}
 use Rattle.sgx_rules.specs.Frames.{Content, Free, IsVa, SecsOf, Holds, IsLoading, added, content, is_page, reloaded}
-use Rattle.sgx_rules.specs.Starts.{BareStart, Start, bare_start, open_start, is_load_of, loads_page, version_told}
-use Rattle.sgx_rules.specs.Rules.{FitsRule, LoadsAwayRule, NoPageTwice}
+use Rattle.sgx_rules.specs.Starts.{Start, open_start, is_load_of, loads_page, version_told}
+use Rattle.sgx_rules.specs.inner.Starts.{BareStart, bare_start}
+use Rattle.sgx_rules.specs.Rules.{FitsRule, NoPageTwice}
+use Rattle.sgx_rules.specs.inner.Rules.{LoadsAwayRule}
 use Rattle.sgx_rules.specs.Table.{is_loading, first_of_row}
 use Rattle.sgx_types.specs.Sealed.{Sealed}
-use Rattle.epcm_entry.specs.Words.{words_of}
+use Rattle.epcm_entry.specs.inner.Words.{words_of}
 use Rattle.seal_record.specs.Cipher.{cipher}
 use Rattle.page_history.proofs.ApartLaws.{IsApart, IsAway, loaded_away, never, put_apart, start_apart}
-use Rattle.paging_laws.specs.Guarded.{IsGuarded, IsOpen}
-use Rattle.paging_laws.specs.Shape.{ShapeWithRules, FitsApart}
-use Rattle.paging_laws.specs.Stands.{IsSound, IsFramed}
-use Rattle.paging_laws.specs.State.{State, row_of, sight, after_eld, after_failed_eld}
-use Rattle.paging_laws.specs.Steps.{CanApply, IsDone, IsStep, IsComing, IsWrittenOut, IsReloaded, commit_row, did_by, refused_by}
+use Rattle.paging_laws.specs.inner.Guarded.{IsGuarded, IsOpen}
+use Rattle.paging_laws.specs.inner.Shape.{ShapeWithRules, FitsApart}
+use Rattle.paging_laws.specs.inner.Stands.{IsSound, IsFramed}
+use Rattle.paging_laws.specs.inner.State.{State, row_of, sight, after_eld, after_failed_eld}
+use Rattle.paging_laws.specs.inner.Steps.{CanApply, IsDone, IsStep, IsComing, IsWrittenOut, IsReloaded, commit_row, did_by}
+use Rattle.paging_laws.specs.inner.Steps.{refused_by}
 use Rattle.paging_laws.proofs.TestLaws.{last_place}
-use Rattle.paging_laws.specs.Columns.{HasColumns}
+use Rattle.paging_laws.specs.inner.Columns.{HasColumns}
 use Rattle.paging_laws.proofs.BuildLaws.{adds}
 use Rattle.paging_laws.proofs.ColumnLaws.{added_is, content_is, start_is}
 use Rattle.paging_laws.proofs.SlotLaws.{started_as}

@@ -13,13 +13,14 @@ use Rattle.sgx_types.specs.declared.names.Frame.{Frame}
 use Rattle.sgx_rules.specs.declared.refusals.Refusal.{Refusal}
 use Rattle.sgx_rules.specs.Rules.{Along, FitsRule}
 use Rattle.sgx_types.specs.Sealed.{Sealed}
-use Rattle.sgx_rules.specs.Starts.{BareStart, Start, open_start, opened_by}
+use Rattle.sgx_rules.specs.Starts.{Start, open_start, opened_by}
+use Rattle.sgx_rules.specs.inner.Starts.{BareStart}
 use Rattle.sgx_rules.specs.Table.{first_of_row}
-use Rattle.epcm_entry.specs.Words.{words_of}
+use Rattle.epcm_entry.specs.inner.Words.{words_of}
 use Rattle.seal_record.specs.Cipher.{cipher}
-use Rattle.paging_laws.specs.Columns.{HasColumns}
-use Rattle.paging_laws.specs.State.{State, row_of, after_eld, after_failed_eld}
-use Rattle.paging_laws.specs.Steps.{CanApply, IsDone, IsReloaded, IsStep, IsWrittenOut, commit_row, did_by, refused_by}
+use Rattle.paging_laws.specs.inner.Columns.{HasColumns}
+use Rattle.paging_laws.specs.inner.State.{State, row_of, after_eld, after_failed_eld}
+use Rattle.paging_laws.specs.inner.Steps.{CanApply, IsDone, IsReloaded, IsStep, IsWrittenOut, commit_row, did_by, refused_by}
 use Rattle.paging_laws.proofs.SlotLaws.{started_as}
 use Rattle.paging_laws.proofs.RowLaws.{row_fits, step_entry, IsEntryOf}
 

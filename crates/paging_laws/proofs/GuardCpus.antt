@@ -14,10 +14,11 @@ use Rattle.sgx_rules.specs.Table.{FrameSight, enter_row, resume_row, fill_row, f
 use Rattle.sgx_rules.proofs.Rows.{none_holds}
 use Rattle.sgx_types.proofs.Pages.{same_page-at, same_pages}
 use Rattle.cached_translations.specs.declared.cache.Translation.{Translation}
-use Rattle.cached_translations.specs.Translations.{with_translation}
-use Rattle.paging_laws.specs.State.{State, sight, enter_sight, seat_enclave, with_inside, with_saved, is_seated_by, cssa_in, saved_word}
-use Rattle.paging_laws.specs.State.{after_enter, after_resume, after_exit, after_aex, after_fill}
-use Rattle.paging_laws.specs.Guarded.{IsNoEarlier, HasNoted, IsTakenIn, IsGuarded}
+use Rattle.cached_translations.specs.inner.Translations.{with_translation}
+use Rattle.paging_laws.specs.inner.State.{State, sight, enter_sight, seat_enclave, with_inside, with_saved, is_seated_by}
+use Rattle.paging_laws.specs.inner.State.{cssa_in, saved_word}
+use Rattle.paging_laws.specs.inner.State.{after_enter, after_resume, after_exit, after_aex, after_fill}
+use Rattle.paging_laws.specs.inner.Guarded.{IsNoEarlier, HasNoted, IsTakenIn, IsGuarded}
 use Rattle.paging_laws.proofs.TestLaws.{equal, none_there, there_then}
 use Rattle.paging_laws.proofs.EntryLaws.{enters, enter_saves, enter_saved, resume_saves, resume_saved}
 use Rattle.paging_laws.proofs.AccessLaws.{outside_refused}

@@ -14,13 +14,14 @@ use Rattle.sgx_rules.specs.Flat.{FlatEnclave}
 use Rattle.sgx_types.specs.Pages.{same_page}
 use Rattle.sgx_rules.specs.Frames.{Content, Free, SecsOf, Holds, IsLoading, enclave_in}
 use Rattle.sgx_rules.specs.Processors.{Seat}
-use Rattle.sgx_rules.specs.Starts.{BareStart}
+use Rattle.sgx_rules.specs.inner.Starts.{BareStart}
 use Rattle.sgx_rules.specs.Table.{is_loading, is_va}
 use Rattle.sgx_types.proofs.Truths.{apart}
 use Rattle.measure_log.specs.declared.measure.Measure.{Measure}
 use Rattle.cached_translations.specs.declared.cache.Translation.{Translation}
-use Rattle.paging_laws.specs.State.{State, with_content, with_acc, after_create, after_add, after_extend, after_init}
-use Rattle.paging_laws.specs.Guarded.{IsNoEarlier, HasNoted, IsDrainedAt, IsPaged, IsOpen, AreApart, WritesOut, Loads, IsGuarded}
+use Rattle.paging_laws.specs.inner.State.{State, with_content, with_acc, after_create, after_add, after_extend, after_init}
+use Rattle.paging_laws.specs.inner.Guarded.{IsNoEarlier, HasNoted, IsDrainedAt, IsPaged, IsOpen, AreApart, WritesOut, Loads}
+use Rattle.paging_laws.specs.inner.Guarded.{IsGuarded}
 use Rattle.paging_laws.proofs.TestLaws.{equal}
 
 -- ---- the columns on which no guard depends

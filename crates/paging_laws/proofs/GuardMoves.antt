@@ -14,7 +14,7 @@ use Rattle.sgx_rules.specs.Epochs.{epoch_of}
 use Rattle.sgx_rules.specs.Frames.{Content, Free, IsVa, SecsOf, Holds, IsLoading, enclave_in, is_free}
 use Rattle.sgx_rules.specs.Processors.{Seat}
 use Rattle.sgx_types.specs.Pages.{same_slot}
-use Rattle.sgx_rules.specs.Starts.{BareStart}
+use Rattle.sgx_rules.specs.inner.Starts.{BareStart}
 use Rattle.sgx_rules.specs.Table.{is_loading, is_out_of_range, is_secs, is_va, block_row, track_row, ewbstart_row, eldstart_row}
 use Rattle.sgx_rules.specs.Table.{first_of_row}
 use Rattle.sgx_rules.proofs.Contents.{enclave_no_va, free_there}
@@ -22,11 +22,13 @@ use Rattle.sgx_rules.proofs.Rows.{none_holds}
 use Rattle.sgx_types.proofs.Truths.{both_true, neither, not_false}
 use Rattle.sgx_types.proofs.CountLaws.{count_below-none}
 use Rattle.cached_translations.specs.declared.cache.Translation.{Translation}
-use Rattle.paging_laws.specs.State.{State, sight, is_noting, number_noting, epoch_in, track_sight, slot_sight, drain_sight, has_passed}
-use Rattle.paging_laws.specs.State.{is_version_spent, after_block, after_track, after_ewbstart, after_eldstart, after_ewb, after_eld}
-use Rattle.paging_laws.specs.State.{after_failed_eld}
-use Rattle.paging_laws.specs.Stands.{IsTranslation, IsSeated, IsSound}
-use Rattle.paging_laws.specs.Guarded.{IsNoEarlier, HasNoted, IsDrainedAt, IsOpen, WritesOut, Loads, IsGuarded}
+use Rattle.paging_laws.specs.inner.State.{State, sight, is_noting, number_noting, epoch_in, track_sight, slot_sight, drain_sight}
+use Rattle.paging_laws.specs.inner.State.{has_passed}
+use Rattle.paging_laws.specs.inner.State.{is_version_spent, after_block, after_track, after_ewbstart, after_eldstart, after_ewb}
+use Rattle.paging_laws.specs.inner.State.{after_eld}
+use Rattle.paging_laws.specs.inner.State.{after_failed_eld}
+use Rattle.paging_laws.specs.inner.Stands.{IsTranslation, IsSeated, IsSound}
+use Rattle.paging_laws.specs.inner.Guarded.{IsNoEarlier, HasNoted, IsDrainedAt, IsOpen, WritesOut, Loads, IsGuarded}
 use Rattle.paging_laws.proofs.TestLaws.{there_at, there_then, equal, each_there}
 use Rattle.paging_laws.proofs.SoundLaws.{seat_at}
 use Rattle.paging_laws.proofs.GuardCpus.{noted_at, unblocked}

@@ -4,7 +4,8 @@ use Rattle.sgx_rules.specs.declared.entries.Entry.{Entry}
 use Rattle.sgx_types.specs.declared.names.Actor.{Actor}
 use Rattle.sgx_types.specs.declared.names.Actor.TheVariants as actors
 use Rattle.sgx_rules.specs.declared.entries.Action.{Action}
-use Rattle.sgx_rules.specs.declared.entries.Action.TheVariants.{Epa, Create, Add, Extend, Init, Enter, Resume, Exit, Aex, Fill, Store, Xadd}
+use Rattle.sgx_rules.specs.declared.entries.Action.TheVariants.{Epa, Create, Add, Extend, Init, Enter, Resume, Exit, Aex, Fill}
+use Rattle.sgx_rules.specs.declared.entries.Action.TheVariants.{Store, Xadd}
 use Rattle.sgx_rules.specs.declared.entries.Action.TheVariants.{Set, Plus, Block, Track, EwbStart, EldStart, Eld}
 use Rattle.sgx_rules.specs.declared.entries.Answer.TheVariants as answers
 use Rattle.sgx_types.specs.declared.names.Frame.{Frame}
@@ -13,11 +14,11 @@ use Rattle.sgx_rules.specs.declared.refusals.Refusal.TheVariants as why
 use Rattle.sgx_rules.specs.Processors.{Seat}
 use Rattle.sgx_types.specs.Sealed.{Sealed}
 use Rattle.sgx_rules.specs.Table.{first_of_row}
-use Rattle.epcm_entry.specs.Words.{words_of}
+use Rattle.epcm_entry.specs.inner.Words.{words_of}
 use Rattle.measure_log.specs.Rule.{IsExpected, IsOther}
 use Rattle.seal_record.specs.Cipher.{cipher}
-use Rattle.paging_laws.specs.State.{State, after_eld, after_failed_eld, after_init, making_of, row_of, with_saved}
-use Rattle.paging_laws.specs.Steps.{IsDone, IsReloaded, IsStep, IsWrittenOut, after_of, commit_row, did_by, refused_by}
+use Rattle.paging_laws.specs.inner.State.{State, after_eld, after_failed_eld, after_init, making_of, row_of, with_saved}
+use Rattle.paging_laws.specs.inner.Steps.{IsDone, IsReloaded, IsStep, IsWrittenOut, after_of, commit_row, did_by, refused_by}
 
 saved_making : (s : State) (acc : ℕ) (o : Option Seat) → making_of (with_saved s acc o) ≡ making_of s
 saved_making s acc None = refl

@@ -11,10 +11,11 @@ use Rattle.sgx_rules.specs.Table.{EnclaveSight, init_row, first_of_row}
 use Rattle.sgx_rules.specs.Flat.{FlatEnclave, marked}
 use Rattle.sgx_types.proofs.Truths.{eqb-swap}
 use Rattle.measure_log.specs.declared.measure.Measure.{Measure}
-use Rattle.measure_log.specs.Measure.{HoldsLog, TakesIn, FinishesTo, measurement_of}
+use Rattle.measure_log.specs.Measure.{measurement_of}
+use Rattle.measure_log.specs.inner.Measure.{HoldsLog, TakesIn, FinishesTo}
 use Rattle.measure_log.specs.Rule.{MeasureRule}
-use Rattle.paging_laws.specs.Stands.{IsMeasuring}
-use Rattle.paging_laws.specs.Steps.{refused_by}
+use Rattle.paging_laws.specs.inner.Stands.{IsMeasuring}
+use Rattle.paging_laws.specs.inner.Steps.{refused_by}
 
 -- a new enclave's measurement begins
 pub begins : (e enclave : ℕ) (o : Option FlatEnclave) (x : FlatEnclave) (m : Option Measure) (begun : Measure) (block l : List ℕ)

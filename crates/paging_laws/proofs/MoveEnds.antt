@@ -21,15 +21,15 @@ use Rattle.sgx_rules.specs.Ends.{DoesNotFit, EndsIn, EndsOut, IsBack, IsNotBack}
 use Rattle.sgx_rules.specs.Flat.{FlatEnclave, FlatPage, added_as, flat, header_at, header_by}
 use Rattle.sgx_types.specs.Sealed.{Sealed, header_of}
 use Rattle.sgx_rules.specs.Table.{first_of_row}
-use Rattle.sgx_rules.specs.Starts.{BareStart}
-use Rattle.epcm_entry.specs.Words.{words_of}
+use Rattle.sgx_rules.specs.inner.Starts.{BareStart}
+use Rattle.epcm_entry.specs.inner.Words.{words_of}
 use Rattle.seal_record.specs.Cipher.{cipher, tag}
-use Rattle.seal_record.specs.Row.{same_header}
-use Rattle.paging_laws.specs.Columns.{HasColumns}
-use Rattle.paging_laws.specs.Guarded.{IsGuarded, WritesOut}
-use Rattle.paging_laws.specs.Stands.{Stands}
-use Rattle.paging_laws.specs.State.{State, after_eld, after_failed_eld}
-use Rattle.paging_laws.specs.Steps.{CanApply, IsComing, IsWrittenOut, commit_row, did_by, refused_by}
+use Rattle.seal_record.specs.inner.Row.{same_header}
+use Rattle.paging_laws.specs.inner.Columns.{HasColumns}
+use Rattle.paging_laws.specs.inner.Guarded.{IsGuarded, WritesOut}
+use Rattle.paging_laws.specs.inner.Stands.{Stands}
+use Rattle.paging_laws.specs.inner.State.{State, after_eld, after_failed_eld}
+use Rattle.paging_laws.specs.inner.Steps.{CanApply, IsComing, IsWrittenOut, commit_row, did_by, refused_by}
 use Rattle.paging_laws.proofs.ColumnLaws.{added_flat, content_is, enclave_flat}
 use Rattle.paging_laws.proofs.SlotLaws.{started_as}
 

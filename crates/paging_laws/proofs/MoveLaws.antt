@@ -15,15 +15,15 @@ use Rattle.sgx_rules.specs.Flat.{FlatMemory, FlatPage, added_as, flat, page_word
 use Rattle.sgx_rules.specs.Flat as flats
 use Rattle.sgx_rules.specs.Frames.{Content, Free, Holds, IsLoading}
 use Rattle.sgx_types.specs.Sealed.{Sealed}
-use Rattle.sgx_rules.specs.Starts.{BareStart}
+use Rattle.sgx_rules.specs.inner.Starts.{BareStart}
 use Rattle.sgx_rules.specs.Table.{first_of_row}
-use Rattle.epcm_entry.specs.Words.{words_of, zero_words}
+use Rattle.epcm_entry.specs.inner.Words.{words_of, zero_words}
 use Rattle.seal_record.specs.Cipher.{cipher}
-use Rattle.paging_laws.specs.Stands.{Stands, StandsWithRules, HasWords}
-use Rattle.paging_laws.specs.State.{State, row_of, after_block, after_eldstart, after_ewb, after_ewbstart, after_track}
-use Rattle.paging_laws.specs.Steps.{IsComing, IsReloaded, IsWrittenOut, commit_row}
+use Rattle.paging_laws.specs.inner.Stands.{Stands, StandsWithRules, HasWords}
+use Rattle.paging_laws.specs.inner.State.{State, row_of, after_block, after_eldstart, after_ewb, after_ewbstart, after_track}
+use Rattle.paging_laws.specs.inner.Steps.{IsComing, IsReloaded, IsWrittenOut, commit_row}
 use Rattle.paging_laws.proofs.FrameLaws.{open_below}
-use Rattle.paging_laws.specs.Guarded.{IsGuarded}
+use Rattle.paging_laws.specs.inner.Guarded.{IsGuarded}
 use Rattle.paging_laws.proofs.MoveEnds.{IsDoneBack, IsRefusedBack, ends_back, ends_out, ends_refused}
 use Rattle.paging_laws.proofs.BuildLaws.{words_put}
 use Rattle.paging_laws.proofs.NextEntry.{Brings, BringsDone, done_brings, brings_as}

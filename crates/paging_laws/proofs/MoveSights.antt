@@ -5,25 +5,28 @@ use Rattle.sgx_types.specs.declared.names.Actor.{Actor}
 use Rattle.sgx_rules.specs.declared.entries.Action.TheVariants.{Block, Track, EwbStart, EldStart}
 use Rattle.sgx_types.specs.declared.names.Frame.{Frame}
 use Rattle.sgx_types.specs.declared.names.SlotAt.{SlotAt}
-use Rattle.sgx_rules.specs.ByEpochs.{up_to_block}
-use Rattle.sgx_rules.specs.Enclaves.{EnclavesAreFlat}
-use Rattle.sgx_rules.specs.Epochs.{block_epoch, epoch, epoch_in, epoch_of}
+use Rattle.sgx_rules.specs.inner.ByEpochs.{up_to_block}
+use Rattle.sgx_rules.specs.inner.Enclaves.{EnclavesAreFlat}
+use Rattle.sgx_rules.specs.Epochs.{epoch, epoch_in, epoch_of}
+use Rattle.sgx_rules.specs.inner.Epochs.{block_epoch}
 use Rattle.sgx_rules.specs.Eviction.{kept_back}
 use Rattle.sgx_rules.specs.Flat.{enclave_sight_of, flat}
 use Rattle.sgx_types.specs.declared.names.TheConstants.{LAST_EPOCH}
 use Rattle.sgx_types.specs.declared.names.Page.{Page}
 use Rattle.sgx_rules.specs.Frames.{content, enclave_in}
-use Rattle.sgx_rules.specs.Table.{DrainSight, EnclaveSight, FrameSight, SlotSight, block_row, eldstart_row, ewbstart_row, first_of_row}
+use Rattle.sgx_rules.specs.Table.{DrainSight, EnclaveSight, FrameSight, SlotSight, block_row, eldstart_row, ewbstart_row}
+use Rattle.sgx_rules.specs.Table.{first_of_row}
 use Rattle.sgx_rules.specs.Table.{track_row}
 use Rattle.sgx_rules.proofs.Keystone.{epochs_tell}
 use Rattle.sgx_rules.specs.Sights.{drain_sight_at, row_at, slot_sight_at, track_sight_at}
-use Rattle.paging_laws.specs.State.{making_of}
-use Rattle.paging_laws.specs.State.{State, drain_sight, number_up_to, row_of, slot_sight, track_sight}
+use Rattle.paging_laws.specs.inner.State.{making_of}
+use Rattle.paging_laws.specs.inner.State.{State, drain_sight, number_up_to, row_of, slot_sight, track_sight}
 use Rattle.paging_laws.proofs.BuildLaws.{is_some-added_as}
 use Rattle.paging_laws.proofs.ShapeLaws.{drained_by, noting_agrees, older_agrees}
-use Rattle.paging_laws.specs.Columns.{HasColumns}
-use Rattle.paging_laws.specs.Guarded.{IsGuarded}
-use Rattle.paging_laws.proofs.ColumnLaws.{blocked_is, content_is, enclave_seen, epoch_is, next_version_is, page_seen, sight_is, version_is}
+use Rattle.paging_laws.specs.inner.Columns.{HasColumns}
+use Rattle.paging_laws.specs.inner.Guarded.{IsGuarded}
+use Rattle.paging_laws.proofs.ColumnLaws.{blocked_is, content_is, enclave_seen, epoch_is, next_version_is, page_seen, sight_is}
+use Rattle.paging_laws.proofs.ColumnLaws.{version_is}
 use Rattle.paging_laws.proofs.SlotLaws.{slot_busy_is}
 
 -- ---- what the rows see

@@ -7,15 +7,16 @@ use Rattle.sgx_rules.specs.declared.entries.Action.{Action}
 use Rattle.sgx_rules.specs.declared.entries.Answer.{Answer}
 use Rattle.sgx_rules.specs.declared.refusals.Refusal.{Refusal}
 use Rattle.sgx_rules.specs.Flat.{FlatMemory, flat, accepts, flat_answer, is_visible, memory_after, event_after}
-use Rattle.sgx_rules.specs.Rules.{FitsRule, FlatRule, HasForm, KeepsRules, NamesFrames, NoPageTwice, RefusalRule, TakesFree, seen_answer}
+use Rattle.sgx_rules.specs.Rules.{FitsRule, FlatRule, HasForm, NamesFrames, NoPageTwice, RefusalRule, TakesFree, seen_answer}
+use Rattle.sgx_rules.specs.inner.Rules.{KeepsRules}
 use Rattle.sgx_rules.specs.Sights.{row_at}
 use Rattle.sgx_rules.specs.Table.{first_of_row}
 use Rattle.sgx_types.specs.Making.{Making}
 use Rattle.measure_log.specs.Rule.{MeasureRule}
-use Rattle.paging_laws.specs.Shape.{ShapeWithRules}
-use Rattle.paging_laws.specs.Stands.{Shows, Stands, StandsWithRules}
-use Rattle.paging_laws.specs.State.{State, making_of}
-use Rattle.paging_laws.specs.Steps.{did_by, refused_by}
+use Rattle.paging_laws.specs.inner.Shape.{ShapeWithRules}
+use Rattle.paging_laws.specs.inner.Stands.{Shows, Stands, StandsWithRules}
+use Rattle.paging_laws.specs.inner.State.{State, making_of}
+use Rattle.paging_laws.specs.inner.Steps.{did_by, refused_by}
 use Rattle.paging_laws.proofs.TestLaws.{last_place}
 
 -- what the new entry brings, beside the shape

@@ -8,13 +8,14 @@ use Rattle.sgx_rules.specs.Fresh.{ReloadRule}
 use Rattle.sgx_types.specs.Making.{Making}
 use Rattle.sgx_rules.specs.Rules.{EvictRule, FitsRule, RisingRule, StaleRule}
 use Rattle.sgx_rules.specs.Starts.{open_start}
-use Rattle.seal_record.specs.Sealing.{SealedRule, made_by}
-use Rattle.paging_laws.specs.Guarded.{IsGuarded}
-use Rattle.paging_laws.specs.Histories.{OutsideBytes}
-use Rattle.paging_laws.specs.Notes.{IsNote}
-use Rattle.paging_laws.specs.Shape.{FitsApart, ShapeWithRules}
-use Rattle.paging_laws.specs.Stands.{IsSound, Stands}
-use Rattle.paging_laws.specs.State.{State}
+use Rattle.seal_record.specs.Sealing.{SealedRule}
+use Rattle.seal_record.specs.inner.Sealing.{made_by}
+use Rattle.paging_laws.specs.inner.Guarded.{IsGuarded}
+use Rattle.paging_laws.specs.inner.Histories.{OutsideBytes}
+use Rattle.paging_laws.specs.inner.Notes.{IsNote}
+use Rattle.paging_laws.specs.inner.Shape.{FitsApart, ShapeWithRules}
+use Rattle.paging_laws.specs.inner.Stands.{IsSound, Stands}
+use Rattle.paging_laws.specs.inner.State.{State}
 use Rattle.paging_laws.proofs.FitLaws.{fits_same}
 use Rattle.paging_laws.proofs.NextEntry.{Brings}
 use Rattle.paging_laws.proofs.ShapeColumns.{IsQuiet}

@@ -7,8 +7,10 @@ use Rattle.sgx_rules.specs.declared.entries.Entry.{Entry}
 use Rattle.sgx_types.specs.declared.names.Actor.{Actor}
 use Rattle.sgx_types.specs.declared.names.Actor.TheVariants as actors
 use Rattle.sgx_rules.specs.declared.entries.Action.{Action}
-use Rattle.sgx_rules.specs.declared.entries.Action.TheVariants.{Epa, Create, Add, Extend, Init, Enter, Resume, Exit, Aex, Fill, Load, Store}
-use Rattle.sgx_rules.specs.declared.entries.Action.TheVariants.{Xadd, Set, Plus, Pf, OutLoad, OutStore, Block, Track, EwbStart, Ewb}
+use Rattle.sgx_rules.specs.declared.entries.Action.TheVariants.{Epa, Create, Add, Extend, Init, Enter, Resume, Exit, Aex, Fill}
+use Rattle.sgx_rules.specs.declared.entries.Action.TheVariants.{Load, Store}
+use Rattle.sgx_rules.specs.declared.entries.Action.TheVariants.{Xadd, Set, Plus, Pf, OutLoad, OutStore, Block, Track, EwbStart}
+use Rattle.sgx_rules.specs.declared.entries.Action.TheVariants.{Ewb}
 use Rattle.sgx_rules.specs.declared.entries.Action.TheVariants.{EldStart, Eld}
 use Rattle.sgx_rules.specs.declared.entries.Answer.{Answer}
 use Rattle.sgx_rules.specs.declared.entries.Answer.TheVariants as answers
@@ -26,7 +28,8 @@ use Rattle.sgx_types.specs.Pages.{page_at, same_page}
 use Rattle.sgx_rules.specs.Frames.{Holds, content, is_page}
 use Rattle.sgx_rules.specs.Processors.{Stay, stay}
 use Rattle.sgx_rules.specs.Table.{TcsSight, first_of_row, allows_update, allows_write}
-use Rattle.sgx_rules.specs.Flat.{FlatMemory, accepts, fields_in, flat, memory_after, page_words, saved, stored, sum_of, tcs_fields}
+use Rattle.sgx_rules.specs.Flat.{FlatMemory, accepts, fields_in, flat, memory_after, page_words, saved, stored, sum_of}
+use Rattle.sgx_rules.specs.Flat.{tcs_fields}
 use Rattle.sgx_rules.specs.Flat.{with_cssa, with_words, word_seen, words_of}
 use Rattle.sgx_rules.specs.Sights.{seat_of}
 use Rattle.sgx_types.proofs.Truths.{not_false}
@@ -34,18 +37,19 @@ use Rattle.sgx_types.proofs.Pages.{same_page-at, same_pages}
 use Rattle.sgx_types.specs.Layouts.{bytes_of}
 use Rattle.seal_record.specs.Cipher.{cipher}
 use Rattle.seal_record.specs.Records.{Made}
-use Rattle.epcm_entry.specs.Words.{words_of as words_in}
-use Rattle.page_history.specs.Copies.{Copy, InFrame, InSlot, OneLiveCopy, copy}
-use Rattle.seal_record.specs.Sealing.{SealedRule, made_by}
-use Rattle.paging_laws.specs.Histories.{HasBytes, OutsideBytes}
-use Rattle.paging_laws.specs.Stands.{IsSound, Stands, inside_of_stay, next_save}
-use Rattle.paging_laws.specs.State.{State, enter_sight, row_of, after_init}
-use Rattle.paging_laws.specs.Steps.{CanApply, IsDone, IsJudged, IsStep, did_by, refused_by}
+use Rattle.epcm_entry.specs.inner.Words.{words_of as words_in}
+use Rattle.page_history.specs.inner.Copies.{Copy, InFrame, InSlot, OneLiveCopy, copy}
+use Rattle.seal_record.specs.Sealing.{SealedRule}
+use Rattle.seal_record.specs.inner.Sealing.{made_by}
+use Rattle.paging_laws.specs.inner.Histories.{HasBytes, OutsideBytes}
+use Rattle.paging_laws.specs.inner.Stands.{IsSound, Stands, inside_of_stay, next_save}
+use Rattle.paging_laws.specs.inner.State.{State, enter_sight, row_of, after_init}
+use Rattle.paging_laws.specs.inner.Steps.{CanApply, IsDone, IsJudged, IsStep, did_by, refused_by}
 use Rattle.measure_log.specs.Rule.{IsExpected, IsOther}
 use Rattle.paging_laws.proofs.AccessLaws.{Reads, access_allowed}
 use Rattle.paging_laws.proofs.Contents.{tcs_there}
 use Rattle.paging_laws.proofs.EntryLaws.{enters, resume_saved, resume_saves}
-use Rattle.paging_laws.specs.Columns.{seat_of_stay}
+use Rattle.paging_laws.specs.inner.Columns.{seat_of_stay}
 use Rattle.paging_laws.proofs.ColumnLaws.{content_is, inside_flat, inside_is}
 use Rattle.paging_laws.proofs.SoundLaws.{seat_at}
 

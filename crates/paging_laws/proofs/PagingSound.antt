@@ -13,15 +13,16 @@ use Rattle.sgx_types.specs.declared.names.Perm.{Perm}
 use Rattle.sgx_types.specs.declared.names.SlotAt.{SlotAt}
 use Rattle.sgx_rules.specs.Frames.{Content, IsLoading, enclave_in}
 use Rattle.sgx_rules.specs.Processors.{Seat}
-use Rattle.sgx_rules.specs.Starts.{BareStart}
+use Rattle.sgx_rules.specs.inner.Starts.{BareStart}
 use Rattle.sgx_rules.specs.Table.{ewbstart_row, eldstart_row, first_of_row}
 use Rattle.sgx_types.proofs.Truths.{apart}
-use Rattle.epcm_entry.specs.Words.{zero_words}
+use Rattle.epcm_entry.specs.inner.Words.{zero_words}
 use Rattle.cached_translations.specs.declared.cache.Translation.{Translation}
-use Rattle.paging_laws.specs.State.{State, sight, epoch_in, slot_sight, drain_sight, is_version_spent, after_block, after_track}
-use Rattle.paging_laws.specs.State.{after_ewbstart, after_eldstart, after_ewb, after_eld, after_failed_eld}
-use Rattle.paging_laws.specs.Stands.{IsUsable, IsTranslation, IsSeated, IsSound}
-use Rattle.paging_laws.specs.Guarded.{IsNoEarlier, IsDrainedAt, IsGuarded}
+use Rattle.paging_laws.specs.inner.State.{State, sight, epoch_in, slot_sight, drain_sight, is_version_spent, after_block}
+use Rattle.paging_laws.specs.inner.State.{after_track}
+use Rattle.paging_laws.specs.inner.State.{after_ewbstart, after_eldstart, after_ewb, after_eld, after_failed_eld}
+use Rattle.paging_laws.specs.inner.Stands.{IsUsable, IsTranslation, IsSeated, IsSound}
+use Rattle.paging_laws.specs.inner.Guarded.{IsNoEarlier, IsDrainedAt, IsGuarded}
 use Rattle.paging_laws.proofs.TestLaws.{each_there}
 use Rattle.paging_laws.proofs.SoundLaws.{seat_at, unused}
 use Rattle.paging_laws.proofs.GuardMoves.{starts_in, starts_out, tracked_drained, all_both}

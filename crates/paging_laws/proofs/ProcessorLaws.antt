@@ -5,9 +5,9 @@ use Rattle.sgx_types.specs.declared.names.Page.{Page}
 use Rattle.sgx_rules.specs.Processors.{Stay, stay}
 use Rattle.sgx_rules.specs.Flat.{flat, is_inside_by}
 use Rattle.sgx_rules.specs.Sights.{enclave_of_stay}
-use Rattle.paging_laws.specs.State.{State, seat_enclave, is_seated_by}
-use Rattle.paging_laws.specs.Stands.{Stands, inside_of_stay}
-use Rattle.paging_laws.specs.Columns.{seat_of_stay}
+use Rattle.paging_laws.specs.inner.State.{State, seat_enclave, is_seated_by}
+use Rattle.paging_laws.specs.inner.Stands.{Stands, inside_of_stay}
+use Rattle.paging_laws.specs.inner.Columns.{seat_of_stay}
 use Rattle.paging_laws.proofs.ColumnLaws.{inside_flat, inside_is}
 
 is_some-seat : (o : Option Stay) → is_some (seat_of_stay o) ≡ is_some o

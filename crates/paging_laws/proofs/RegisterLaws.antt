@@ -15,12 +15,12 @@ use Rattle.sgx_rules.specs.Processors.{Stay, stay}
 use Rattle.sgx_rules.specs.Table.{outside_row, pf_row, fault_of, first_of_row}
 use Rattle.sgx_rules.specs.Flat.{FlatCpu, FlatMemory, flat, added_at_offset, all_ones, sum_of, with_acc, memory_after}
 use Rattle.sgx_rules.specs.Sights.{added_at}
-use Rattle.paging_laws.specs.State.{State, row_of, added_inside}
-use Rattle.paging_laws.specs.State.{with_acc as acc_set}
-use Rattle.paging_laws.specs.Stands.{Stands, IsSound, inside_of_stay, cpu_shown}
+use Rattle.paging_laws.specs.inner.State.{State, row_of, added_inside}
+use Rattle.paging_laws.specs.inner.State.{with_acc as acc_set}
+use Rattle.paging_laws.specs.inner.Stands.{Stands, IsSound, inside_of_stay, cpu_shown}
 use Rattle.paging_laws.proofs.ProcessorLaws.{mode_in_flat}
 use Rattle.paging_laws.proofs.ExitLaws.{inside_by}
-use Rattle.paging_laws.specs.Columns.{seat_of_stay}
+use Rattle.paging_laws.specs.inner.Columns.{seat_of_stay}
 use Rattle.paging_laws.proofs.NextEntry.{BringsDone}
 use Rattle.paging_laws.proofs.ColumnLaws.{acc_flat, added_flat, inside_flat, inside_is}
 

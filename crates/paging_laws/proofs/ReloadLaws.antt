@@ -18,30 +18,32 @@ use Rattle.sgx_rules.specs.Flat as memory
 use Rattle.sgx_rules.specs.Rules.{Along, RefusalRule}
 use Rattle.sgx_types.specs.Sealed.{Sealed, header_of}
 use Rattle.sgx_rules.specs.Slots.{version_in}
-use Rattle.sgx_rules.specs.Starts.{BareStart, Start, open_start}
+use Rattle.sgx_rules.specs.Starts.{Start, open_start}
+use Rattle.sgx_rules.specs.inner.Starts.{BareStart}
 use Rattle.sgx_rules.specs.Table.{first_of_row}
 use Rattle.sgx_rules.proofs.Rows.{none_holds}
 use Rattle.sgx_types.proofs.Truths.{both_true, not_false}
 use Rattle.sgx_types.specs.Making.{Making}
 use Rattle.sgx_types.specs.Layouts.{bytes_of}
-use Rattle.epcm_entry.specs.Words.{words_of}
-use Rattle.seal_record.specs.Row.{same_header}
+use Rattle.epcm_entry.specs.inner.Words.{words_of}
+use Rattle.seal_record.specs.inner.Row.{same_header}
 use Rattle.seal_record.specs.Cipher.{cipher, tag}
 use Rattle.seal_record.specs.Records.{Given, Made, Tagged, Unforged, given_of, made_of, tag_of}
 use Rattle.seal_record.proofs.CipherLaws.{cipher_twice}
 use Rattle.seal_record.proofs.RecordLaws.{fitting_made}
-use Rattle.page_history.specs.Copies.{InSlot, copy}
+use Rattle.page_history.specs.inner.Copies.{InSlot, copy}
 use Rattle.sgx_rules.specs.Fresh.{ReloadRule}
 use Rattle.sgx_rules.proofs.Busy.{IsBareOf}
-use Rattle.page_history.specs.Once.{Gone, IsMade, IsOfPage, KeepsMoves, MadeOnce}
-use Rattle.seal_record.specs.Sealing.{SealedRule, made_by}
+use Rattle.page_history.specs.inner.Once.{Gone, IsMade, IsOfPage, KeepsMoves, MadeOnce}
+use Rattle.seal_record.specs.Sealing.{SealedRule}
+use Rattle.seal_record.specs.inner.Sealing.{made_by}
 use Rattle.page_history.proofs.CopyLaws.{copy_is_last, live_copies, went_out}
 use Rattle.page_history.proofs.DrawnLaws.{drawn_once}
 use Rattle.page_history.proofs.RecordLaws.{made_once}
 use Rattle.page_history.proofs.StartLaws.{starts_apart}
-use Rattle.paging_laws.specs.Histories.{BringsBack, OutsideBytes, StandsWithAllRules, looked_at, looked_at_by}
-use Rattle.paging_laws.specs.State.{State, after_eld, making_of}
-use Rattle.paging_laws.specs.Steps.{IsComing, IsReloaded, commit_row, did_by}
+use Rattle.paging_laws.specs.inner.Histories.{BringsBack, OutsideBytes, StandsWithAllRules, looked_at, looked_at_by}
+use Rattle.paging_laws.specs.inner.State.{State, after_eld, making_of}
+use Rattle.paging_laws.specs.inner.Steps.{IsComing, IsReloaded, commit_row, did_by}
 use Rattle.paging_laws.proofs.ColumnLaws.{enclave_flat}
 use Rattle.paging_laws.proofs.SlotLaws.{started_as}
 

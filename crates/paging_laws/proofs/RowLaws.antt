@@ -5,8 +5,10 @@ use Rattle.sgx_rules.specs.declared.entries.Entry.{Entry}
 use Rattle.sgx_types.specs.declared.names.Actor.{Actor}
 use Rattle.sgx_types.specs.declared.names.Actor.TheVariants as actors
 use Rattle.sgx_rules.specs.declared.entries.Action.{Action}
-use Rattle.sgx_rules.specs.declared.entries.Action.TheVariants.{Epa, Create, Add, Extend, Init, Enter, Resume, Exit, Aex, Fill, Load, Store}
-use Rattle.sgx_rules.specs.declared.entries.Action.TheVariants.{Xadd, Set, Plus, Pf, OutLoad, OutStore, Block, Track, EwbStart, Ewb}
+use Rattle.sgx_rules.specs.declared.entries.Action.TheVariants.{Epa, Create, Add, Extend, Init, Enter, Resume, Exit, Aex, Fill}
+use Rattle.sgx_rules.specs.declared.entries.Action.TheVariants.{Load, Store}
+use Rattle.sgx_rules.specs.declared.entries.Action.TheVariants.{Xadd, Set, Plus, Pf, OutLoad, OutStore, Block, Track, EwbStart}
+use Rattle.sgx_rules.specs.declared.entries.Action.TheVariants.{Ewb}
 use Rattle.sgx_rules.specs.declared.entries.Action.TheVariants.{EldStart, Eld}
 use Rattle.sgx_types.specs.declared.lawful.PageInit.{PageInit}
 use Rattle.sgx_rules.specs.declared.refusals.Refusal.{Refusal}
@@ -17,12 +19,14 @@ use Rattle.sgx_types.specs.declared.names.Page.{Page}
 use Rattle.sgx_types.specs.declared.names.Kind.{Kind}
 use Rattle.sgx_types.specs.declared.names.Kind.TheVariants as kinds
 use Rattle.sgx_types.specs.declared.names.Perm.{Perm}
-use Rattle.sgx_rules.specs.Enclaves.{EnclavesAreFlat}
+use Rattle.sgx_rules.specs.inner.Enclaves.{EnclavesAreFlat}
 use Rattle.sgx_types.specs.Pages.{page_at}
 use Rattle.sgx_rules.specs.Frames.{enclave_in, is_page, Free, content}
 use Rattle.sgx_rules.specs.Processors.{stay, Seat}
-use Rattle.sgx_rules.specs.Table.{Case, FrameSight, EnterSight, TcsSight, is_tcs, is_ready, epa_row, create_row, add_row, extend_row}
-use Rattle.sgx_rules.specs.Table.{init_row, inside_row, outside_row, fill_row, access_row, allows_read, allows_write, allows_update, pf_row}
+use Rattle.sgx_rules.specs.Table.{Case, FrameSight, EnterSight, TcsSight, is_tcs, is_ready, epa_row, create_row, add_row}
+use Rattle.sgx_rules.specs.Table.{extend_row}
+use Rattle.sgx_rules.specs.Table.{init_row, inside_row, outside_row, fill_row, access_row, allows_read, allows_write}
+use Rattle.sgx_rules.specs.Table.{allows_update, pf_row}
 use Rattle.sgx_types.specs.Lawful.{is_enclave, is_lawful}
 use Rattle.sgx_rules.specs.Table.{first_of_row, EnclaveSight, is_loading, is_valid, entry_row}
 use Rattle.sgx_rules.specs.Flat.{FlatEnclave, flat, enclave_sight_of, tcs_fields, words_of, page_words}
@@ -33,8 +37,9 @@ use Rattle.sgx_rules.specs.Rules.{case_of, RefusalRule, NamesFrames, TakesFree}
 use Rattle.measure_log.specs.Rule.{MeasureRule}
 use Rattle.sgx_rules.specs.declared.entries.AccessOp.{AccessOp}
 use Rattle.sgx_rules.specs.declared.entries.Answer.TheVariants as answers
-use Rattle.paging_laws.specs.State.{State, making_of, enter_sight, seat_enclave, is_closed, row_of, row_outside, translation, sight}
-use Rattle.paging_laws.specs.Stands.{Stands, IsSound}
+use Rattle.paging_laws.specs.inner.State.{State, making_of, enter_sight, seat_enclave, is_closed, row_of, row_outside}
+use Rattle.paging_laws.specs.inner.State.{translation, sight}
+use Rattle.paging_laws.specs.inner.Stands.{Stands, IsSound}
 use Rattle.paging_laws.proofs.BuildLaws.{is_some-added_as, adds}
 use Rattle.paging_laws.proofs.Contents.{tcs_there}
 use Rattle.paging_laws.proofs.ProcessorLaws.{mode_by_entries, enclave_by_entries}
@@ -42,12 +47,13 @@ use Rattle.paging_laws.proofs.EntryLaws.{by_fields, enter_saves, enter_saved, re
 use Rattle.paging_laws.proofs.AccessLaws.{found_translation, fill_within}
 use Rattle.paging_laws.proofs.RegisterLaws.{added_by_entries}
 use Rattle.paging_laws.proofs.MoveSights.{block_agrees, eldstart_agrees, ewbstart_agrees, track_agrees}
-use Rattle.paging_laws.specs.Steps.{CanApply, is_of_cpus, refused_by, IsStep, IsDone, did_by, answer_of}
+use Rattle.paging_laws.specs.inner.Steps.{CanApply, is_of_cpus, refused_by, IsStep, IsDone, did_by, answer_of}
 use Rattle.paging_laws.proofs.MeasureLaws.{quiet}
-use Rattle.paging_laws.proofs.ColumnLaws.{busy_flat, content_is, enclave_flat, enclave_seen, enclaves_are_flat, inside_is, page_seen}
+use Rattle.paging_laws.proofs.ColumnLaws.{busy_flat, content_is, enclave_flat, enclave_seen, enclaves_are_flat, inside_is}
+use Rattle.paging_laws.proofs.ColumnLaws.{page_seen}
 use Rattle.paging_laws.proofs.ColumnLaws.{sight_is}
-use Rattle.paging_laws.specs.Columns.{HasColumns}
-use Rattle.paging_laws.specs.Guarded.{IsGuarded}
+use Rattle.paging_laws.specs.inner.Columns.{HasColumns}
+use Rattle.paging_laws.specs.inner.Guarded.{IsGuarded}
 use Rattle.std.proofs.lemmas.Bool.{leb-false}
 use Rattle.sgx_rules.specs.declared.entries.Answer.{Answer}
 use Rattle.sgx_rules.proofs.Contents.{free_there}

@@ -6,13 +6,13 @@ use Rattle.std.proofs.lemmas.List.Elements.{All-append, All-nil, All-weaker}
 use Rattle.sgx_rules.specs.declared.entries.Entry.{Entry}
 use Rattle.sgx_types.specs.Making.{Making}
 use Rattle.sgx_types.specs.Sealed.{Sealed}
-use Rattle.sgx_rules.specs.Starts.{BareStart}
+use Rattle.sgx_rules.specs.inner.Starts.{BareStart}
 use Rattle.seal_record.specs.Records.{Given, Made, Unforged}
 use Rattle.seal_record.proofs.RecordLaws.{Unforged-before}
-use Rattle.paging_laws.specs.Histories.{StandsWithAllRules, given_out, looked_at, looked_at_by}
-use Rattle.paging_laws.specs.Runs.{Run, nothing, step, written, reloaded as comes_back, noted}
-use Rattle.paging_laws.specs.Shape.{ShapeWithRules}
-use Rattle.paging_laws.specs.State.{State, making_of}
+use Rattle.paging_laws.specs.inner.Histories.{StandsWithAllRules, given_out, looked_at, looked_at_by}
+use Rattle.paging_laws.specs.inner.Runs.{Run, nothing, step, written, reloaded as comes_back, noted}
+use Rattle.paging_laws.specs.inner.Shape.{ShapeWithRules}
+use Rattle.paging_laws.specs.inner.State.{State, making_of}
 use Rattle.paging_laws.proofs.NoteLaws.{noted_shaped}
 use Rattle.paging_laws.proofs.ShapeSteps.{fresh_shaped, reloaded_shaped, step_shaped, written_shaped}
 use Rattle.paging_laws.proofs.WholeLaws.{fresh_all, noted_all, reloaded_all, step_all, written_all}

@@ -6,8 +6,10 @@ use Rattle.sgx_rules.specs.declared.entries.Entry.{Entry}
 use Rattle.sgx_types.specs.declared.names.Actor.{Actor}
 use Rattle.sgx_types.specs.declared.names.Actor.TheVariants as actors
 use Rattle.sgx_rules.specs.declared.entries.Action.{Action}
-use Rattle.sgx_rules.specs.declared.entries.Action.TheVariants.{Epa, Create, Add, Extend, Init, Enter, Resume, Exit, Aex, Fill, Load, Store}
-use Rattle.sgx_rules.specs.declared.entries.Action.TheVariants.{Xadd, Set, Plus, Pf, OutLoad, OutStore, Block, Track, EwbStart, Ewb}
+use Rattle.sgx_rules.specs.declared.entries.Action.TheVariants.{Epa, Create, Add, Extend, Init, Enter, Resume, Exit, Aex, Fill}
+use Rattle.sgx_rules.specs.declared.entries.Action.TheVariants.{Load, Store}
+use Rattle.sgx_rules.specs.declared.entries.Action.TheVariants.{Xadd, Set, Plus, Pf, OutLoad, OutStore, Block, Track, EwbStart}
+use Rattle.sgx_rules.specs.declared.entries.Action.TheVariants.{Ewb}
 use Rattle.sgx_rules.specs.declared.entries.Action.TheVariants.{EldStart, Eld}
 use Rattle.sgx_rules.specs.declared.entries.Answer.{Answer}
 use Rattle.sgx_rules.specs.declared.entries.Answer.TheVariants.{Version, Moved}
@@ -20,7 +22,8 @@ use Rattle.sgx_types.specs.declared.names.Kind.{Kind}
 use Rattle.sgx_types.specs.declared.names.Perm.{Perm}
 use Rattle.sgx_types.specs.declared.names.SlotAt.{SlotAt}
 use Rattle.sgx_rules.specs.declared.refusals.Refusal.{Refusal}
-use Rattle.sgx_rules.specs.Epochs.{epoch, epoch_of, noted}
+use Rattle.sgx_rules.specs.Epochs.{epoch, epoch_of}
+use Rattle.sgx_rules.specs.inner.Epochs.{noted}
 use Rattle.sgx_rules.specs.Flat.{marked}
 use Rattle.sgx_types.specs.Pages.{page_at}
 use Rattle.sgx_rules.specs.Frames.{Content, Free, IsVa, SecsOf, Holds, IsLoading, added, enclave_in, is_sealing, reloaded}
@@ -28,19 +31,23 @@ use Rattle.sgx_rules.specs.Processors.{Seat, stay, stay_from, with_filled, trans
 use Rattle.sgx_rules.specs.Sights.{seat_of}
 use Rattle.sgx_types.specs.Pages.{same_slot}
 use Rattle.sgx_rules.specs.Slots.{names_slot, open_slot, slot_of}
-use Rattle.sgx_rules.specs.Starts.{BareStart, Start, bare_start, open_start}
+use Rattle.sgx_rules.specs.Starts.{Start, open_start}
+use Rattle.sgx_rules.specs.inner.Starts.{BareStart, bare_start}
 use Rattle.sgx_types.proofs.Pages.{same_page-swap}
 use Rattle.measure_log.specs.declared.measure.Measure.{Measure}
 use Rattle.cached_translations.specs.declared.cache.Translation.{Translation}
-use Rattle.cached_translations.specs.Translations.{with_translation}
-use Rattle.paging_laws.specs.Columns.{FrameColumns, CpuColumns, SlotColumns, HasColumns, frames_by, cpus_by, slots_by, enclaves_by}
-use Rattle.paging_laws.specs.Columns.{noted_inside, without_perm, seat_of_stay}
+use Rattle.cached_translations.specs.inner.Translations.{with_translation}
+use Rattle.paging_laws.specs.inner.Columns.{FrameColumns, CpuColumns, SlotColumns, HasColumns, frames_by, cpus_by, slots_by}
+use Rattle.paging_laws.specs.inner.Columns.{enclaves_by}
+use Rattle.paging_laws.specs.inner.Columns.{noted_inside, without_perm, seat_of_stay}
 use Rattle.paging_laws.proofs.ColumnLaws.{sealing_is, start_is, inside_is, noted_is, translations_are, epoch_is, added_is}
 use Rattle.paging_laws.proofs.SlotLaws.{started_as}
-use Rattle.paging_laws.specs.State.{State, with_saved, after_epa, after_create, after_add, after_init, after_enter, after_resume}
-use Rattle.paging_laws.specs.State.{after_exit, after_aex, after_fill, after_block, after_track, after_ewbstart, after_eldstart, after_ewb}
-use Rattle.paging_laws.specs.State.{after_eld, after_failed_eld}
-use Rattle.paging_laws.specs.Steps.{did_by, refused_by}
+use Rattle.paging_laws.specs.inner.State.{State, with_saved, after_epa, after_create, after_add, after_init, after_enter}
+use Rattle.paging_laws.specs.inner.State.{after_resume}
+use Rattle.paging_laws.specs.inner.State.{after_exit, after_aex, after_fill, after_block, after_track, after_ewbstart}
+use Rattle.paging_laws.specs.inner.State.{after_eldstart, after_ewb}
+use Rattle.paging_laws.specs.inner.State.{after_eld, after_failed_eld}
+use Rattle.paging_laws.specs.inner.Steps.{did_by, refused_by}
 use Rattle.paging_laws.proofs.TranslationLaws.{with_translation-map}
 
 -- ---- what touches no column

@@ -9,9 +9,10 @@ use Rattle.std.proofs.Math.Bool.{and-true}
 use Rattle.sgx_rules.specs.declared.entries.Entry.{Entry}
 use Rattle.sgx_types.specs.declared.names.Page.{Page}
 use Rattle.sgx_types.specs.Counts.{count_below}
-use Rattle.sgx_rules.specs.ByEpochs.{notes, number_noting as number_noting_by, passed_block}
-use Rattle.sgx_rules.specs.Enclaves.{IsTaken}
-use Rattle.sgx_rules.specs.Epochs.{epoch, noted, block_epoch, is_before, is_in, is_in_before, last_track, newer_at, older_at}
+use Rattle.sgx_rules.specs.inner.ByEpochs.{notes, number_noting as number_noting_by, passed_block}
+use Rattle.sgx_rules.specs.inner.Enclaves.{IsTaken}
+use Rattle.sgx_rules.specs.Epochs.{epoch, is_before, is_in, is_in_before, last_track, older_at}
+use Rattle.sgx_rules.specs.inner.Epochs.{noted, block_epoch, newer_at}
 use Rattle.sgx_rules.specs.Eviction.{is_drained}
 use Rattle.sgx_types.specs.Pages.{page_at}
 use Rattle.sgx_rules.specs.Frames.{content, enclave_in, is_sealing}
@@ -22,11 +23,11 @@ use Rattle.sgx_rules.proofs.Keystone.{epochs_tell}
 use Rattle.sgx_types.proofs.Pages.{same_page-at}
 use Rattle.sgx_types.specs.Making.{Making}
 use Rattle.cached_translations.specs.declared.cache.Translation.{Translation}
-use Rattle.paging_laws.specs.Columns.{HasColumns, noted_inside, without_perm, seat_of_stay}
-use Rattle.paging_laws.specs.Guarded.{IsGuarded, IsTakenIn}
-use Rattle.paging_laws.specs.Shape.{IsShaped, ShapeWithRules}
-use Rattle.paging_laws.specs.Stands.{IsTranslation, IsSound}
-use Rattle.paging_laws.specs.State.{State, is_noting, number_noting, has_passed, making_of}
+use Rattle.paging_laws.specs.inner.Columns.{HasColumns, noted_inside, without_perm, seat_of_stay}
+use Rattle.paging_laws.specs.inner.Guarded.{IsGuarded, IsTakenIn}
+use Rattle.paging_laws.specs.inner.Shape.{IsShaped, ShapeWithRules}
+use Rattle.paging_laws.specs.inner.Stands.{IsTranslation, IsSound}
+use Rattle.paging_laws.specs.inner.State.{State, is_noting, number_noting, has_passed, making_of}
 use Rattle.paging_laws.proofs.TestLaws.{last_place}
 use Rattle.paging_laws.proofs.ColumnLaws.{content_is, blocked_is, sealing_is, inside_is, noted_is, translations_are, epoch_is}
 use Rattle.paging_laws.proofs.SoundLaws.{seat_at}

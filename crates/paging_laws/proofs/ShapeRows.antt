@@ -7,8 +7,10 @@ use Rattle.sgx_rules.specs.declared.entries.Entry.{Entry}
 use Rattle.sgx_types.specs.declared.names.Actor.{Actor}
 use Rattle.sgx_types.specs.declared.names.Actor.TheVariants as actors
 use Rattle.sgx_rules.specs.declared.entries.Action.{Action}
-use Rattle.sgx_rules.specs.declared.entries.Action.TheVariants.{Epa, Create, Add, Extend, Init, Enter, Resume, Exit, Aex, Fill, Load, Store}
-use Rattle.sgx_rules.specs.declared.entries.Action.TheVariants.{Xadd, Set, Plus, Pf, OutLoad, OutStore, Block, Track, EwbStart, Ewb}
+use Rattle.sgx_rules.specs.declared.entries.Action.TheVariants.{Epa, Create, Add, Extend, Init, Enter, Resume, Exit, Aex, Fill}
+use Rattle.sgx_rules.specs.declared.entries.Action.TheVariants.{Load, Store}
+use Rattle.sgx_rules.specs.declared.entries.Action.TheVariants.{Xadd, Set, Plus, Pf, OutLoad, OutStore, Block, Track, EwbStart}
+use Rattle.sgx_rules.specs.declared.entries.Action.TheVariants.{Ewb}
 use Rattle.sgx_rules.specs.declared.entries.Action.TheVariants.{EldStart, Eld}
 use Rattle.sgx_rules.specs.declared.entries.AccessOp.{AccessOp}
 use Rattle.sgx_rules.specs.declared.entries.Answer.{Answer}
@@ -27,8 +29,9 @@ use Rattle.sgx_rules.specs.Frames.{Content, Free, IsVa, SecsOf, Holds, IsLoading
 use Rattle.sgx_rules.specs.Processors.{Seat, Stay, stay, stay_from, holds_number, translations}
 use Rattle.sgx_rules.specs.Rules.{EvictRule, RisingRule, StaleRule}
 use Rattle.sgx_rules.specs.Sights.{seat_of}
-use Rattle.sgx_rules.specs.Starts.{BareStart}
-use Rattle.sgx_rules.specs.Table.{EnclaveSight, FrameSight, is_valid, access_row, add_row, allows_read, allows_update, allows_write}
+use Rattle.sgx_rules.specs.inner.Starts.{BareStart}
+use Rattle.sgx_rules.specs.Table.{EnclaveSight, FrameSight, is_valid, access_row, add_row, allows_read, allows_update}
+use Rattle.sgx_rules.specs.Table.{allows_write}
 use Rattle.sgx_rules.specs.Table.{create_row, epa_row, ewbstart_row, first_of_row}
 use Rattle.sgx_rules.specs.Flat.{enclave_sight_of}
 use Rattle.sgx_rules.proofs.Rows.{none_holds}
@@ -36,21 +39,27 @@ use Rattle.sgx_rules.proofs.Goings.{goes_out}
 use Rattle.sgx_types.proofs.Truths.{apart, not_false}
 use Rattle.measure_log.specs.declared.measure.Measure.{Measure}
 use Rattle.cached_translations.specs.declared.cache.Translation.{Translation}
-use Rattle.cached_translations.specs.Translations.{translation_of}
-use Rattle.paging_laws.specs.Columns.{HasColumns}
-use Rattle.paging_laws.specs.State.{making_of}
-use Rattle.paging_laws.specs.Stands.{IsUsable, IsSound}
-use Rattle.paging_laws.specs.State.{State, sight, slot_sight, drain_sight, is_version_spent, translation, perm_of_held, with_acc}
-use Rattle.paging_laws.specs.State.{with_saved, word_at, cssa_in, saved_word, after_epa, after_create, after_add, after_extend, after_init}
-use Rattle.paging_laws.specs.State.{after_enter, after_resume, after_exit, after_aex, after_fill, after_store, after_xadd, after_block}
-use Rattle.paging_laws.specs.State.{after_track, after_ewbstart, after_eldstart, after_ewb, after_eld, after_failed_eld, row_of}
-use Rattle.paging_laws.specs.Steps.{did_by, refused_by}
+use Rattle.cached_translations.specs.inner.Translations.{translation_of}
+use Rattle.paging_laws.specs.inner.Columns.{HasColumns}
+use Rattle.paging_laws.specs.inner.State.{making_of}
+use Rattle.paging_laws.specs.inner.Stands.{IsUsable, IsSound}
+use Rattle.paging_laws.specs.inner.State.{State, sight, slot_sight, drain_sight, is_version_spent, translation, perm_of_held}
+use Rattle.paging_laws.specs.inner.State.{with_acc}
+use Rattle.paging_laws.specs.inner.State.{with_saved, word_at, cssa_in, saved_word, after_epa, after_create, after_add}
+use Rattle.paging_laws.specs.inner.State.{after_extend, after_init}
+use Rattle.paging_laws.specs.inner.State.{after_enter, after_resume, after_exit, after_aex, after_fill, after_store, after_xadd}
+use Rattle.paging_laws.specs.inner.State.{after_block}
+use Rattle.paging_laws.specs.inner.State.{after_track, after_ewbstart, after_eldstart, after_ewb, after_eld, after_failed_eld}
+use Rattle.paging_laws.specs.inner.State.{row_of}
+use Rattle.paging_laws.specs.inner.Steps.{did_by, refused_by}
 use Rattle.paging_laws.proofs.ColumnLaws.{inside_is, translations_are, next_version_is}
 use Rattle.paging_laws.proofs.SlotLaws.{started_as}
 use Rattle.paging_laws.proofs.SoundLaws.{seat_at, unused}
-use Rattle.paging_laws.proofs.ShapeColumns.{IsQuiet, is_eld, is_quiet, refused_quiet, did_quiet, quiet_columns, epa_columns, create_columns}
+use Rattle.paging_laws.proofs.ShapeColumns.{IsQuiet, is_eld, is_quiet, refused_quiet, did_quiet, quiet_columns, epa_columns}
+use Rattle.paging_laws.proofs.ShapeColumns.{create_columns}
 use Rattle.paging_laws.proofs.ShapeColumns.{add_columns, init_columns, enter_columns, resume_columns, exit_columns, aex_columns}
-use Rattle.paging_laws.proofs.ShapeColumns.{fill_columns, block_columns, track_columns, ewbstart_columns, eldstart_columns, ewb_columns}
+use Rattle.paging_laws.proofs.ShapeColumns.{fill_columns, block_columns, track_columns, ewbstart_columns, eldstart_columns}
+use Rattle.paging_laws.proofs.ShapeColumns.{ewb_columns}
 use Rattle.paging_laws.proofs.ShapeColumns.{eld_columns, failed_eld_columns}
 use Rattle.paging_laws.proofs.ShapeLaws.{drained_by, IsHeld, IsNextTo}
 use Rattle.paging_laws.proofs.TranslationLaws.{holds_number-map}

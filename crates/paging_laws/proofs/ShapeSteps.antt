@@ -7,8 +7,10 @@ use Rattle.sgx_rules.specs.declared.entries.Entry.{Entry}
 use Rattle.sgx_types.specs.declared.names.Actor.{Actor}
 use Rattle.sgx_types.specs.declared.names.Actor.TheVariants as actors
 use Rattle.sgx_rules.specs.declared.entries.Action.{Action}
-use Rattle.sgx_rules.specs.declared.entries.Action.TheVariants.{Epa, Create, Add, Extend, Init, Enter, Resume, Exit, Aex, Fill, Load, Store}
-use Rattle.sgx_rules.specs.declared.entries.Action.TheVariants.{Xadd, Set, Plus, Pf, OutLoad, OutStore, Block, Track, EwbStart, EldStart}
+use Rattle.sgx_rules.specs.declared.entries.Action.TheVariants.{Epa, Create, Add, Extend, Init, Enter, Resume, Exit, Aex, Fill}
+use Rattle.sgx_rules.specs.declared.entries.Action.TheVariants.{Load, Store}
+use Rattle.sgx_rules.specs.declared.entries.Action.TheVariants.{Xadd, Set, Plus, Pf, OutLoad, OutStore, Block, Track, EwbStart}
+use Rattle.sgx_rules.specs.declared.entries.Action.TheVariants.{EldStart}
 use Rattle.sgx_rules.specs.declared.entries.Action.TheVariants.{Eld}
 use Rattle.sgx_rules.specs.declared.entries.Answer.TheVariants as answers
 use Rattle.sgx_types.specs.declared.names.Frame.{Frame}
@@ -19,23 +21,26 @@ use Rattle.sgx_rules.specs.Frames.{IsLoading, enclave_in}
 use Rattle.sgx_types.specs.Sealed.{Sealed}
 use Rattle.sgx_rules.specs.Table.{is_loading, perm_in, first_of_row}
 use Rattle.sgx_types.specs.Making.{Making}
-use Rattle.epcm_entry.specs.Words.{words_of}
+use Rattle.epcm_entry.specs.inner.Words.{words_of}
 use Rattle.seal_record.specs.Cipher.{cipher}
-use Rattle.paging_laws.specs.Columns.{HasColumns}
-use Rattle.paging_laws.specs.Guarded.{IsGuarded, WritesOut}
-use Rattle.paging_laws.specs.Shape.{ShapeWithRules}
-use Rattle.paging_laws.specs.Stands.{IsSound}
-use Rattle.paging_laws.specs.State.{State, fresh, after_eld, after_failed_eld, making_of}
-use Rattle.paging_laws.specs.Steps.{did_by, refused_by, CanApply, IsStep, IsDone, IsWrittenOut, IsReloaded, commit_row}
+use Rattle.paging_laws.specs.inner.Columns.{HasColumns}
+use Rattle.paging_laws.specs.inner.Guarded.{IsGuarded, WritesOut}
+use Rattle.paging_laws.specs.inner.Shape.{ShapeWithRules}
+use Rattle.paging_laws.specs.inner.Stands.{IsSound}
+use Rattle.paging_laws.specs.inner.State.{State, fresh, after_eld, after_failed_eld, making_of}
+use Rattle.paging_laws.specs.inner.Steps.{did_by, refused_by, CanApply, IsStep, IsDone, IsWrittenOut, IsReloaded, commit_row}
 use Rattle.paging_laws.proofs.ShapeColumns.{is_eld}
 use Rattle.paging_laws.proofs.Contents.{waits_for}
 use Rattle.paging_laws.proofs.FrameLaws.{reloaded_frames, step_frames, written_frames}
 use Rattle.sgx_rules.specs.Rules.{Along, FitsRule}
 use Rattle.sgx_rules.proofs.Busy.{idle_free}
 use Rattle.paging_laws.proofs.ShapeLaws.{older_agrees, newer_agrees, IsHeld, IsNextTo, held_by, shaped_more}
-use Rattle.paging_laws.proofs.ShapeRows.{add_next, aex_next, block_next, create_next, eld_next, eldstart_next, enter_next, epa_next}
-use Rattle.paging_laws.proofs.ShapeRows.{ewb_next, ewbstart_next, exit_next, extend_next, failed_eld_next, fill_next, init_next, load_next}
-use Rattle.paging_laws.proofs.ShapeRows.{outload_next, outstore_next, pf_next, plus_next, refused_next, resume_next, set_next, store_next}
+use Rattle.paging_laws.proofs.ShapeRows.{add_next, aex_next, block_next, create_next, eld_next, eldstart_next, enter_next}
+use Rattle.paging_laws.proofs.ShapeRows.{epa_next}
+use Rattle.paging_laws.proofs.ShapeRows.{ewb_next, ewbstart_next, exit_next, extend_next, failed_eld_next, fill_next, init_next}
+use Rattle.paging_laws.proofs.ShapeRows.{load_next}
+use Rattle.paging_laws.proofs.ShapeRows.{outload_next, outstore_next, pf_next, plus_next, refused_next, resume_next, set_next}
+use Rattle.paging_laws.proofs.ShapeRows.{store_next}
 use Rattle.paging_laws.proofs.ShapeRows.{track_next, xadd_next}
 
 -- ---- every step

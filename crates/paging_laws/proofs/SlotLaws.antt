@@ -4,11 +4,12 @@ use Rattle.std.proofs.lemmas.Bool.{false≢true}
 use Rattle.sgx_rules.specs.declared.entries.Entry.{Entry}
 use Rattle.sgx_types.specs.declared.names.SlotAt.{SlotAt}
 use Rattle.sgx_rules.specs.Slots.{is_slot_busy}
-use Rattle.sgx_rules.specs.Starts.{BareStart, bare_start, open_start, without_place}
+use Rattle.sgx_rules.specs.Starts.{open_start}
+use Rattle.sgx_rules.specs.inner.Starts.{BareStart, bare_start, without_place}
 use Rattle.sgx_rules.proofs.Busy.{IsBareOf, bare_of, busy_named, open_busy}
-use Rattle.paging_laws.specs.Columns.{HasColumns}
-use Rattle.paging_laws.specs.Guarded.{IsGuarded}
-use Rattle.paging_laws.specs.State.{State}
+use Rattle.paging_laws.specs.inner.Columns.{HasColumns}
+use Rattle.paging_laws.specs.inner.Guarded.{IsGuarded}
+use Rattle.paging_laws.specs.inner.State.{State}
 use Rattle.paging_laws.proofs.ColumnLaws.{start_is}
 
 -- the start of a frame, by the entries

@@ -11,8 +11,8 @@ use Rattle.sgx_rules.specs.Table.{is_reg}
 use Rattle.sgx_types.proofs.Truths.{apart}
 use Rattle.sgx_types.proofs.Pages.{same_page-at, same_pages}
 use Rattle.cached_translations.specs.declared.cache.Translation.{Translation}
-use Rattle.paging_laws.specs.State.{State, with_content, with_inside, rewritten, after_exit, is_seated_by}
-use Rattle.paging_laws.specs.Stands.{IsUsable, IsTranslation, IsSeated, AreByOneTcs, IsSound}
+use Rattle.paging_laws.specs.inner.State.{State, with_content, with_inside, rewritten, after_exit, is_seated_by}
+use Rattle.paging_laws.specs.inner.Stands.{IsUsable, IsTranslation, IsSeated, AreByOneTcs, IsSound}
 use Rattle.paging_laws.proofs.TestLaws.{each_there, each_there_at, equal}
 use Rattle.paging_laws.proofs.Contents.{one_named, tcs_no_reg}
 

@@ -5,17 +5,19 @@ use Rattle.sgx_rules.specs.declared.entries.Entry.{Entry}
 use Rattle.sgx_types.specs.declared.names.Actor.{Actor}
 use Rattle.sgx_types.specs.declared.names.Actor.TheVariants as actors
 use Rattle.sgx_rules.specs.declared.entries.Action.{Action}
-use Rattle.sgx_rules.specs.declared.entries.Action.TheVariants.{Epa, Create, Add, Extend, Init, Enter, Resume, Exit, Aex, Fill, Load, Store}
-use Rattle.sgx_rules.specs.declared.entries.Action.TheVariants.{Xadd, Set, Plus, Pf, OutLoad, OutStore, Block, Track, EwbStart, EldStart}
+use Rattle.sgx_rules.specs.declared.entries.Action.TheVariants.{Epa, Create, Add, Extend, Init, Enter, Resume, Exit, Aex, Fill}
+use Rattle.sgx_rules.specs.declared.entries.Action.TheVariants.{Load, Store}
+use Rattle.sgx_rules.specs.declared.entries.Action.TheVariants.{Xadd, Set, Plus, Pf, OutLoad, OutStore, Block, Track, EwbStart}
+use Rattle.sgx_rules.specs.declared.entries.Action.TheVariants.{EldStart}
 use Rattle.sgx_rules.specs.declared.entries.Answer.TheVariants as answers
 use Rattle.sgx_rules.specs.declared.refusals.Refusal.{Refusal}
 use Rattle.sgx_rules.specs.declared.refusals.Refusal.TheVariants as why
 use Rattle.sgx_rules.specs.Table.{EnclaveSight, init_row, first_of_row, perm_in}
 use Rattle.sgx_rules.specs.Rules.{NoPageTwice}
-use Rattle.paging_laws.specs.State.{State, row_of, after_init}
-use Rattle.paging_laws.specs.Stands.{HasEnclaves, IsSound, Stands}
+use Rattle.paging_laws.specs.inner.State.{State, row_of, after_init}
+use Rattle.paging_laws.specs.inner.Stands.{HasEnclaves, IsSound, Stands}
 use Rattle.measure_log.specs.Rule.{log, measurement, IsExpected, IsOther}
-use Rattle.paging_laws.specs.Steps.{CanApply, IsStep, IsJudged, did_by, refused_by, IsDone}
+use Rattle.paging_laws.specs.inner.Steps.{CanApply, IsStep, IsJudged, did_by, refused_by, IsDone}
 use Rattle.paging_laws.proofs.MeasureLaws.{finished_as}
 use Rattle.paging_laws.proofs.BuildLaws.{is_some-sight, add_brings, create_brings, epa_brings, init_brings}
 use Rattle.paging_laws.proofs.ExtendLaws.{extend_brings}
@@ -26,7 +28,7 @@ use Rattle.paging_laws.proofs.RowLaws.{measure_told, refusal_told, row_told, row
 use Rattle.paging_laws.proofs.EntryLaws.{enter_brings, resume_brings}
 use Rattle.paging_laws.proofs.NextEntry.{Brings, BringsDone, done_brings, refused_brings, brings_as}
 use Rattle.paging_laws.proofs.MoveLaws.{block_brings, eldstart_brings, ewbstart_brings, track_brings}
-use Rattle.paging_laws.specs.Guarded.{IsGuarded}
+use Rattle.paging_laws.specs.inner.Guarded.{IsGuarded}
 use Rattle.sgx_rules.specs.declared.entries.Answer.{Answer}
 use Rattle.sgx_types.specs.Pages.{no_perm}
 

@@ -24,18 +24,20 @@ use Rattle.sgx_types.specs.Making.{Making}
 use Rattle.sgx_types.specs.Layouts.{bytes_of}
 use Rattle.seal_record.specs.Cipher.{cipher, sealed}
 use Rattle.seal_record.specs.Records.{Made}
-use Rattle.epcm_entry.specs.Words.{words_of as words_in}
-use Rattle.page_history.specs.Copies.{InSlot, copy, in_slot}
-use Rattle.page_history.specs.Once.{IsMade}
-use Rattle.seal_record.specs.Sealing.{SealedRule, made_by, made_with, more_made, record_in}
-use Rattle.paging_laws.specs.Histories.{HasBytes, OutsideBytes, given_out}
-use Rattle.paging_laws.specs.Shape.{ShapeWithRules}
-use Rattle.paging_laws.specs.Stands.{IsSound, Stands}
-use Rattle.paging_laws.specs.State.{State, after_eld, after_failed_eld}
-use Rattle.paging_laws.specs.Steps.{CanApply, IsLeaving, IsReloaded, IsStep, IsWrittenOut, commit_row, did_by, refused_by}
+use Rattle.epcm_entry.specs.inner.Words.{words_of as words_in}
+use Rattle.page_history.specs.inner.Copies.{InSlot, copy, in_slot}
+use Rattle.page_history.specs.inner.Once.{IsMade}
+use Rattle.seal_record.specs.Sealing.{SealedRule, made_with, record_in}
+use Rattle.seal_record.specs.inner.Sealing.{made_by, more_made}
+use Rattle.paging_laws.specs.inner.Histories.{HasBytes, OutsideBytes, given_out}
+use Rattle.paging_laws.specs.inner.Shape.{ShapeWithRules}
+use Rattle.paging_laws.specs.inner.Stands.{IsSound, Stands}
+use Rattle.paging_laws.specs.inner.State.{State, after_eld, after_failed_eld}
+use Rattle.paging_laws.specs.inner.Steps.{CanApply, IsLeaving, IsReloaded, IsStep, IsWrittenOut, commit_row, did_by, refused_by}
 use Rattle.paging_laws.proofs.ColumnLaws.{enclave_flat}
 use Rattle.paging_laws.proofs.SlotLaws.{started_as}
-use Rattle.paging_laws.proofs.OutsideLaws.{KeepsOutside, did_keeps, did_made, did_sealed, is_ewb, outside_more, refused_keeps, keeps_as}
+use Rattle.paging_laws.proofs.OutsideLaws.{KeepsOutside, did_keeps, did_made, did_sealed, is_ewb, outside_more, refused_keeps}
+use Rattle.paging_laws.proofs.OutsideLaws.{keeps_as}
 use Rattle.paging_laws.proofs.RowLaws.{step_entry, IsEntryOf}
 
 -- ---- what a step makes

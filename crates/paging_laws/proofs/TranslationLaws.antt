@@ -7,8 +7,8 @@ use Rattle.std.proofs.lemmas.List.{length-map, map-append}
 use Rattle.std.proofs.lemmas.List.Elements.{All-push, All-drop}
 use Rattle.sgx_rules.specs.Processors.{holds_number, with_filled, newest}
 use Rattle.cached_translations.specs.declared.cache.Translation.{Translation}
-use Rattle.cached_translations.specs.Translations.{translation_of, with_translation, newest as newest_translations}
-use Rattle.paging_laws.specs.Columns.{without_perm}
+use Rattle.cached_translations.specs.inner.Translations.{translation_of, with_translation, newest as newest_translations}
+use Rattle.paging_laws.specs.inner.Columns.{without_perm}
 
 -- a page is among the translations with their permissions exactly where it is among those without
 pub holds_number-map : (xs : List Translation) (n : ℕ) → holds_number (map without_perm xs) n ≡ is_some (translation_of xs n)

@@ -14,22 +14,23 @@ use Rattle.sgx_types.specs.Sealed.{Sealed}
 use Rattle.sgx_rules.specs.Table.{first_of_row, is_loading}
 use Rattle.sgx_types.specs.Making.{Making}
 use Rattle.seal_record.specs.Records.{Given, Made, Unforged}
-use Rattle.page_history.specs.Copies.{InFrame}
+use Rattle.page_history.specs.inner.Copies.{InFrame}
 use Rattle.sgx_rules.specs.Fresh.{ReloadRule}
-use Rattle.page_history.specs.Once.{KeepsMoves}
-use Rattle.seal_record.specs.Sealing.{SealedRule, made_by}
+use Rattle.page_history.specs.inner.Once.{KeepsMoves}
+use Rattle.seal_record.specs.Sealing.{SealedRule}
+use Rattle.seal_record.specs.inner.Sealing.{made_by}
 use Rattle.page_history.proofs.CopyLaws.{live_copies}
-use Rattle.paging_laws.specs.Guarded.{IsGuarded}
-use Rattle.paging_laws.specs.Histories.{BringsBack, BringsIn, OutsideBytes, StandsWithAllRules, given_out, looked_at}
-use Rattle.paging_laws.specs.Notes.{IsDone, IsNote}
+use Rattle.paging_laws.specs.inner.Guarded.{IsGuarded}
+use Rattle.paging_laws.specs.inner.Histories.{BringsBack, BringsIn, OutsideBytes, StandsWithAllRules, given_out, looked_at}
+use Rattle.paging_laws.specs.inner.Notes.{IsDone, IsNote}
 use Rattle.paging_laws.proofs.NoteLaws.{noted_brings, noted_made, noted_outside, noted_reload, noted_sealed, noted_shaped}
 use Rattle.sgx_rules.specs.declared.entries.Answer.TheVariants as answers
-use Rattle.epcm_entry.specs.Words.{words_of}
+use Rattle.epcm_entry.specs.inner.Words.{words_of}
 use Rattle.seal_record.specs.Cipher.{cipher}
-use Rattle.paging_laws.specs.Shape.{ShapeWithRules}
-use Rattle.paging_laws.specs.Stands.{HasEnclaves, IsSound, StandsWithRules}
-use Rattle.paging_laws.specs.State.{State, after_eld, after_failed_eld, fresh, making_of}
-use Rattle.paging_laws.specs.Steps.{CanApply, IsReloaded, IsStep, IsWrittenOut, commit_row, did_by, refused_by}
+use Rattle.paging_laws.specs.inner.Shape.{ShapeWithRules}
+use Rattle.paging_laws.specs.inner.Stands.{HasEnclaves, IsSound, StandsWithRules}
+use Rattle.paging_laws.specs.inner.State.{State, after_eld, after_failed_eld, fresh, making_of}
+use Rattle.paging_laws.specs.inner.Steps.{CanApply, IsReloaded, IsStep, IsWrittenOut, commit_row, did_by, refused_by}
 use Rattle.paging_laws.proofs.ShapeSteps.{fresh_shaped, reloaded_shaped, step_shaped, written_shaped}
 use Rattle.paging_laws.proofs.OutsideLaws.{outside_step}
 use Rattle.paging_laws.proofs.ReloadLaws.{keeps_moves, reload_back, reload_fresh, reload_words}

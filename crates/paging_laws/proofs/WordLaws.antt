@@ -13,8 +13,8 @@ use Rattle.sgx_rules.specs.Flat.{rewritten as rewritten_page}
 use Rattle.sgx_rules.specs.declared.entries.Entry.{Entry}
 use Rattle.sgx_rules.specs.Rules.{NoPageTwice}
 use Rattle.sgx_types.proofs.Pages.{same_page-at, same_pages}
-use Rattle.paging_laws.specs.State.{State, rewritten}
-use Rattle.paging_laws.specs.Stands.{HasWords, Shows, Stands, enclaves_flat}
+use Rattle.paging_laws.specs.inner.State.{State, rewritten}
+use Rattle.paging_laws.specs.inner.Stands.{HasWords, Shows, Stands, enclaves_flat}
 use Rattle.paging_laws.proofs.TestLaws.{equal}
 use Rattle.paging_laws.proofs.ColumnLaws.{content_is}
 

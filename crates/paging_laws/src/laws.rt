@@ -4,17 +4,17 @@ ghost use Rattle.std.specs.Prelude.{◌≡◌, ◌≤◌, false, List};
 ghost use Rattle.sgx_rules.specs.declared.entries.Action.{Action};
 ghost use Rattle.sgx_types.specs.declared.names.Actor.{Actor};
 ghost use Rattle.sgx_rules.specs.declared.entries.Entry.{Entry};
-ghost use Rattle.sgx_rules.specs.Enclaves.{EnclavesAreFlat};
+ghost use Rattle.sgx_rules.specs.inner.Enclaves.{EnclavesAreFlat};
 ghost use Rattle.sgx_rules.specs.Sights.{row_at};
 ghost use Rattle.sgx_rules.specs.Table.{first_of_row};
 ghost use Rattle.seal_record.specs.Records.{Given, Made, Unforged};
-ghost use Rattle.paging_laws.specs.Columns.{HasColumns};
-ghost use Rattle.paging_laws.specs.Guarded.{IsGuarded};
-ghost use Rattle.paging_laws.specs.Histories.{StandsWithAllRules};
-ghost use Rattle.paging_laws.specs.Runs.{Run};
-ghost use Rattle.paging_laws.specs.Shape.{ShapeWithRules};
-ghost use Rattle.paging_laws.specs.State.{State, making_of, row_of};
-ghost use Rattle.paging_laws.specs.Steps.{is_of_cpus};
+ghost use Rattle.paging_laws.specs.inner.Columns.{HasColumns};
+ghost use Rattle.paging_laws.specs.inner.Guarded.{IsGuarded};
+ghost use Rattle.paging_laws.specs.inner.Histories.{StandsWithAllRules};
+ghost use Rattle.paging_laws.specs.inner.Runs.{Run};
+ghost use Rattle.paging_laws.specs.inner.Shape.{ShapeWithRules};
+ghost use Rattle.paging_laws.specs.inner.State.{State, making_of, row_of};
+ghost use Rattle.paging_laws.specs.inner.Steps.{is_of_cpus};
 
 /// Whatever instructions and commits take a fresh machine on, through states that are sound and guarded, as its type keeps
 /// them, its state is the one that its entries say, column by column. By these entries the frames that are named are of the EPC

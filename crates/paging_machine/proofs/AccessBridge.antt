@@ -11,24 +11,25 @@ use Rattle.sgx_rules.specs.Table.{access_row, inside_row, fill_row, is_reg, perm
 use Rattle.sgx_rules.specs.Flat.{word_index}
 use Rattle.sgx_rules.proofs.Rows.{none_holds}
 use Rattle.sgx_types.specs.Pages.{no_perm}
-use Rattle.epcm_entry.specs.Epc.{EpcFrame}
-use Rattle.epcm_entry.specs.Sights.{sight_in}
+use Rattle.epcm_entry.specs.inner.Epc.{EpcFrame}
+use Rattle.epcm_entry.specs.inner.Sights.{sight_in}
 use Rattle.epcm_entry.proofs.Columns.{length-with_words}
 use Rattle.evict_reload.proofs.PageLaws.{pages-with_words}
 use Rattle.cached_translations.specs.declared.cache.Translation.{Translation}
 use Rattle.cached_translations.specs.declared.processor.Processor.{Processor}
 use Rattle.cached_translations.specs.declared.processor.Mode.{Mode}
 use Rattle.cached_translations.specs.declared.processor.Mode.TheVariants as modes
-use Rattle.cached_translations.specs.Modes.{is_inside, enclave_inside}
-use Rattle.cached_translations.specs.Translations.{translation_of, with_translation}
-use Rattle.enclave_access.specs.Access.{LeadsBelow, perm_of, perm_at, with_filled, word_through, with_word_in, with_stored}
+use Rattle.cached_translations.specs.inner.Modes.{is_inside, enclave_inside}
+use Rattle.cached_translations.specs.inner.Translations.{translation_of, with_translation}
+use Rattle.enclave_access.specs.inner.Access.{LeadsBelow, perm_of, perm_at, with_filled, word_through, with_word_in, with_stored}
 use Rattle.enclave_access.proofs.AccessLaws.{leads_below}
 use Rattle.paging_machine.specs.declared.machine.Machine.TheInside.{Inside}
-use Rattle.paging_laws.specs.State.{State, sight, seat_enclave, translation, perm_of_held, rewritten, frame_in, word_at, with_acc}
-use Rattle.paging_laws.specs.State.{after_fill, after_store}
-use Rattle.paging_laws.specs.Stands.{IsTranslation, IsSound}
-use Rattle.paging_machine.specs.Parts.{Parts, cpu_at, seat_of_mode, state_of}
-use Rattle.paging_machine.specs.Whole.{IsWithin, IsWhole, parts_of}
+use Rattle.paging_laws.specs.inner.State.{State, sight, seat_enclave, translation, perm_of_held, rewritten, frame_in, word_at}
+use Rattle.paging_laws.specs.inner.State.{with_acc}
+use Rattle.paging_laws.specs.inner.State.{after_fill, after_store}
+use Rattle.paging_laws.specs.inner.Stands.{IsTranslation, IsSound}
+use Rattle.paging_machine.specs.inner.Parts.{Parts, cpu_at, seat_of_mode, state_of}
+use Rattle.paging_machine.specs.inner.Whole.{IsWithin, IsWhole, parts_of}
 use Rattle.paging_laws.proofs.SoundLaws.{seat_at}
 use Rattle.paging_laws.proofs.SoundLaws.{sound-written}
 use Rattle.paging_laws.proofs.AccessLaws.{fill_within, sound-fill}

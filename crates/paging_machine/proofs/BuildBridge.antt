@@ -21,30 +21,32 @@ use Rattle.sgx_rules.proofs.Rows.{none_holds}
 use Rattle.sgx_types.proofs.Truths.{both_true, neither, not_false}
 use Rattle.epcm_entry.specs.declared.entry_view.EntryView.{EntryView}
 use Rattle.epcm_entry.specs.declared.entry_view.EntryView.TheVariants as views
-use Rattle.epcm_entry.specs.EntryView.{is_valid, holding, block_of, goes_out}
-use Rattle.epcm_entry.specs.Epc.{EpcFrame, entry_at, free_frame, with_page}
-use Rattle.epcm_entry.specs.Sights.{held, content_of, sight_in}
+use Rattle.epcm_entry.specs.inner.EntryView.{is_valid, holding, block_of, goes_out}
+use Rattle.epcm_entry.specs.inner.Epc.{EpcFrame, entry_at, free_frame, with_page}
+use Rattle.epcm_entry.specs.inner.Sights.{held, content_of, sight_in}
 use Rattle.epcm_entry.proofs.Columns.{length-with_entry, entry_at-with_entry, words_at-with_entry}
-use Rattle.secs_state.specs.Secs.{SecsState, page_count, created, with_init}
-use Rattle.secs_state.specs.Table.{enclave_at, with_enclave}
-use Rattle.secs_state.specs.Sights.{sight_of}
+use Rattle.secs_state.specs.inner.Secs.{SecsState, page_count, created, with_init}
+use Rattle.secs_state.specs.inner.Table.{enclave_at, with_enclave}
+use Rattle.secs_state.specs.inner.Sights.{sight_of}
 use Rattle.secs_state.proofs.Columns.{added_at-with_page}
 use Rattle.measure_log.specs.declared.measure.Measure.{Measure}
-use Rattle.enclave_build.specs.Build.{with_secs, with_added, with_resident}
-use Rattle.enclave_build.proofs.Columns.{length-with_secs, entry_at-with_secs, words_at-with_secs, length-with_added, entry_at-with_added}
+use Rattle.enclave_build.specs.inner.Build.{with_secs, with_added, with_resident}
+use Rattle.enclave_build.proofs.Columns.{length-with_secs, entry_at-with_secs, words_at-with_secs, length-with_added}
+use Rattle.enclave_build.proofs.Columns.{entry_at-with_added}
 use Rattle.enclave_build.proofs.Columns.{words_at-with_added}
 use Rattle.version_array.specs.declared.va_page.VaSlot.{VaSlot}
-use Rattle.version_array.specs.Slots.{empty_slot, page_slots, pages_made, slot_in, version_in, is_busy_at}
-use Rattle.version_array.specs.Slots.{page_at as page_at_va, with_page as with_va_page}
+use Rattle.version_array.specs.inner.Slots.{empty_slot, page_slots, pages_made, slot_in, version_in, is_busy_at}
+use Rattle.version_array.specs.inner.Slots.{page_at as page_at_va, with_page as with_va_page}
 use Rattle.version_array.proofs.TableLaws.{made-with_page, made_below, version_in-with_page, is_busy_at-with_page}
-use Rattle.evict_reload.specs.Sights.{AreVaPages}
+use Rattle.evict_reload.specs.inner.Sights.{AreVaPages}
 use Rattle.evict_reload.proofs.PageLaws.{pages-with_entry, pages-with_words}
-use Rattle.paging_laws.specs.Guarded.{IsPaged}
-use Rattle.paging_laws.specs.State.{after_epa, after_create, after_add, after_extend, after_init}
-use Rattle.paging_machine.specs.Parts.{Parts, enclave_of, added_in, is_busy_in, state_of}
-use Rattle.paging_machine.specs.Whole.{IsSecsOf, IsTable}
+use Rattle.paging_laws.specs.inner.Guarded.{IsPaged}
+use Rattle.paging_laws.specs.inner.State.{after_epa, after_create, after_add, after_extend, after_init}
+use Rattle.paging_machine.specs.inner.Parts.{Parts, enclave_of, added_in, is_busy_in, state_of}
+use Rattle.paging_machine.specs.inner.Whole.{IsSecsOf, IsTable}
 use Rattle.paging_laws.proofs.TestLaws.{none_there}
-use Rattle.paging_machine.proofs.Columns.{like, through, same_at, numbered, enclave_column, enclave_kept, page_column, measure_set}
+use Rattle.paging_machine.proofs.Columns.{like, through, same_at, numbered, enclave_column, enclave_kept, page_column}
+use Rattle.paging_machine.proofs.Columns.{measure_set}
 
 -- ---- a frame that a row takes
 

@@ -17,27 +17,29 @@ use Rattle.sgx_types.specs.Pages.{page_at}
 use Rattle.sgx_rules.specs.Frames.{Content, Free, IsVa, SecsOf, Holds, IsLoading, enclave_in}
 use Rattle.sgx_rules.specs.Table.{EnclaveSight, add_row, extend_row, init_row, first_of_row}
 use Rattle.sgx_rules.specs.Flat.{enclave_sight_of}
-use Rattle.epcm_entry.specs.Epc.{EpcFrame, entry_at, bytes_at, with_page}
-use Rattle.epcm_entry.specs.Sights.{held, sight_in}
+use Rattle.epcm_entry.specs.inner.Epc.{EpcFrame, entry_at, bytes_at, with_page}
+use Rattle.epcm_entry.specs.inner.Sights.{held, sight_in}
 use Rattle.epcm_entry.proofs.Columns.{length-with_entry}
-use Rattle.secs_state.specs.Secs.{SecsState, added_at}
-use Rattle.secs_state.specs.Table.{enclave_at, with_enclave}
-use Rattle.secs_state.specs.Sights.{sight_of}
+use Rattle.secs_state.specs.inner.Secs.{SecsState, added_at}
+use Rattle.secs_state.specs.inner.Table.{enclave_at, with_enclave}
+use Rattle.secs_state.specs.inner.Sights.{sight_of}
 use Rattle.measure_log.specs.declared.measure.Measure.{Measure}
 use Rattle.measure_log.specs.Blocks.{eextend_block, chunk_of}
-use Rattle.measure_log.specs.Measure.{HoldsLog, measurement_of}
+use Rattle.measure_log.specs.Measure.{measurement_of}
+use Rattle.measure_log.specs.inner.Measure.{HoldsLog}
 use Rattle.measure_log.specs.Rule.{IsOther}
 use Rattle.sgx_rules.specs.Frames.{page_of}
-use Rattle.enclave_build.specs.Build.{Appends, with_added, with_resident, block_in, chunk_block, is_expected, measured_row, unless_measured}
+use Rattle.enclave_build.specs.inner.Build.{Appends, with_added, with_resident, block_in, chunk_block, is_expected, measured_row}
+use Rattle.enclave_build.specs.inner.Build.{unless_measured}
 use Rattle.version_array.specs.declared.va_page.VaSlot.{VaSlot}
-use Rattle.version_array.specs.Slots.{pages_made as pages_in, with_page as with_va_page}
+use Rattle.version_array.specs.inner.Slots.{pages_made as pages_in, with_page as with_va_page}
 use Rattle.version_array.proofs.TableLaws.{IsVaTable-with_page}
 use Rattle.evict_reload.proofs.PageLaws.{pages-with_va}
 use Rattle.paging_machine.specs.declared.machine.Machine.TheInside.{Inside}
-use Rattle.paging_laws.specs.State.{State, row_of, is_closed, after_epa, after_add}
-use Rattle.paging_machine.specs.Parts.{Parts, enclave_of, added_in, state_of}
-use Rattle.paging_machine.specs.Whole.{IsTable, IsWhole, parts_of}
-use Rattle.paging_laws.specs.Steps.{IsStep, IsExtended, IsJudged, refused_by}
+use Rattle.paging_laws.specs.inner.State.{State, row_of, is_closed, after_epa, after_add}
+use Rattle.paging_machine.specs.inner.Parts.{Parts, enclave_of, added_in, state_of}
+use Rattle.paging_machine.specs.inner.Whole.{IsTable, IsWhole, parts_of}
+use Rattle.paging_laws.specs.inner.Steps.{IsStep, IsExtended, IsJudged, refused_by}
 use Rattle.paging_machine.proofs.Columns.{get_or-default, numbered}
 use Rattle.paging_machine.proofs.KeptStates.{kept_epa}
 use Rattle.paging_machine.proofs.BuildBridge.{Takes, epa_state, adds, add_state, extend_state}

@@ -8,10 +8,10 @@ use Rattle.sgx_types.specs.declared.names.Page.{Page}
 use Rattle.sgx_types.specs.Pages.{page_at, same_page}
 use Rattle.sgx_types.proofs.Truths.{eqb-swap}
 use Rattle.measure_log.specs.declared.measure.Measure.{Measure}
-use Rattle.secs_state.specs.Secs.{SecsState}
-use Rattle.secs_state.specs.Table.{enclave_at, with_enclave}
+use Rattle.secs_state.specs.inner.Secs.{SecsState}
+use Rattle.secs_state.specs.inner.Table.{enclave_at, with_enclave}
 use Rattle.secs_state.proofs.Columns.{enclave_at-with_enclave}
-use Rattle.paging_machine.specs.Whole.{IsSecsOf, IsTable}
+use Rattle.paging_machine.specs.inner.Whole.{IsSecsOf, IsTable}
 
 -- ---- lists
 

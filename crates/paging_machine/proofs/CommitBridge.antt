@@ -16,38 +16,39 @@ use Rattle.sgx_types.specs.declared.names.Perm.{Perm}
 use Rattle.sgx_rules.specs.declared.refusals.Refusal.{Refusal}
 use Rattle.sgx_rules.specs.Frames.{Holds}
 use Rattle.sgx_types.specs.Sealed.{Sealed, header_of}
-use Rattle.sgx_rules.specs.Starts.{BareStart}
+use Rattle.sgx_rules.specs.inner.Starts.{BareStart}
 use Rattle.sgx_rules.specs.Table as table
 use Rattle.sgx_rules.specs.Table.{first_of_row}
 use Rattle.sgx_rules.proofs.Contents.{enclave_no_va, loading_no_va}
 use Rattle.epcm_entry.specs.declared.entry_view.EntryView.{EntryView}
 use Rattle.epcm_entry.specs.declared.entry_view.EntryView.TheVariants as views
-use Rattle.epcm_entry.specs.EntryView.{holding, goes_out}
-use Rattle.epcm_entry.specs.Epc.{EpcFrame, free_frame, entry_at, with_page, with_words, cleared}
-use Rattle.epcm_entry.specs.Sights.{held, content_of}
-use Rattle.epcm_entry.specs.Words.{words_of}
+use Rattle.epcm_entry.specs.inner.EntryView.{holding, goes_out}
+use Rattle.epcm_entry.specs.inner.Epc.{EpcFrame, free_frame, entry_at, with_page, with_words, cleared}
+use Rattle.epcm_entry.specs.inner.Sights.{held, content_of}
+use Rattle.epcm_entry.specs.inner.Words.{words_of}
 use Rattle.epcm_entry.proofs.Words.{length-words_of}
 use Rattle.epcm_entry.proofs.Columns.{length-with_entry, length-with_words, length-cleared}
-use Rattle.secs_state.specs.Secs.{SecsState, added_at}
-use Rattle.secs_state.specs.Table.{enclave_at}
+use Rattle.secs_state.specs.inner.Secs.{SecsState, added_at}
+use Rattle.secs_state.specs.inner.Table.{enclave_at}
 use Rattle.seal_record.specs.Cipher.{cipher, sealed, tag}
 use Rattle.seal_record.specs.declared.seal.SealedWork.{SealedWork}
 use Rattle.seal_record.specs.declared.unseal.UnsealedWork.{UnsealedWork}
 use Rattle.version_array.specs.declared.va_page.VaSlot.{VaSlot}
-use Rattle.version_array.specs.Slots.{with_busy}
-use Rattle.evict_reload.specs.Effects.{page_of, with_ended, with_plain, with_reloaded, header_by, header_in}
-use Rattle.seal_record.specs.Row.{eld_row}
+use Rattle.version_array.specs.inner.Slots.{with_busy}
+use Rattle.evict_reload.specs.inner.Effects.{page_of, with_ended, with_plain, with_reloaded, header_by, header_in}
+use Rattle.seal_record.specs.inner.Row.{eld_row}
 use Rattle.evict_reload.proofs.PageLaws.{pages-with_entry, pages-with_words, pages-cleared}
 use Rattle.paging_machine.specs.declared.machine.Machine.TheInside.{Inside}
 use Rattle.paging_machine.specs.declared.starts.Start as opened
-use Rattle.paging_laws.specs.Guarded.{IsOpen, IsPaged}
-use Rattle.paging_laws.specs.State.{State, after_ewb, after_eld, after_failed_eld}
-use Rattle.paging_machine.specs.Parts.{Parts, enclave_of, added_in, start_of, state_of}
-use Rattle.paging_laws.specs.Steps.{SealsPage, IsWrittenOut, IsComing, IsReloaded, commit_row, did_by, refused_by}
-use Rattle.paging_machine.specs.Whole.{IsWhole, parts_of}
+use Rattle.paging_laws.specs.inner.Guarded.{IsOpen, IsPaged}
+use Rattle.paging_laws.specs.inner.State.{State, after_ewb, after_eld, after_failed_eld}
+use Rattle.paging_machine.specs.inner.Parts.{Parts, enclave_of, added_in, start_of, state_of}
+use Rattle.paging_laws.specs.inner.Steps.{SealsPage, IsWrittenOut, IsComing, IsReloaded, commit_row, did_by, refused_by}
+use Rattle.paging_machine.specs.inner.Whole.{IsWhole, parts_of}
 use Rattle.paging_machine.proofs.KeptStates.{kept_ewb, kept_eld, kept_failed_eld}
 use Rattle.paging_machine.proofs.PagingSights.{added_same}
-use Rattle.paging_machine.proofs.PagingBridge.{IsWritable, written_parts, failed_parts, loaded_parts, ewb_state, failed_state, eld_state}
+use Rattle.paging_machine.proofs.PagingBridge.{IsWritable, written_parts, failed_parts, loaded_parts, ewb_state, failed_state}
+use Rattle.paging_machine.proofs.PagingBridge.{eld_state}
 use Rattle.paging_machine.proofs.PagingBridge.{table_ended, pages_ended, pages_marked, slots_marked}
 use Rattle.paging_machine.proofs.WholeMachines.{Leaves, kept_of, done_step, refused_step}
 

@@ -11,39 +11,42 @@ use Rattle.sgx_rules.specs.Sights.{seat_of}
 use Rattle.sgx_rules.specs.Table.{EnterSight, TcsSight, enter_row, resume_row, inside_row, first_of_row}
 use Rattle.sgx_rules.specs.Flat.{enclave_sight_of, with_cssa}
 use Rattle.sgx_types.proofs.Truths.{not_false}
-use Rattle.epcm_entry.specs.Epc.{EpcFrame, word_at, with_word}
+use Rattle.epcm_entry.specs.inner.Epc.{EpcFrame, word_at, with_word}
 use Rattle.epcm_entry.proofs.Columns.{length-with_words}
-use Rattle.secs_state.specs.Secs.{SecsState, added_at, with_busy}
-use Rattle.secs_state.specs.Table.{enclave_at, with_enclave}
+use Rattle.secs_state.specs.inner.Secs.{SecsState, added_at, with_busy}
+use Rattle.secs_state.specs.inner.Table.{enclave_at, with_enclave}
 use Rattle.cached_translations.specs.declared.cache.Translation.{Translation}
 use Rattle.cached_translations.specs.declared.processor.Processor.{Processor}
 use Rattle.cached_translations.specs.declared.processor.Mode.{Mode}
 use Rattle.cached_translations.specs.declared.processor.Mode.TheVariants as modes
-use Rattle.cached_translations.specs.Modes.{is_inside, enclave_inside}
-use Rattle.track_epoch.specs.Tracking.{Tracking, entered, left}
-use Rattle.track_epoch.specs.Tracks.{track_of, with_track}
+use Rattle.cached_translations.specs.inner.Modes.{is_inside, enclave_inside}
+use Rattle.track_epoch.specs.inner.Tracking.{Tracking, entered, left}
+use Rattle.track_epoch.specs.inner.Tracks.{track_of, with_track}
 use Rattle.track_epoch.proofs.TracksLaws.{length-with_track}
-use Rattle.enclave_access.specs.Access.{LeadsBelow}
-use Rattle.entry_exit.specs.Entry.{IsItsEnclave, HasItsTcs, CountsIt, HasItsFrames, fields_at, with_entered, with_resumed, with_saved}
-use Rattle.entry_exit.specs.Entry.{with_its_saved, with_tcs_left, with_left, outside}
-use Rattle.entry_exit.specs.Entry.{enter_sight as seen_sight, row_of as way_row}
+use Rattle.enclave_access.specs.inner.Access.{LeadsBelow}
+use Rattle.entry_exit.specs.inner.Entry.{IsItsEnclave, HasItsTcs, CountsIt, HasItsFrames, fields_at, with_entered, with_resumed}
+use Rattle.entry_exit.specs.inner.Entry.{with_saved}
+use Rattle.entry_exit.specs.inner.Entry.{with_its_saved, with_tcs_left, with_left, outside}
+use Rattle.entry_exit.specs.inner.Entry.{enter_sight as seen_sight, row_of as way_row}
 use Rattle.entry_exit.specs.declared.way_in.WayIn.{WayIn}
 use Rattle.paging_machine.specs.declared.machine.Machine.TheInside.{Inside}
-use Rattle.paging_laws.specs.State.{State, enter_sight, from_outside, with_inside, rewritten, cssa_in, after_enter, after_resume}
-use Rattle.paging_laws.specs.State.{after_exit, after_aex}
-use Rattle.paging_laws.specs.State.{with_saved as state_saved}
-use Rattle.evict_reload.specs.Sights.{AreVaPages}
+use Rattle.paging_laws.specs.inner.State.{State, enter_sight, from_outside, with_inside, rewritten, cssa_in, after_enter}
+use Rattle.paging_laws.specs.inner.State.{after_resume}
+use Rattle.paging_laws.specs.inner.State.{after_exit, after_aex}
+use Rattle.paging_laws.specs.inner.State.{with_saved as state_saved}
+use Rattle.evict_reload.specs.inner.Sights.{AreVaPages}
 use Rattle.evict_reload.proofs.PageLaws.{pages-with_words}
-use Rattle.paging_laws.specs.Guarded.{IsGuarded}
-use Rattle.paging_laws.specs.Stands.{IsUsable, IsSound}
-use Rattle.paging_machine.specs.Parts.{Parts, cpu_at, enclave_of, is_busy_in, seat_of_mode, state_of}
-use Rattle.paging_machine.specs.Whole.{IsWithin, IsWhole, parts_of}
+use Rattle.paging_laws.specs.inner.Guarded.{IsGuarded}
+use Rattle.paging_laws.specs.inner.Stands.{IsUsable, IsSound}
+use Rattle.paging_machine.specs.inner.Parts.{Parts, cpu_at, enclave_of, is_busy_in, seat_of_mode, state_of}
+use Rattle.paging_machine.specs.inner.Whole.{IsWithin, IsWhole, parts_of}
 use Rattle.paging_laws.proofs.SoundLaws.{seat_at}
 use Rattle.paging_machine.proofs.Columns.{numbered, table_written}
 use Rattle.paging_laws.proofs.EntryLaws.{enters, enter_saves, enter_saved, resume_saves, resume_saved, sound-enter, sound-resume}
 use Rattle.paging_laws.proofs.ExitLaws.{sound-exit, sound-aex}
 use Rattle.paging_machine.proofs.KeptStates.{IsKept}
-use Rattle.paging_machine.proofs.ProcessorBridge.{is_some-mode, free_past, page_added, added_there, seat_added, words_state, inside_state}
+use Rattle.paging_machine.proofs.ProcessorBridge.{is_some-mode, free_past, page_added, added_there, seat_added, words_state}
+use Rattle.paging_machine.proofs.ProcessorBridge.{inside_state}
 use Rattle.paging_machine.proofs.ProcessorBridge.{exit_state, marked_own}
 use Rattle.paging_machine.proofs.TrackLaws.{tracked_entered, tracked_left, counted}
 use Rattle.paging_machine.proofs.WholeMachines.{Leaves, kept_of}

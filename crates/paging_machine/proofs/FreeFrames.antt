@@ -10,9 +10,9 @@ use Rattle.sgx_rules.specs.Frames.{Content, free_from, least_free}
 use Rattle.sgx_rules.specs.Frames as frames
 use Rattle.epcm_entry.specs.declared.entry_view.EntryView.{EntryView}
 use Rattle.epcm_entry.specs.declared.entry_view.EntryView.TheVariants as views
-use Rattle.epcm_entry.specs.EntryView.{is_free}
-use Rattle.epcm_entry.specs.Epc.{EpcFrame, free_frame, entry_at, is_free_frame, first_free_of}
-use Rattle.epcm_entry.specs.Sights.{held}
+use Rattle.epcm_entry.specs.inner.EntryView.{is_free}
+use Rattle.epcm_entry.specs.inner.Epc.{EpcFrame, free_frame, entry_at, is_free_frame, first_free_of}
+use Rattle.epcm_entry.specs.inner.Sights.{held}
 use Rattle.paging_machine.proofs.Columns.{get_or-default}
 
 free_held : (v : EntryView) → frames.is_free (held v) ≡ is_free v

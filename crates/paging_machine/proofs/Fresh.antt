@@ -7,31 +7,32 @@ use Rattle.std.proofs.lemmas.List.{length-replicate, replicate-append-replicate}
 use Rattle.std.proofs.lemmas.List.Elements.{All-nil}
 use Rattle.std.proofs.lemmas.List.Folds.{sum_by-replicate}
 use Rattle.std.specs.Prelude.{slice_get}
-use Rattle.epcm_entry.specs.EntryView.{block_of, goes_out}
-use Rattle.epcm_entry.specs.Epc.{EpcFrame, free_frame}
-use Rattle.epcm_entry.specs.Sights.{held}
+use Rattle.epcm_entry.specs.inner.EntryView.{block_of, goes_out}
+use Rattle.epcm_entry.specs.inner.Epc.{EpcFrame, free_frame}
+use Rattle.epcm_entry.specs.inner.Sights.{held}
 use Rattle.cached_translations.specs.declared.cache.Translation.{Translation}
 use Rattle.cached_translations.specs.declared.processor.Processor.{Processor}
-use Rattle.epcm_entry.specs.Words.{zero_words}
-use Rattle.track_epoch.specs.Tracking.{Tracking, starting_at}
+use Rattle.epcm_entry.specs.inner.Words.{zero_words}
+use Rattle.track_epoch.specs.inner.Tracking.{Tracking, starting_at}
 use Rattle.measure_log.specs.declared.measure.Measure.{Measure}
-use Rattle.secs_state.specs.Secs.{SecsState}
-use Rattle.secs_state.specs.Table.{empty_table, enclave_at}
-use Rattle.track_epoch.specs.Tracks.{track_of}
-use Rattle.version_array.specs.Slots.{IsVaTable}
+use Rattle.secs_state.specs.inner.Secs.{SecsState}
+use Rattle.secs_state.specs.inner.Table.{empty_table, enclave_at}
+use Rattle.track_epoch.specs.inner.Tracks.{track_of}
+use Rattle.version_array.specs.inner.Slots.{IsVaTable}
 use Rattle.version_array.proofs.TableLaws.{IsVaTable-none}
-use Rattle.evict_reload.specs.Sights.{AreVaPages}
+use Rattle.evict_reload.specs.inner.Sights.{AreVaPages}
 use Rattle.evict_reload.proofs.PageLaws.{pages-none}
 use Rattle.paging_machine.specs.declared.starts.Start as starts
-use Rattle.paging_laws.specs.Guarded.{IsGuarded}
-use Rattle.paging_laws.specs.Histories.{StandsWithAllRules}
-use Rattle.paging_laws.specs.State.{making_of}
-use Rattle.paging_laws.specs.Shape.{ShapeWithRules}
-use Rattle.paging_laws.specs.State.{fresh}
-use Rattle.paging_laws.specs.Stands.{IsSound, IsMeasured, IsFramed}
-use Rattle.paging_machine.specs.Parts.{Parts, made, idle, is_noted, state_of, enclave_of, added_in, is_busy_in, seat_of_mode, noted_by}
-use Rattle.paging_machine.specs.Parts.{epoch_from, start_of}
-use Rattle.paging_machine.specs.Whole.{IsTable, IsWithin, IsTracked, IsWhole, parts_of}
+use Rattle.paging_laws.specs.inner.Guarded.{IsGuarded}
+use Rattle.paging_laws.specs.inner.Histories.{StandsWithAllRules}
+use Rattle.paging_laws.specs.inner.State.{making_of}
+use Rattle.paging_laws.specs.inner.Shape.{ShapeWithRules}
+use Rattle.paging_laws.specs.inner.State.{fresh}
+use Rattle.paging_laws.specs.inner.Stands.{IsSound, IsMeasured, IsFramed}
+use Rattle.paging_machine.specs.inner.Parts.{Parts, made, idle, is_noted, state_of, enclave_of, added_in, is_busy_in}
+use Rattle.paging_machine.specs.inner.Parts.{seat_of_mode, noted_by}
+use Rattle.paging_machine.specs.inner.Parts.{epoch_from, start_of}
+use Rattle.paging_machine.specs.inner.Whole.{IsTable, IsWithin, IsTracked, IsWhole, parts_of}
 use Rattle.paging_machine.specs.declared.machine.Machine.TheInside.{Inside}
 use Rattle.paging_machine.proofs.Columns.{like}
 use Rattle.paging_laws.proofs.ShapeSteps.{fresh_shaped}

@@ -12,21 +12,25 @@ use Rattle.sgx_types.specs.declared.names.SlotAt.{SlotAt}
 use Rattle.sgx_types.specs.Pages.{same_page}
 use Rattle.sgx_rules.specs.Frames.{Content, Free, IsVa, SecsOf, Holds, IsLoading}
 use Rattle.sgx_rules.specs.Flat.{FlatEnclave, marked, enclave_sight_of}
-use Rattle.sgx_rules.specs.Starts.{BareStart}
+use Rattle.sgx_rules.specs.inner.Starts.{BareStart}
 use Rattle.sgx_rules.specs.Table.{block_row, track_row, ewbstart_row, eldstart_row, first_of_row, is_loading}
 use Rattle.sgx_types.proofs.Pages.{same_page-at}
 use Rattle.measure_log.specs.declared.measure.Measure.{Measure}
-use Rattle.paging_laws.specs.State.{State, sight, track_sight, slot_sight, drain_sight, is_version_spent, with_content, after_epa}
-use Rattle.paging_laws.specs.State.{after_create, after_add, after_extend, after_init, after_block, after_track, after_ewbstart}
-use Rattle.paging_laws.specs.State.{after_eldstart, after_ewb, after_eld, after_failed_eld}
-use Rattle.paging_laws.specs.Stands.{IsSound, IsMeasured, IsFramed}
-use Rattle.paging_laws.specs.Guarded.{IsPaged, IsGuarded}
-use Rattle.paging_machine.specs.Whole.{IsWithin}
+use Rattle.paging_laws.specs.inner.State.{State, sight, track_sight, slot_sight, drain_sight, is_version_spent, with_content}
+use Rattle.paging_laws.specs.inner.State.{after_epa}
+use Rattle.paging_laws.specs.inner.State.{after_create, after_add, after_extend, after_init, after_block, after_track}
+use Rattle.paging_laws.specs.inner.State.{after_ewbstart}
+use Rattle.paging_laws.specs.inner.State.{after_eldstart, after_ewb, after_eld, after_failed_eld}
+use Rattle.paging_laws.specs.inner.Stands.{IsSound, IsMeasured, IsFramed}
+use Rattle.paging_laws.specs.inner.Guarded.{IsPaged, IsGuarded}
+use Rattle.paging_machine.specs.inner.Whole.{IsWithin}
 use Rattle.paging_laws.proofs.SoundLaws.{sound-put}
 use Rattle.paging_laws.proofs.BuildLaws.{sound_add}
 use Rattle.paging_laws.proofs.GuardLaws.{guarded_put, guarded_made, guarded_create, guarded_add, guarded_extend, guarded_init}
-use Rattle.paging_laws.proofs.PagingSound.{sound_block, sound_track, sound_ewbstart, sound_eldstart, sound_ewb, sound_eld, sound_failed_eld}
-use Rattle.paging_laws.proofs.GuardMoves.{guarded_block, guarded_track, guarded_ewbstart, guarded_eldstart, guarded_ewb, guarded_eld}
+use Rattle.paging_laws.proofs.PagingSound.{sound_block, sound_track, sound_ewbstart, sound_eldstart, sound_ewb, sound_eld}
+use Rattle.paging_laws.proofs.PagingSound.{sound_failed_eld}
+use Rattle.paging_laws.proofs.GuardMoves.{guarded_block, guarded_track, guarded_ewbstart, guarded_eldstart, guarded_ewb}
+use Rattle.paging_laws.proofs.GuardMoves.{guarded_eld}
 use Rattle.paging_laws.proofs.GuardMoves.{guarded_failed_eld}
 
 pub record IsKept (s : State) : Type 0 where

@@ -1,6 +1,6 @@
 -- The machine's parts after a block, a track, a write-out or a reload, and the state that they make.
 use Rattle.std.specs.Option.{option_map}
-use Rattle.secs_state.specs.Sights.{sight_of}
+use Rattle.secs_state.specs.inner.Sights.{sight_of}
 use Rattle.std.proofs.Common.{◌≡◌, ℕ, ◌+◌, ◌<◌, ◌≤◌, ◌==◌, ◌||◌, Bool, true, false, not, cond, leb, refl, sym}
 use Rattle.std.proofs.Common.{ap, ◌∙◌, Option, Some, None, List, length, get_or, set, is_some, length-set, arith}
 use Rattle.std.specs.Prelude.{count_by, nat_lt}
@@ -12,7 +12,7 @@ use Rattle.sgx_types.specs.declared.names.Kind.TheVariants as kinds
 use Rattle.sgx_types.specs.declared.names.Perm.{Perm}
 use Rattle.sgx_rules.specs.Frames.{Holds, enclave_in, is_free}
 use Rattle.sgx_types.specs.Pages.{same_slot}
-use Rattle.sgx_rules.specs.Starts.{BareStart}
+use Rattle.sgx_rules.specs.inner.Starts.{BareStart}
 use Rattle.sgx_rules.specs.Table as table
 use Rattle.sgx_rules.specs.Table.{DrainSight, first_of_row, block_row, track_row, ewbstart_row, eldstart_row, EnclaveSight}
 use Rattle.sgx_rules.proofs.Contents.{invalid_no_va}
@@ -20,36 +20,39 @@ use Rattle.sgx_rules.proofs.Rows.{none_holds}
 use Rattle.sgx_types.proofs.Truths.{neither}
 use Rattle.epcm_entry.specs.declared.entry_view.EntryView.{EntryView}
 use Rattle.epcm_entry.specs.declared.entry_view.EntryView.TheVariants as views
-use Rattle.epcm_entry.specs.EntryView.{is_valid, holding, block_of, goes_out, with_block, outgoing}
-use Rattle.epcm_entry.specs.Epc.{EpcFrame, entry_at, with_entry, with_page, with_words, with_sealing, with_loading, cleared}
-use Rattle.epcm_entry.specs.Sights.{held, content_of, sight_in}
-use Rattle.epcm_entry.proofs.Columns.{length-with_entry, entry_at-with_entry, words_at-with_entry, length-with_words, entry_at-with_words}
+use Rattle.epcm_entry.specs.inner.EntryView.{is_valid, holding, block_of, goes_out, with_block, outgoing}
+use Rattle.epcm_entry.specs.inner.Epc.{EpcFrame, entry_at, with_entry, with_page, with_words, with_sealing, with_loading, cleared}
+use Rattle.epcm_entry.specs.inner.Sights.{held, content_of, sight_in}
+use Rattle.epcm_entry.proofs.Columns.{length-with_entry, entry_at-with_entry, words_at-with_entry, length-with_words}
+use Rattle.epcm_entry.proofs.Columns.{entry_at-with_words}
 use Rattle.epcm_entry.proofs.Columns.{words_at-with_words, length-cleared, entry_at-cleared, words_at-cleared}
 use Rattle.cached_translations.specs.declared.processor.Processor.{Processor}
-use Rattle.secs_state.specs.Secs.{SecsState}
-use Rattle.secs_state.specs.Table.{enclave_at}
-use Rattle.track_epoch.specs.Tracking.{Tracking, tracked}
-use Rattle.track_epoch.specs.Tracks.{track_of, with_track}
+use Rattle.secs_state.specs.inner.Secs.{SecsState}
+use Rattle.secs_state.specs.inner.Table.{enclave_at}
+use Rattle.track_epoch.specs.inner.Tracking.{Tracking, tracked}
+use Rattle.track_epoch.specs.inner.Tracks.{track_of, with_track}
 use Rattle.track_epoch.proofs.TracksLaws.{length-with_track, track_of-with_track}
 use Rattle.version_array.specs.declared.va_page.VaSlot.{VaSlot}
-use Rattle.version_array.specs.Slots.{IsSlot, IsVaTable, pages_made, version_in, is_busy_at, with_busy, with_version}
-use Rattle.version_array.specs.Versions.{is_spent_at}
+use Rattle.version_array.specs.inner.Slots.{IsSlot, IsVaTable, pages_made, version_in, is_busy_at, with_busy, with_version}
+use Rattle.version_array.specs.inner.Versions.{is_spent_at}
 use Rattle.version_array.proofs.TableLaws.{made-with_busy, made-with_version, version_in-with_version, is_busy_at-with_version}
 use Rattle.version_array.proofs.TableLaws.{version_in-with_busy, is_busy_at-with_busy, slot_kept, IsVaTable-with_slot}
-use Rattle.evict_reload.specs.Effects.{epoch_of, with_blocked, with_next, with_tracked, with_ended}
-use Rattle.evict_reload.specs.Sights as parts
-use Rattle.evict_reload.specs.Sights.{AreVaPages, IsNumbered, track_seen}
+use Rattle.evict_reload.specs.inner.Effects.{epoch_of, with_blocked, with_next, with_tracked, with_ended}
+use Rattle.evict_reload.specs.inner.Sights as parts
+use Rattle.evict_reload.specs.inner.Sights.{AreVaPages, IsNumbered, track_seen}
 use Rattle.evict_reload.proofs.PageLaws.{pages-with_entry, pages-with_slot, is_va-with_block, is_va-outgoing}
-use Rattle.paging_laws.specs.Guarded.{IsPaged}
-use Rattle.paging_laws.specs.State.{epoch_in, after_block, after_track, after_ewbstart, after_eldstart, after_ewb, after_eld}
-use Rattle.paging_laws.specs.State.{after_failed_eld}
+use Rattle.paging_laws.specs.inner.Guarded.{IsPaged}
+use Rattle.paging_laws.specs.inner.State.{epoch_in, after_block, after_track, after_ewbstart, after_eldstart, after_ewb}
+use Rattle.paging_laws.specs.inner.State.{after_eld}
+use Rattle.paging_laws.specs.inner.State.{after_failed_eld}
 use Rattle.paging_machine.specs.declared.starts.Start as opened
-use Rattle.paging_machine.specs.Parts.{Parts, is_noted, start_of, epoch_from, state_of}
-use Rattle.paging_machine.specs.Whole.{IsTracked, IsWhole, parts_of}
+use Rattle.paging_machine.specs.inner.Parts.{Parts, is_noted, start_of, epoch_from, state_of}
+use Rattle.paging_machine.specs.inner.Whole.{IsTracked, IsWhole, parts_of}
 use Rattle.paging_machine.specs.declared.machine.Machine.TheInside.{Inside}
 use Rattle.paging_machine.proofs.Columns.{get_or-set_if, through, same_at, numbered}
 use Rattle.paging_machine.proofs.KeptStates.{kept_block, kept_track, kept_ewbstart, kept_eldstart}
-use Rattle.paging_machine.proofs.PagingSights.{epoch_seen, frame_numbered, track_there, track_row_at, ewbstart_row_at, eldstart_row_at}
+use Rattle.paging_machine.proofs.PagingSights.{epoch_seen, frame_numbered, track_there, track_row_at, ewbstart_row_at}
+use Rattle.paging_machine.proofs.PagingSights.{eldstart_row_at}
 use Rattle.paging_machine.proofs.WholeMachines.{Leaves, kept_of}
 
 -- ---- one entry of the EPC changes

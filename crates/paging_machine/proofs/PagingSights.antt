@@ -1,6 +1,6 @@
 -- What the rows of block, track, write-out and reload see of the machine's parts is what they see of the state.
 use Rattle.paging_laws.proofs.Contents.{waits_for}
-use Rattle.secs_state.specs.Sights.{sight_of}
+use Rattle.secs_state.specs.inner.Sights.{sight_of}
 use Rattle.sgx_rules.specs.Flat.{enclave_sight_of}
 use Rattle.std.proofs.Common.{◌≡◌, ℕ, zero, suc, ◌+◌, ◌-◌, ◌<◌, ◌≤◌, ◌==◌, ◌&&◌, Bool, true, false, cond}
 use Rattle.std.proofs.Common.{refl, sym, ap, ◌∙◌, arith, Option, Some, None, IfSome, is_some, List, [], ◌∷◌, length, get_or}
@@ -22,29 +22,31 @@ use Rattle.sgx_rules.specs.Table.{DrainSight, SlotSight, first_of_row, track_row
 use Rattle.sgx_types.proofs.CountLaws.{count_below-agrees, count_below-zero}
 use Rattle.epcm_entry.specs.declared.entry_view.EntryView.{EntryView}
 use Rattle.epcm_entry.specs.declared.entry_view.EntryView.TheVariants as views
-use Rattle.epcm_entry.specs.Epc.{entry_at}
-use Rattle.epcm_entry.specs.EntryView.{block_of, goes_out}
-use Rattle.epcm_entry.specs.Sights.{held, content_of, sight_in}
+use Rattle.epcm_entry.specs.inner.Epc.{entry_at}
+use Rattle.epcm_entry.specs.inner.EntryView.{block_of, goes_out}
+use Rattle.epcm_entry.specs.inner.Sights.{held, content_of, sight_in}
 use Rattle.cached_translations.specs.declared.processor.Processor.{Processor}
 use Rattle.cached_translations.specs.declared.processor.Mode.{Mode}
 use Rattle.cached_translations.specs.declared.processor.Mode.TheVariants as modes
-use Rattle.secs_state.specs.Secs.{SecsState, added_at, page_count}
-use Rattle.secs_state.specs.Table.{enclave_at}
+use Rattle.secs_state.specs.inner.Secs.{SecsState, added_at, page_count}
+use Rattle.secs_state.specs.inner.Table.{enclave_at}
 use Rattle.secs_state.proofs.Columns.{added_below}
-use Rattle.sgx_rules.specs.Starts.{BareStart}
+use Rattle.sgx_rules.specs.inner.Starts.{BareStart}
 use Rattle.sgx_types.proofs.Truths.{both_true}
-use Rattle.paging_laws.specs.Stands.{IsFramed}
-use Rattle.paging_laws.specs.Guarded.{IsGuarded, WritesOut, Loads}
-use Rattle.track_epoch.specs.Tracking.{Tracking}
-use Rattle.track_epoch.specs.Tracks.{track_of}
-use Rattle.version_array.specs.Versions.{is_spent_at}
-use Rattle.evict_reload.specs.Sights as parts
-use Rattle.evict_reload.specs.Sights.{IsNumbered, drain_of}
-use Rattle.evict_reload.specs.Effects as effects
-use Rattle.paging_laws.specs.State.{State, sight, is_noting, number_noting, epoch_in, number_up_to, has_passed, track_sight, slot_sight}
-use Rattle.paging_laws.specs.State.{drain_sight, is_version_spent}
-use Rattle.paging_machine.specs.Parts.{Parts, idle, cpu_at, seat_of_mode, noted_by, is_noted, added_in, enclave_of, state_of}
-use Rattle.paging_machine.specs.Whole.{IsTable, IsTracked}
+use Rattle.paging_laws.specs.inner.Stands.{IsFramed}
+use Rattle.paging_laws.specs.inner.Guarded.{IsGuarded, WritesOut, Loads}
+use Rattle.track_epoch.specs.inner.Tracking.{Tracking}
+use Rattle.track_epoch.specs.inner.Tracks.{track_of}
+use Rattle.version_array.specs.inner.Versions.{is_spent_at}
+use Rattle.evict_reload.specs.inner.Sights as parts
+use Rattle.evict_reload.specs.inner.Sights.{IsNumbered, drain_of}
+use Rattle.evict_reload.specs.inner.Effects as effects
+use Rattle.paging_laws.specs.inner.State.{State, sight, is_noting, number_noting, epoch_in, number_up_to, has_passed}
+use Rattle.paging_laws.specs.inner.State.{track_sight, slot_sight}
+use Rattle.paging_laws.specs.inner.State.{drain_sight, is_version_spent}
+use Rattle.paging_machine.specs.inner.Parts.{Parts, idle, cpu_at, seat_of_mode, noted_by, is_noted, added_in, enclave_of}
+use Rattle.paging_machine.specs.inner.Parts.{state_of}
+use Rattle.paging_machine.specs.inner.Whole.{IsTable, IsTracked}
 use Rattle.paging_machine.proofs.Columns.{numbered}
 
 -- ---- counts

@@ -11,29 +11,31 @@ use Rattle.sgx_types.specs.Pages.{page_at, same_page}
 use Rattle.sgx_rules.specs.Frames.{Content, Free, IsVa, SecsOf, Holds, IsLoading, is_page}
 use Rattle.sgx_rules.specs.Sights.{seat_of}
 use Rattle.sgx_types.proofs.Pages.{same_pages}
-use Rattle.epcm_entry.specs.EntryView.{block_of, goes_out}
-use Rattle.epcm_entry.specs.Epc.{EpcFrame, free_frame, entry_at, words_at, with_words}
-use Rattle.epcm_entry.specs.Sights.{held}
+use Rattle.epcm_entry.specs.inner.EntryView.{block_of, goes_out}
+use Rattle.epcm_entry.specs.inner.Epc.{EpcFrame, free_frame, entry_at, words_at, with_words}
+use Rattle.epcm_entry.specs.inner.Sights.{held}
 use Rattle.epcm_entry.proofs.Columns.{length-with_words, entry_at-with_words, words_at-with_words}
-use Rattle.secs_state.specs.Secs.{SecsState, added_at, with_busy}
-use Rattle.secs_state.specs.Table.{enclave_at, with_enclave}
+use Rattle.secs_state.specs.inner.Secs.{SecsState, added_at, with_busy}
+use Rattle.secs_state.specs.inner.Table.{enclave_at, with_enclave}
 use Rattle.secs_state.proofs.Columns.{added_below, is_busy_at-with_busy}
 use Rattle.cached_translations.specs.declared.cache.Translation.{Translation}
 use Rattle.cached_translations.specs.declared.processor.Processor.{Processor}
 use Rattle.cached_translations.specs.declared.processor.Mode.{Mode}
 use Rattle.cached_translations.specs.declared.processor.Mode.TheVariants as modes
-use Rattle.cached_translations.specs.Modes.{is_inside, enclave_inside}
-use Rattle.cached_translations.specs.Translations.{with_translation}
-use Rattle.track_epoch.specs.Tracking.{Tracking, entered, left}
-use Rattle.track_epoch.specs.Tracks.{track_of, with_track}
+use Rattle.cached_translations.specs.inner.Modes.{is_inside, enclave_inside}
+use Rattle.cached_translations.specs.inner.Translations.{with_translation}
+use Rattle.track_epoch.specs.inner.Tracking.{Tracking, entered, left}
+use Rattle.track_epoch.specs.inner.Tracks.{track_of, with_track}
 use Rattle.track_epoch.proofs.TracksLaws.{track_of-with_track}
 use Rattle.sgx_rules.specs.Frames.{page_of}
-use Rattle.entry_exit.specs.Entry.{IsAdded}
-use Rattle.paging_laws.specs.State.{State, seat_enclave, is_seated_by, rewritten, with_inside, with_acc, after_exit, after_fill}
-use Rattle.paging_machine.specs.Parts.{Parts, added_in, enclave_of, epoch_from, is_busy_in, idle, cpu_at, noted_by, seat_of_mode, state_of}
-use Rattle.paging_machine.specs.Whole.{IsSecsOf, IsTable}
-use Rattle.paging_laws.specs.Stands.{IsSound, IsFramed}
-use Rattle.paging_laws.specs.Stands.{HasEnclaves}
+use Rattle.entry_exit.specs.inner.Entry.{IsAdded}
+use Rattle.paging_laws.specs.inner.State.{State, seat_enclave, is_seated_by, rewritten, with_inside, with_acc, after_exit}
+use Rattle.paging_laws.specs.inner.State.{after_fill}
+use Rattle.paging_machine.specs.inner.Parts.{Parts, added_in, enclave_of, epoch_from, is_busy_in, idle, cpu_at, noted_by}
+use Rattle.paging_machine.specs.inner.Parts.{seat_of_mode, state_of}
+use Rattle.paging_machine.specs.inner.Whole.{IsSecsOf, IsTable}
+use Rattle.paging_laws.specs.inner.Stands.{IsSound, IsFramed}
+use Rattle.paging_laws.specs.inner.Stands.{HasEnclaves}
 use Rattle.paging_machine.proofs.Columns.{get_or-set_if, get_or-default, same_at, numbered, enclave_kept, page_column}
 use Rattle.paging_laws.proofs.SoundLaws.{seat_at}
 

@@ -9,13 +9,13 @@ use Rattle.sgx_types.proofs.CountLaws.{one_if}
 use Rattle.cached_translations.specs.declared.processor.Processor.{Processor}
 use Rattle.cached_translations.specs.declared.processor.Mode.{Mode}
 use Rattle.cached_translations.specs.declared.processor.Mode.TheVariants as modes
-use Rattle.cached_translations.specs.Modes.{is_inside}
-use Rattle.track_epoch.specs.Tracking.{Tracking, entered, left}
-use Rattle.track_epoch.specs.Tracks.{track_of, with_track}
+use Rattle.cached_translations.specs.inner.Modes.{is_inside}
+use Rattle.track_epoch.specs.inner.Tracking.{Tracking, entered, left}
+use Rattle.track_epoch.specs.inner.Tracks.{track_of, with_track}
 use Rattle.track_epoch.proofs.TrackingLaws.{count_by-without}
 use Rattle.track_epoch.proofs.TracksLaws.{track_of-with_track}
-use Rattle.paging_machine.specs.Parts.{is_noted, idle}
-use Rattle.paging_machine.specs.Whole.{IsTracked}
+use Rattle.paging_machine.specs.inner.Parts.{is_noted, idle}
+use Rattle.paging_machine.specs.inner.Whole.{IsTracked}
 
 -- how many processors pass, where one is written
 count_written : (test : Mode → Bool) (cpus : List Processor) (p : ℕ) (v : Processor) → p < length cpus

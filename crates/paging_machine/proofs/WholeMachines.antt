@@ -6,23 +6,23 @@ use Rattle.sgx_rules.specs.declared.entries.Entry.{Entry}
 use Rattle.sgx_types.specs.declared.names.Actor.{Actor}
 use Rattle.sgx_rules.specs.declared.entries.Action.{Action}
 use Rattle.sgx_rules.specs.declared.refusals.Refusal.{Refusal}
-use Rattle.epcm_entry.specs.Epc.{EpcFrame}
-use Rattle.secs_state.specs.Secs.{SecsState}
-use Rattle.secs_state.specs.Table.{enclave_at, with_enclave}
+use Rattle.epcm_entry.specs.inner.Epc.{EpcFrame}
+use Rattle.secs_state.specs.inner.Secs.{SecsState}
+use Rattle.secs_state.specs.inner.Table.{enclave_at, with_enclave}
 use Rattle.measure_log.specs.declared.measure.Measure.{Measure}
 use Rattle.paging_machine.specs.declared.machine.Machine.TheInside.{Inside}
-use Rattle.paging_laws.specs.State.{State}
+use Rattle.paging_laws.specs.inner.State.{State}
 use Rattle.cached_translations.specs.declared.processor.Processor.{Processor}
-use Rattle.track_epoch.specs.Tracking.{Tracking}
-use Rattle.track_epoch.specs.Tracks.{track_of, with_track}
+use Rattle.track_epoch.specs.inner.Tracking.{Tracking}
+use Rattle.track_epoch.specs.inner.Tracks.{track_of, with_track}
 use Rattle.track_epoch.proofs.TracksLaws.{with_track-track_of}
-use Rattle.version_array.specs.Slots.{IsVaTable}
-use Rattle.evict_reload.specs.Sights.{AreVaPages}
-use Rattle.paging_laws.specs.Guarded.{IsGuarded}
-use Rattle.paging_machine.specs.Parts.{Parts, idle, cpu_at, state_of}
-use Rattle.paging_laws.specs.Stands.{IsSound, IsMeasured, IsFramed}
-use Rattle.paging_laws.specs.Steps.{IsStep}
-use Rattle.paging_machine.specs.Whole.{IsTable, IsWithin, IsTracked, IsWhole, parts_of}
+use Rattle.version_array.specs.inner.Slots.{IsVaTable}
+use Rattle.evict_reload.specs.inner.Sights.{AreVaPages}
+use Rattle.paging_laws.specs.inner.Guarded.{IsGuarded}
+use Rattle.paging_machine.specs.inner.Parts.{Parts, idle, cpu_at, state_of}
+use Rattle.paging_laws.specs.inner.Stands.{IsSound, IsMeasured, IsFramed}
+use Rattle.paging_laws.specs.inner.Steps.{IsStep}
+use Rattle.paging_machine.specs.inner.Whole.{IsTable, IsWithin, IsTracked, IsWhole, parts_of}
 use Rattle.paging_machine.proofs.Columns.{enclave_same, numbered}
 use Rattle.paging_machine.proofs.KeptStates.{IsKept, kept_as}
 

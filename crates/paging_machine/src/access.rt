@@ -3,8 +3,8 @@
 ghost use Rattle.std.specs.Prelude.{◌≡◌, ◌<◌, length};
 ghost use Rattle.sgx_types.specs.declared.names.Actor.TheVariants as actors;
 ghost use Rattle.sgx_rules.specs.declared.entries.Action.TheVariants as actions;
-ghost use Rattle.paging_machine.specs.Parts.{state_of};
-ghost use Rattle.paging_laws.specs.Steps.{IsStep};
+ghost use Rattle.paging_machine.specs.inner.Parts.{state_of};
+ghost use Rattle.paging_laws.specs.inner.Steps.{IsStep};
 
 use crate::apply::{done, refused};
 use crate::machine::Machine;

@@ -1,15 +1,15 @@
 //! One instruction, by its row.
 
-ghost use Rattle.paging_laws.specs.State.{making_of};
+ghost use Rattle.paging_laws.specs.inner.State.{making_of};
 ghost use Rattle.std.specs.Prelude.{◌≡◌, IfOk, OnErr, length, List, ◌∷◌};
 ghost use Rattle.sgx_rules.specs.declared.entries.Entry.{Entry};
-ghost use Rattle.paging_machine.specs.Parts.{state_of};
-ghost use Rattle.sgx_rules.specs.Rules.{LoadsAwayRule};
+ghost use Rattle.paging_machine.specs.inner.Parts.{state_of};
+ghost use Rattle.sgx_rules.specs.inner.Rules.{LoadsAwayRule};
 ghost use Rattle.sgx_types.specs.Making.{Making};
-ghost use Rattle.paging_laws.specs.Shape.{ShapeWithRules, FitsApart};
+ghost use Rattle.paging_laws.specs.inner.Shape.{ShapeWithRules, FitsApart};
 ghost use Rattle.seal_record.specs.Records.{Made};
-ghost use Rattle.paging_laws.specs.Histories.{StandsWithAllRules};
-ghost use Rattle.paging_laws.specs.Steps.{IsStep, CanApply, MayNeedMemory, did_by, refused_by};
+ghost use Rattle.paging_laws.specs.inner.Histories.{StandsWithAllRules};
+ghost use Rattle.paging_laws.specs.inner.Steps.{IsStep, CanApply, MayNeedMemory, did_by, refused_by};
 
 use crate::machine::Machine;
 use sgx_rules::entries::{Action, Answer, Entry, Event};

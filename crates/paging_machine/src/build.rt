@@ -3,12 +3,12 @@
 ghost use Rattle.std.specs.Prelude.{◌≡◌, true, None, Some, IfOk, OnOk, OnErr, is_some, length};
 ghost use Rattle.sgx_rules.specs.Table.{first_of_row, when, ◌otherwise◌, allowed, epa_row};
 ghost use Rattle.sgx_rules.specs.declared.refusals.Refusal.TheVariants as why;
-ghost use Rattle.epcm_entry.specs.Sights.{sight_in};
+ghost use Rattle.epcm_entry.specs.inner.Sights.{sight_in};
 ghost use Rattle.sgx_rules.specs.declared.entries.Action.TheVariants as actions;
-ghost use Rattle.paging_machine.specs.Parts.{state_of};
-ghost use Rattle.paging_laws.specs.Stands.{IsSound};
-ghost use Rattle.paging_laws.specs.State.{sight, after_epa};
-ghost use Rattle.paging_laws.specs.Steps.{IsStep};
+ghost use Rattle.paging_machine.specs.inner.Parts.{state_of};
+ghost use Rattle.paging_laws.specs.inner.Stands.{IsSound};
+ghost use Rattle.paging_laws.specs.inner.State.{sight, after_epa};
+ghost use Rattle.paging_laws.specs.inner.Steps.{IsStep};
 
 use crate::apply::{done, refused};
 use crate::machine::Machine;

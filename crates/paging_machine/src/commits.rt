@@ -1,17 +1,17 @@
 //! The ends of write-outs and loads, and what is sealed and opened between a start and its commit.
 
-ghost use Rattle.paging_laws.specs.Notes.{IsDone};
-ghost use Rattle.paging_laws.specs.State.{making_of};
+ghost use Rattle.paging_laws.specs.inner.Notes.{IsDone};
+ghost use Rattle.paging_laws.specs.inner.State.{making_of};
 ghost use Rattle.std.specs.Prelude.{◌≡◌, ◌∷◌, ◌++◌, true, Some, length, List, is_some};
 ghost use Rattle.std.specs.Option.{IsSomeAnd};
 ghost use Rattle.sgx_rules.specs.declared.entries.Entry.{Entry};
 ghost use Rattle.sgx_rules.specs.Table.{is_loading};
 ghost use Rattle.sgx_types.specs.Making.{Making};
 ghost use Rattle.seal_record.specs.Records.{Given, Made, Unforged};
-ghost use Rattle.paging_laws.specs.Histories.{StandsWithAllRules, given_out, looked_at, BringsIn};
-ghost use Rattle.paging_machine.specs.Parts.{start_of, state_of};
-ghost use Rattle.paging_laws.specs.Shape.{ShapeWithRules, FitsApart};
-ghost use Rattle.paging_laws.specs.Steps.{IsHeaderIn, IsReloaded, IsWrittenOut, SealsPage};
+ghost use Rattle.paging_laws.specs.inner.Histories.{StandsWithAllRules, given_out, looked_at, BringsIn};
+ghost use Rattle.paging_machine.specs.inner.Parts.{start_of, state_of};
+ghost use Rattle.paging_laws.specs.inner.Shape.{ShapeWithRules, FitsApart};
+ghost use Rattle.paging_laws.specs.inner.Steps.{IsHeaderIn, IsReloaded, IsWrittenOut, SealsPage};
 
 use crate::apply::{done, refused};
 use crate::machine::Machine;

@@ -5,10 +5,10 @@ ghost use Rattle.sgx_rules.specs.Table.{first_of_row, when, ◌otherwise◌, all
 ghost use Rattle.sgx_types.specs.declared.names.Actor.TheVariants as actors;
 ghost use Rattle.sgx_rules.specs.declared.entries.Action.TheVariants as actions;
 ghost use Rattle.sgx_rules.specs.declared.refusals.Refusal.TheVariants as why;
-ghost use Rattle.epcm_entry.specs.Sights.{sight_in};
-ghost use Rattle.cached_translations.specs.Modes.{is_inside};
-ghost use Rattle.paging_machine.specs.Parts.{state_of};
-ghost use Rattle.paging_laws.specs.Steps.{IsStep};
+ghost use Rattle.epcm_entry.specs.inner.Sights.{sight_in};
+ghost use Rattle.cached_translations.specs.inner.Modes.{is_inside};
+ghost use Rattle.paging_machine.specs.inner.Parts.{state_of};
+ghost use Rattle.paging_laws.specs.inner.Steps.{IsStep};
 
 use crate::apply::{done, refused};
 use crate::machine::Machine;

@@ -6,11 +6,11 @@ ghost use Rattle.sgx_types.specs.Pages.{page_at};
 ghost use Rattle.sgx_rules.specs.Frames.{least_free};
 ghost use Rattle.sgx_rules.specs.Table.{allows, is_lawful_access, is_loading, is_ready};
 ghost use Rattle.sgx_rules.specs.Flat.{enclave_sight_of};
-ghost use Rattle.epcm_entry.specs.Epc.{is_free_frame};
-ghost use Rattle.cached_translations.specs.Translations.{translation_of};
-ghost use Rattle.paging_machine.specs.Parts.{state_of, cpu_at, tcs_of};
-ghost use Rattle.paging_laws.specs.Stands.{IsSound};
-ghost use Rattle.paging_laws.specs.State.{number_noting};
+ghost use Rattle.epcm_entry.specs.inner.Epc.{is_free_frame};
+ghost use Rattle.cached_translations.specs.inner.Translations.{translation_of};
+ghost use Rattle.paging_machine.specs.inner.Parts.{state_of, cpu_at, tcs_of};
+ghost use Rattle.paging_laws.specs.inner.Stands.{IsSound};
+ghost use Rattle.paging_laws.specs.inner.State.{number_noting};
 
 use crate::starts::Start;
 use cached_translations::processor::{Mode, Processor};
@@ -46,11 +46,11 @@ pub struct Machine {
 }
 
 impl Model for Machine {
-    ghost use Rattle.paging_machine.specs.Parts.{Parts};
+    ghost use Rattle.paging_machine.specs.inner.Parts.{Parts};
 
     ghost Value = { Parts };
 
-    ghost use Rattle.paging_machine.specs.Whole.{parts_of, IsWhole};
+    ghost use Rattle.paging_machine.specs.inner.Whole.{parts_of, IsWhole};
 
     ghost view = { parts_of };
 

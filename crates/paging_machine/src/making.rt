@@ -1,10 +1,10 @@
 //! The making of a machine.
 
 ghost use Rattle.std.specs.Prelude.{◌≡◌, ◌≤◌, [], IfOk, None, replicate};
-ghost use Rattle.paging_machine.specs.Parts.{idle, made, state_of};
-ghost use Rattle.paging_laws.specs.Shape.{ShapeWithRules};
-ghost use Rattle.paging_laws.specs.State.{making_of};
-ghost use Rattle.paging_laws.specs.Histories.{StandsWithAllRules};
+ghost use Rattle.paging_machine.specs.inner.Parts.{idle, made, state_of};
+ghost use Rattle.paging_laws.specs.inner.Shape.{ShapeWithRules};
+ghost use Rattle.paging_laws.specs.inner.State.{making_of};
+ghost use Rattle.paging_laws.specs.inner.Histories.{StandsWithAllRules};
 ghost use Rattle.sgx_types.specs.declared.names.TheConstants.{LAST_EPOCH};
 
 use crate::machine::Machine;

@@ -4,10 +4,10 @@ ghost use Rattle.std.specs.Prelude.{ℕ, ◌∷◌, List};
 ghost use Rattle.sgx_rules.specs.declared.entries.Entry.{Entry};
 ghost use Rattle.sgx_types.specs.Making.{Making};
 ghost use Rattle.seal_record.specs.Records.{Made};
-ghost use Rattle.paging_laws.specs.Histories.{StandsWithAllRules};
-ghost use Rattle.paging_laws.specs.Notes.{IsNote};
-ghost use Rattle.paging_laws.specs.Shape.{FitsApart, ShapeWithRules};
-ghost use Rattle.paging_machine.specs.Parts.{state_of};
+ghost use Rattle.paging_laws.specs.inner.Histories.{StandsWithAllRules};
+ghost use Rattle.paging_laws.specs.inner.Notes.{IsNote};
+ghost use Rattle.paging_laws.specs.inner.Shape.{FitsApart, ShapeWithRules};
+ghost use Rattle.paging_machine.specs.inner.Parts.{state_of};
 
 use crate::machine::Machine;
 use sgx_rules::entries::{Entry, Event};

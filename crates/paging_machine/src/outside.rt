@@ -1,9 +1,9 @@
 //! What the rows of processors' instructions say to who is inside no enclave.
 
 ghost use Rattle.std.specs.Prelude.{◌≡◌};
-ghost use Rattle.entry_exit.specs.Entry.{row_of};
-ghost use Rattle.paging_laws.specs.State.{enter_sight, from_outside, row_outside};
-ghost use Rattle.paging_machine.specs.Parts.{state_of};
+ghost use Rattle.entry_exit.specs.inner.Entry.{row_of};
+ghost use Rattle.paging_laws.specs.inner.State.{enter_sight, from_outside, row_outside};
+ghost use Rattle.paging_machine.specs.inner.Parts.{state_of};
 ghost use Rattle.sgx_rules.specs.Sights.{seat_of};
 ghost use Rattle.sgx_rules.specs.Table.{first_of_row};
 

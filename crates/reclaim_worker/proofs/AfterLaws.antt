@@ -11,7 +11,7 @@ use Rattle.sgx_types.specs.declared.names.SlotAt.{SlotAt}
 use Rattle.sgx_rules.specs.declared.refusals.Refusal.{Refusal}
 use Rattle.sgx_rules.specs.declared.refusals.Refusal.TheVariants as why
 use Rattle.sgx_rules.specs.Epochs.{epoch}
-use Rattle.driver_laws.specs.Kinds.{is_quiet}
+use Rattle.driver_laws.specs.inner.Kinds.{is_quiet}
 use Rattle.driver_rules.specs.Passes as passes
 use Rattle.reclaim_worker.specs.declared.turns.Form as forms_of
 use Rattle.sgx_rules.specs.declared.entries.Answer.TheVariants as answers
@@ -23,13 +23,13 @@ use Rattle.sgx_types.specs.declared.names.Page.{Page}
 use Rattle.job_grammar.specs.Jobs.{JobView}
 use Rattle.turn_rules.specs.Script.{frame_at}
 use Rattle.active_list.specs.declared.page_states.PageState.{PageState}
-use Rattle.active_list.specs.States.{state_of}
+use Rattle.active_list.specs.inner.States.{state_of}
 use Rattle.driver_rules.specs.Ages.{head_of}
 use Rattle.driver_rules.specs.Passes.{Third, decided, free_count, keepers, kicks_on, pass, pass_after, Blocking, First}
 use Rattle.driver_rules.specs.Passes.{Sealing, Second, ToKick, ToTrack, Tries, block_on, next_tries, scan_on, taken_by}
 use Rattle.driver_rules.specs.Places.{Here, Leaving, active, place}
 use Rattle.sgx_rules.specs.Starts.{open_start}
-use Rattle.driver_laws.specs.Sound.{slot_at, slot_of, IsSound, is_absent}
+use Rattle.driver_laws.specs.inner.Sound.{slot_at, slot_of, IsSound, is_absent}
 use Rattle.driver_laws.proofs.MoveLaws.{place-quiet, place-taken}
 use Rattle.driver_laws.proofs.SoundLaws.{head_here}
 use Rattle.sgx_types.specs.declared.names.Actor.TheVariants as actors
@@ -39,13 +39,13 @@ use Rattle.reclaim_worker.specs.declared.turns.Phase.{Phase}
 use Rattle.reclaim_worker.specs.declared.turns.Phase.TheVariants as phases
 use Rattle.reclaim_worker.specs.declared.turns.PassTurn.{PassTurn}
 use Rattle.reclaim_worker.specs.declared.turns.Taken.{Taken}
-use Rattle.reclaim_worker.specs.Answers.{by_reclaimer}
-use Rattle.reclaim_worker.specs.Moves.{after_block}
-use Rattle.reclaim_worker.specs.After.{cpu_of, kicked_past}
-use Rattle.reclaim_worker.specs.Scans.{IsScan, after_look, taken_with}
-use Rattle.reclaim_worker.specs.Standing.{AreInFrames, IsForm, StandsFor, pages_in}
-use Rattle.reclaim_worker.specs.Tables.{Shows}
-use Rattle.driver_tables.specs.Tables.{place_in}
+use Rattle.reclaim_worker.specs.inner.Answers.{by_reclaimer}
+use Rattle.reclaim_worker.specs.inner.Moves.{after_block}
+use Rattle.reclaim_worker.specs.inner.After.{cpu_of, kicked_past}
+use Rattle.reclaim_worker.specs.inner.Scans.{IsScan, after_look, taken_with}
+use Rattle.reclaim_worker.specs.inner.Standing.{AreInFrames, IsForm, StandsFor, pages_in}
+use Rattle.reclaim_worker.specs.inner.Tables.{Shows}
+use Rattle.driver_tables.specs.inner.Tables.{place_in}
 use Rattle.driver_tables.proofs.ListLaws.{heads}
 use Rattle.driver_tables.proofs.ShowLaws.{here_frame}
 use Rattle.driver_laws.proofs.StillLaws.{still}

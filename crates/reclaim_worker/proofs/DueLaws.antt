@@ -12,19 +12,19 @@ use Rattle.sgx_rules.specs.Frames.{Content, content}
 use Rattle.sgx_rules.specs.Frames as frames
 use Rattle.epcm_entry.specs.declared.entry_view.EntryView.{EntryView}
 use Rattle.epcm_entry.specs.declared.entry_view.EntryView.TheVariants as views
-use Rattle.epcm_entry.specs.EntryView.{is_free}
-use Rattle.epcm_entry.specs.Epc.{EpcFrame, free_frame, is_free_frame}
-use Rattle.epcm_entry.specs.Sights.{held}
+use Rattle.epcm_entry.specs.inner.EntryView.{is_free}
+use Rattle.epcm_entry.specs.inner.Epc.{EpcFrame, free_frame, is_free_frame}
+use Rattle.epcm_entry.specs.inner.Sights.{held}
 use Rattle.job_grammar.specs.Jobs.{JobView}
-use Rattle.paging_machine.specs.Parts.{Parts, cpu_at, state_of}
-use Rattle.paging_laws.specs.Columns.{HasColumns}
+use Rattle.paging_machine.specs.inner.Parts.{Parts, cpu_at, state_of}
+use Rattle.paging_laws.specs.inner.Columns.{HasColumns}
 use Rattle.sgx_types.specs.Making.{Making}
-use Rattle.paging_laws.specs.State.{making_of}
+use Rattle.paging_laws.specs.inner.State.{making_of}
 use Rattle.paging_machine.proofs.Columns.{get_or-default}
 use Rattle.driver_rules.specs.Passes as passes
 use Rattle.driver_rules.specs.Passes.{Blocking, Pass, Scan, Tries, free_count, free_count_from, keepers, pass}
 use Rattle.driver_rules.specs.Places.{Leaving, place}
-use Rattle.driver_laws.specs.Tracks.{IsTracked, IsUntracked, KeepsTracks}
+use Rattle.driver_laws.specs.inner.Tracks.{IsTracked, IsUntracked, KeepsTracks}
 use Rattle.driver_tables.specs.declared.driver.Driver.{Driver}
 use Rattle.reclaim_worker.specs.declared.turns.Form.{Form}
 use Rattle.reclaim_worker.specs.declared.turns.Form.TheVariants as forms
@@ -34,15 +34,15 @@ use Rattle.reclaim_worker.specs.declared.turns.PassTurn.{PassTurn}
 use Rattle.reclaim_worker.specs.declared.turns.PassTurn.TheVariants as turns
 use Rattle.reclaim_worker.specs.declared.turns.Taken.{Taken}
 use Rattle.driver_rules.specs.declared.waits.Why.TheVariants as waits
-use Rattle.reclaim_worker.specs.Answers.{IsTurn}
+use Rattle.reclaim_worker.specs.inner.Answers.{IsTurn}
 use Rattle.driver_rules.specs.Dues.{TriesOut}
-use Rattle.driver_rules.specs.Reclaims.{form_due, leaving_due, pass_due, third_due}
-use Rattle.reclaim_worker.specs.Moves.{IsBlockTurn, IsTryTurn}
-use Rattle.reclaim_worker.specs.Ready.{Ready}
-use Rattle.driver_laws.specs.Stages.{HasPages, IsTaken}
-use Rattle.reclaim_worker.specs.Standing.{AreInFrames, IsForm, is_kicked, pages_in}
-use Rattle.reclaim_worker.specs.Tried.{count_from, is_kept_by}
-use Rattle.reclaim_worker.specs.Turning.{IsFormTurn, IsThirdTurn, TurnSays, WithPage}
+use Rattle.driver_rules.specs.inner.Reclaims.{form_due, leaving_due, pass_due, third_due}
+use Rattle.reclaim_worker.specs.inner.Moves.{IsBlockTurn, IsTryTurn}
+use Rattle.reclaim_worker.specs.inner.Ready.{Ready}
+use Rattle.driver_laws.specs.inner.Stages.{HasPages, IsTaken}
+use Rattle.reclaim_worker.specs.inner.Standing.{AreInFrames, IsForm, is_kicked, pages_in}
+use Rattle.reclaim_worker.specs.inner.Tried.{count_from, is_kept_by}
+use Rattle.reclaim_worker.specs.inner.Turning.{IsFormTurn, IsThirdTurn, TurnSays, WithPage}
 use Rattle.reclaim_worker.proofs.KeepLaws.{bits_are, count_is}
 use Rattle.reclaim_worker.proofs.MoveDueLaws.{block_is_due, track_is_due, try_is_due}
 use Rattle.reclaim_worker.proofs.ScanLaws.{begin_is_due, scan_is_due}

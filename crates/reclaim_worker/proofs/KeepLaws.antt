@@ -6,27 +6,29 @@ use Rattle.paging_laws.proofs.ColumnLaws.{inside_is, noted_is}
 use Rattle.std.specs.List.{list_any}
 use Rattle.std.proofs.lemmas.Bool.{eqb-true}
 use Rattle.std.proofs.lemmas.List.{get_or_past}
-use Rattle.sgx_rules.specs.ByEpochs.{IsTrackedBlock, notes}
+use Rattle.sgx_rules.specs.inner.ByEpochs.{IsTrackedBlock, notes}
 use Rattle.sgx_rules.specs.declared.entries.Entry.{Entry}
 use Rattle.sgx_types.specs.declared.names.Page.{Page}
-use Rattle.sgx_rules.specs.Epochs.{epoch, noted}
+use Rattle.sgx_rules.specs.Epochs.{epoch}
+use Rattle.sgx_rules.specs.inner.Epochs.{noted}
 use Rattle.sgx_rules.specs.Frames.{content}
 use Rattle.sgx_rules.specs.Processors.{Stay, stay}
 use Rattle.sgx_rules.proofs.Contents.{page_enclave}
 use Rattle.cached_translations.specs.declared.processor.Mode.{Mode}
 use Rattle.cached_translations.specs.declared.processor.Mode.TheVariants as modes
-use Rattle.paging_machine.specs.Parts.{Parts, cpu_at, idle, noted_by, seat_of_mode, state_of}
-use Rattle.paging_laws.specs.Columns.{HasColumns, noted_inside}
-use Rattle.paging_laws.specs.Columns.{seat_of_stay}
-use Rattle.paging_laws.specs.State.{is_noting}
-use Rattle.driver_rules.specs.Passes.{keepers, noting_from, processors_noting}
-use Rattle.driver_laws.specs.Sound.{IsSound}
-use Rattle.driver_laws.specs.Tracks.{IsTracked}
+use Rattle.paging_machine.specs.inner.Parts.{Parts, cpu_at, idle, noted_by, seat_of_mode, state_of}
+use Rattle.paging_laws.specs.inner.Columns.{HasColumns, noted_inside}
+use Rattle.paging_laws.specs.inner.Columns.{seat_of_stay}
+use Rattle.paging_laws.specs.inner.State.{is_noting}
+use Rattle.driver_rules.specs.Passes.{keepers}
+use Rattle.driver_rules.specs.inner.Passes.{noting_from, processors_noting}
+use Rattle.driver_laws.specs.inner.Sound.{IsSound}
+use Rattle.driver_laws.specs.inner.Tracks.{IsTracked}
 use Rattle.driver_laws.proofs.EpochLaws.{block_epoch_before}
 use Rattle.driver_laws.proofs.KickLaws.{keepers_by_epochs}
 use Rattle.driver_laws.proofs.TrackLaws.{waiting_holds}
-use Rattle.reclaim_worker.specs.Answers.{bits_from, bits_of}
-use Rattle.reclaim_worker.specs.Tried.{count_from, is_kept_by}
+use Rattle.reclaim_worker.specs.inner.Answers.{bits_from, bits_of}
+use Rattle.reclaim_worker.specs.inner.Tried.{count_from, is_kept_by}
 
 -- ---- one processor
 

@@ -17,7 +17,7 @@ use Rattle.sgx_rules.specs.Epochs.{epoch, epoch_in}
 use Rattle.sgx_rules.specs.Eviction.{is_drained, kept_back}
 use Rattle.sgx_rules.specs.Frames.{is_blocked}
 use Rattle.sgx_rules.specs.Slots.{next_version}
-use Rattle.version_array.specs.Keeper.{Keeper}
+use Rattle.version_array.specs.inner.Keeper.{Keeper}
 use Rattle.sgx_types.specs.declared.names.TheConstants.{LAST_EPOCH}
 use Rattle.job_grammar.specs.Jobs.{JobView}
 use Rattle.turn_rules.specs.Script.{frame_at}
@@ -25,24 +25,25 @@ use Rattle.sgx_types.specs.Making.{Making}
 use Rattle.driver_rules.specs.Ages as ages
 use Rattle.driver_rules.specs.Ages.{head_of}
 use Rattle.sgx_types.specs.declared.names.Actor.TheVariants as actors
-use Rattle.driver_laws.specs.Agrees.{ShowsSlots}
-use Rattle.driver_rules.specs.Passes.{Between, Blocking, First, Form, Kicks, Pass, Scan, Sealing, Second, Third, ToKick, ToTrack, Tries}
+use Rattle.driver_laws.specs.inner.Agrees.{ShowsSlots}
+use Rattle.driver_rules.specs.Passes.{Between, Blocking, First, Form, Kicks, Pass, Scan, Sealing, Second, Third, ToKick, ToTrack}
+use Rattle.driver_rules.specs.Passes.{Tries}
 use Rattle.driver_rules.specs.Passes.{keepers}
 use Rattle.driver_rules.specs.Places.{Absent, Away, Here, Leaving, Loading, Place, active, frame_leaving, place}
-use Rattle.driver_laws.specs.Sound.{IsSound, slot_of}
-use Rattle.driver_laws.specs.Tracks.{IsTracked, KeepsTracks}
+use Rattle.driver_laws.specs.inner.Sound.{IsSound, slot_of}
+use Rattle.driver_laws.specs.inner.Tracks.{IsTracked, KeepsTracks}
 use Rattle.driver_laws.proofs.AgreeLaws.{kept_is_free}
 use Rattle.driver_laws.proofs.EpochLaws.{drained_then}
 use Rattle.reclaim_worker.specs.declared.turns.PassTurn.{PassTurn}
 use Rattle.reclaim_worker.specs.declared.turns.PassTurn.TheVariants as turns
 use Rattle.driver_rules.specs.Dues.{TriesOut}
-use Rattle.reclaim_worker.specs.Answers.{IsTurn, by_reclaimer, track_turn, try_turn}
-use Rattle.driver_rules.specs.Reclaims.{are_held, in_frame, leaving_due, look_at, look_due, pass_due, third_due}
+use Rattle.reclaim_worker.specs.inner.Answers.{IsTurn, by_reclaimer, track_turn, try_turn}
+use Rattle.driver_rules.specs.inner.Reclaims.{are_held, in_frame, leaving_due, look_at, look_due, pass_due, third_due}
 use Rattle.driver_rules.specs.Dues as dues
 use Rattle.driver_rules.specs.declared.waits.Why.TheVariants as waits
-use Rattle.reclaim_worker.specs.Kept.{TurnKeeps}
+use Rattle.reclaim_worker.specs.inner.Kept.{TurnKeeps}
 use Rattle.reclaim_worker.proofs.MoveDueLaws.{block_of}
-use Rattle.driver_laws.specs.Stages.{HasPages, IsTaken}
+use Rattle.driver_laws.specs.inner.Stages.{HasPages, IsTaken}
 
 module _ (made : Making) (j : JobView) (past : List Entry) (slots : Keeper) (turn : PassTurn) where
   -- a look, where a look is allowed

@@ -23,17 +23,17 @@ use Rattle.sgx_rules.specs.Table.{first_of_row}
 use Rattle.sgx_rules.specs.Sights.{drain_sight_at}
 use Rattle.sgx_types.specs.declared.names.TheConstants.{LAST_EPOCH}
 use Rattle.job_grammar.specs.Jobs.{JobView}
-use Rattle.paging_machine.specs.Parts.{Parts, state_of}
-use Rattle.paging_laws.specs.Columns.{HasColumns}
+use Rattle.paging_machine.specs.inner.Parts.{Parts, state_of}
+use Rattle.paging_laws.specs.inner.Columns.{HasColumns}
 use Rattle.sgx_types.specs.Making.{Making}
-use Rattle.paging_laws.specs.State.{making_of}
-use Rattle.paging_laws.specs.State.{State, is_version_spent, row_of, sight, slot_sight, drain_sight, track_sight}
-use Rattle.paging_laws.specs.Steps.{IsDone, IsStep, refused_by}
+use Rattle.paging_laws.specs.inner.State.{making_of}
+use Rattle.paging_laws.specs.inner.State.{State, is_version_spent, row_of, sight, slot_sight, drain_sight, track_sight}
+use Rattle.paging_laws.specs.inner.Steps.{IsDone, IsStep, refused_by}
 use Rattle.paging_laws.proofs.ShapeLaws.{older_agrees}
-use Rattle.driver_laws.specs.Agrees.{ShowsSlots}
+use Rattle.driver_laws.specs.inner.Agrees.{ShowsSlots}
 use Rattle.driver_rules.specs.Places.{Leaving, place}
-use Rattle.driver_laws.specs.Sound.{IsSound, is_absent, is_write_start}
-use Rattle.driver_laws.specs.Tracks.{IsCalm}
+use Rattle.driver_laws.specs.inner.Sound.{IsSound, is_absent, is_write_start}
+use Rattle.driver_laws.specs.inner.Tracks.{IsCalm}
 use Rattle.driver_laws.proofs.EpochLaws.{none_older}
 use Rattle.driver_tables.specs.declared.driver.Driver.{Driver}
 use Rattle.reclaim_worker.specs.declared.turns.Form.{Form}
@@ -41,12 +41,12 @@ use Rattle.reclaim_worker.specs.declared.turns.Phase.{Phase}
 use Rattle.reclaim_worker.specs.declared.turns.PassTurn.{PassTurn}
 use Rattle.reclaim_worker.specs.declared.turns.PassTurn.TheVariants as turns
 use Rattle.reclaim_worker.specs.declared.turns.Taken.{Taken}
-use Rattle.reclaim_worker.specs.Answers.{IsTurn, by_reclaimer, track_turn, try_turn}
+use Rattle.reclaim_worker.specs.inner.Answers.{IsTurn, by_reclaimer, track_turn, try_turn}
 use Rattle.driver_rules.specs.Dues.{Due, Makes, TriesOut}
-use Rattle.driver_rules.specs.Reclaims.{leaving_due}
-use Rattle.reclaim_worker.specs.Moves.{IsBlockTurn, IsTrackTurn, IsTryTurn, turn_of, turn_of_track}
-use Rattle.driver_laws.specs.Stages.{IsTaken}
-use Rattle.reclaim_worker.specs.Tried.{IsTried}
+use Rattle.driver_rules.specs.inner.Reclaims.{leaving_due}
+use Rattle.reclaim_worker.specs.inner.Moves.{IsBlockTurn, IsTrackTurn, IsTryTurn, turn_of, turn_of_track}
+use Rattle.driver_laws.specs.inner.Stages.{IsTaken}
+use Rattle.reclaim_worker.specs.inner.Tried.{IsTried}
 use Rattle.reclaim_worker.proofs.RowLaws.{KeepsBusy, SeesPage, block_allowed, blocked_same, drain_sees, sees_page, sees_slot}
 use Rattle.driver_steps.proofs.PartLaws.{seen_made, added_created}
 use Rattle.reclaim_worker.proofs.RowLaws.{track_allowed, try_refusal, try_row}

@@ -10,19 +10,21 @@ use Rattle.sgx_types.specs.declared.names.Page.{Page}
 use Rattle.sgx_types.specs.Making.{Making}
 use Rattle.sgx_rules.specs.Rules.{Along}
 use Rattle.job_grammar.specs.Jobs.{JobView}
-use Rattle.paging_machine.specs.Parts.{Parts}
+use Rattle.paging_machine.specs.inner.Parts.{Parts}
 use Rattle.driver_rules.specs.Ages.{AgeRule, PassOf}
-use Rattle.driver_rules.specs.Passes.{Between, Blocking, Form, Pass, Scan, Sealing, Third, ToKick, Tries, decided, keepers, free_count}
+use Rattle.driver_rules.specs.Passes.{Between, Blocking, Form, Pass, Scan, Sealing, Third, ToKick, Tries, decided, keepers}
+use Rattle.driver_rules.specs.Passes.{free_count}
 use Rattle.driver_rules.specs.Passes.{pass, pass_after}
-use Rattle.driver_rules.specs.Reclaims.{all_finished, due_with, pass_due, reclaimer_due}
-use Rattle.driver_rules.specs.Stops.{frame_started, is_spent, last_event}
+use Rattle.driver_rules.specs.inner.Reclaims.{all_finished, due_with, pass_due, reclaimer_due}
+use Rattle.driver_rules.specs.Stops.{is_spent}
+use Rattle.driver_rules.specs.inner.Stops.{frame_started, last_event}
 use Rattle.driver_tables.specs.declared.driver.Driver.{Driver}
 use Rattle.reclaim_worker.specs.declared.turns.Phase.{Phase}
 use Rattle.reclaim_worker.specs.declared.turns.Phase.TheVariants as phases
 use Rattle.reclaim_worker.specs.declared.turns.Form.TheVariants as code
 use Rattle.reclaim_worker.specs.declared.turns.Taken.{Taken}
-use Rattle.reclaim_worker.specs.Ready.{Ready}
-use Rattle.reclaim_worker.specs.Standing.{IsForm, StandsFor, is_sealing, pages_in}
+use Rattle.reclaim_worker.specs.inner.Ready.{Ready}
+use Rattle.reclaim_worker.specs.inner.Standing.{IsForm, StandsFor, is_sealing, pages_in}
 
 -- a write-out of a page has started
 abbrev pub IsOut : Pass → Type 0

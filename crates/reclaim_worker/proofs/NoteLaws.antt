@@ -15,12 +15,12 @@ use Rattle.driver_rules.specs.Passes as passes
 use Rattle.driver_rules.specs.Passes.{Pass, Scan, Tries, decided, keepers, keepers_behind, keepers_from, keepers_in}
 use Rattle.driver_rules.specs.Passes.{keeps_from}
 use Rattle.driver_rules.specs.Places.{Leaving, frame_leaving, place}
-use Rattle.driver_laws.specs.Kinds.{CanMove}
-use Rattle.driver_laws.specs.Sound.{IsSound, slot_at}
+use Rattle.driver_laws.specs.inner.Kinds.{CanMove}
+use Rattle.driver_laws.specs.inner.Sound.{IsSound, slot_at}
 use Rattle.sgx_rules.specs.Slots.{slot_of as slot_of_start}
 use Rattle.sgx_rules.specs.Starts.{open_start}
-use Rattle.driver_laws.specs.Stages.{touches}
-use Rattle.driver_laws.specs.Tracks.{IsCalm, IsTracked, KeepsTracks, is_reclaimers}
+use Rattle.driver_laws.specs.inner.Stages.{touches}
+use Rattle.driver_laws.specs.inner.Tracks.{IsCalm, IsTracked, KeepsTracks, is_reclaimers}
 use Rattle.driver_laws.proofs.EpochLaws.{drained_then}
 use Rattle.driver_laws.proofs.StillLaws.{still}
 use Rattle.driver_laws.proofs.TrackLaws.{calm_drained, calm_kept}
@@ -29,7 +29,7 @@ use Rattle.reclaim_worker.specs.declared.turns.Form.TheVariants as forms
 use Rattle.reclaim_worker.specs.declared.turns.Phase.{Phase}
 use Rattle.reclaim_worker.specs.declared.turns.Phase.TheVariants as phases
 use Rattle.reclaim_worker.specs.declared.turns.Taken.{Taken}
-use Rattle.reclaim_worker.specs.Standing.{AreInFrames, IsForm, StandsFor, noted_phase, pages_in}
+use Rattle.reclaim_worker.specs.inner.Standing.{AreInFrames, IsForm, StandsFor, noted_phase, pages_in}
 
 -- ---- whether it works
 

@@ -6,21 +6,21 @@ use Rattle.sgx_types.specs.declared.names.SlotAt.{SlotAt}
 use Rattle.sgx_types.specs.Making.{Making}
 use Rattle.sgx_rules.specs.Starts.{open_start}
 use Rattle.job_grammar.specs.Jobs.{JobView}
-use Rattle.active_list.specs.Places.{IsPlaced}
+use Rattle.active_list.specs.inner.Places.{IsPlaced}
 use Rattle.paging_laws.proofs.ColumnLaws.{sealing_is}
-use Rattle.paging_machine.specs.Parts.{Parts, state_of}
+use Rattle.paging_machine.specs.inner.Parts.{Parts, state_of}
 use Rattle.driver_rules.specs.Passes.{pass}
 use Rattle.driver_rules.specs.Places.{Leaving, place}
-use Rattle.driver_laws.specs.Sound.{is_absent, is_write_start}
-use Rattle.driver_laws.specs.Stages.{HasPages, IsGoing}
+use Rattle.driver_laws.specs.inner.Sound.{is_absent, is_write_start}
+use Rattle.driver_laws.specs.inner.Stages.{HasPages, IsGoing}
 use Rattle.driver_tables.specs.declared.driver.Driver.{Driver}
 use Rattle.reclaim_worker.specs.declared.turns.Phase.{Phase}
 use Rattle.reclaim_worker.specs.declared.turns.Phase.TheVariants as phases
 use Rattle.reclaim_worker.specs.declared.turns.Taken.{Taken}
 use Rattle.reclaim_worker.proofs.DueLaws.{drop_get}
-use Rattle.reclaim_worker.specs.Ready.{Ready}
-use Rattle.reclaim_worker.specs.Standing.{AreInFrames, IsWithSlot, is_sealing}
-use Rattle.reclaim_worker.specs.Stored.{IsOpen, IsStarted}
+use Rattle.reclaim_worker.specs.inner.Ready.{Ready}
+use Rattle.reclaim_worker.specs.inner.Standing.{AreInFrames, IsWithSlot, is_sealing}
+use Rattle.reclaim_worker.specs.inner.Stored.{IsOpen, IsStarted}
 
 -- what is known of it
 record IsOut (m : Parts) (d : Driver) (one : Taken) : Type 0 where

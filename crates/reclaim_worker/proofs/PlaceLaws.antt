@@ -5,11 +5,11 @@ use Rattle.std.proofs.Common.{min, nat_lt, slice_get, arith}
 use Rattle.std.specs.Option.{IsSomeAnd}
 use Rattle.std.proofs.lemmas.List.{length-append}
 use Rattle.std.proofs.lemmas.Option.{slice_get_within}
-use Rattle.epcm_entry.specs.Epc.{is_free_frame}
-use Rattle.active_list.specs.Places.{IsPlaced}
-use Rattle.paging_machine.specs.Parts.{cpu_at}
-use Rattle.reclaim_worker.specs.Moves.{IsBlockTurn}
-use Rattle.reclaim_worker.specs.Tried.{count_from, is_kept_by}
+use Rattle.epcm_entry.specs.inner.Epc.{is_free_frame}
+use Rattle.active_list.specs.inner.Places.{IsPlaced}
+use Rattle.paging_machine.specs.inner.Parts.{cpu_at}
+use Rattle.reclaim_worker.specs.inner.Moves.{IsBlockTurn}
+use Rattle.reclaim_worker.specs.inner.Tried.{count_from, is_kept_by}
 use Rattle.sgx_rules.specs.declared.entries.Action.TheVariants.{EwbStart}
 use Rattle.sgx_rules.specs.declared.entries.Event.{Event}
 use Rattle.sgx_rules.specs.declared.entries.Event.TheVariants.{Did, Refused}
@@ -17,10 +17,10 @@ use Rattle.sgx_rules.specs.declared.entries.Look.{Look}
 use Rattle.sgx_rules.specs.declared.entries.Look.TheVariants as looks
 use Rattle.sgx_types.specs.declared.names.Page.{Page}
 use Rattle.sgx_rules.specs.declared.refusals.Refusal.TheVariants as why
-use Rattle.active_list.specs.States.{state_of as page_state}
+use Rattle.active_list.specs.inner.States.{state_of as page_state}
 use Rattle.active_list.specs.declared.page_states.PageState.{PageState}
-use Rattle.paging_laws.specs.State.{State}
-use Rattle.paging_machine.specs.Parts.{Parts, state_of}
+use Rattle.paging_laws.specs.inner.State.{State}
+use Rattle.paging_machine.specs.inner.Parts.{Parts, state_of}
 use Rattle.driver_tables.specs.declared.driver.Driver.{Driver}
 use Rattle.reclaim_worker.specs.declared.turns.Form.{Form}
 use Rattle.reclaim_worker.specs.declared.turns.Form.TheVariants as forms
@@ -30,12 +30,12 @@ use Rattle.reclaim_worker.specs.declared.turns.PassTurn.{PassTurn}
 use Rattle.reclaim_worker.specs.declared.turns.PassTurn.TheVariants as turns
 use Rattle.reclaim_worker.specs.declared.turns.Taken.{Taken}
 use Rattle.driver_rules.specs.declared.waits.Why.TheVariants as waits
-use Rattle.reclaim_worker.specs.Asked.{look_in, look_told, places_by, places_with}
-use Rattle.reclaim_worker.specs.Moves.{IsTryTurn, after_block, after_track, after_try}
-use Rattle.reclaim_worker.specs.Rests.{IsWait}
-use Rattle.reclaim_worker.specs.Scans.{IsScanned, after_look, taken_with}
-use Rattle.reclaim_worker.specs.Stored.{IsStarted, after_page, next_phase, still_out, taken_in}
-use Rattle.reclaim_worker.specs.Turning.{IsFormTurn, TurnSays, WithPage}
+use Rattle.reclaim_worker.specs.inner.Asked.{look_in, look_told, places_by, places_with}
+use Rattle.reclaim_worker.specs.inner.Moves.{IsTryTurn, after_block, after_track, after_try}
+use Rattle.reclaim_worker.specs.inner.Rests.{IsWait}
+use Rattle.reclaim_worker.specs.inner.Scans.{IsScanned, after_look, taken_with}
+use Rattle.reclaim_worker.specs.inner.Stored.{IsStarted, after_page, next_phase, still_out, taken_in}
+use Rattle.reclaim_worker.specs.inner.Turning.{IsFormTurn, TurnSays, WithPage}
 
 -- a turn that waits leaves the pass as it was
 abbrev Stays : PassTurn → List Taken → List Taken → Phase → Phase → Type 0

@@ -5,33 +5,34 @@ use Rattle.std.proofs.Common.{is_some, nat_lt, leb, arith}
 use Rattle.paging_laws.proofs.ColumnLaws.{blocked_is, content_is, epoch_is, is_blocked_is, sealing_is, version_is}
 use Rattle.std.proofs.lemmas.Bool.{eq-eqb}
 use Rattle.sgx_rules.proofs.Keystone.{epochs_tell}
-use Rattle.sgx_rules.specs.ByEpochs.{up_to_block}
+use Rattle.sgx_rules.specs.inner.ByEpochs.{up_to_block}
 use Rattle.sgx_rules.specs.declared.entries.Entry.{Entry}
 use Rattle.sgx_types.specs.declared.names.Page.{Page}
 use Rattle.sgx_types.specs.declared.names.SlotAt.{SlotAt}
 use Rattle.sgx_rules.specs.declared.refusals.Refusal.{Refusal}
 use Rattle.sgx_rules.specs.declared.refusals.Refusal.TheVariants as why
-use Rattle.sgx_rules.specs.Epochs.{block_epoch, epoch, epoch_in, epoch_of}
+use Rattle.sgx_rules.specs.Epochs.{epoch, epoch_in, epoch_of}
+use Rattle.sgx_rules.specs.inner.Epochs.{block_epoch}
 use Rattle.sgx_rules.specs.Eviction.{kept_back}
 use Rattle.sgx_rules.specs.Frames.{content, enclave_in, is_blocked, is_free, is_page}
 use Rattle.sgx_rules.specs.Frames.{is_sealing}
 use Rattle.sgx_rules.specs.Table as table
 use Rattle.sgx_rules.specs.Table.{DrainSight, FrameSight, SlotSight, TrackSight, block_row, ewbstart_row, first_of_row, track_row}
-use Rattle.version_array.specs.Keeper.{Keeper, is_added, is_ours, is_out}
+use Rattle.version_array.specs.inner.Keeper.{Keeper, is_added, is_ours, is_out}
 use Rattle.sgx_rules.specs.Sights.{drain_sight_at}
 use Rattle.sgx_rules.proofs.Busy.{idle_free}
 use Rattle.sgx_rules.specs.Slots.{is_slot_busy}
 use Rattle.sgx_rules.proofs.Contents.{page_is_no_other, va_no_free}
 use Rattle.job_grammar.specs.Jobs.{JobView}
-use Rattle.paging_machine.specs.Parts.{Parts, state_of}
-use Rattle.paging_laws.specs.Columns.{HasColumns}
-use Rattle.paging_laws.specs.State.{State, drain_sight, number_up_to, sight, slot_sight}
+use Rattle.paging_machine.specs.inner.Parts.{Parts, state_of}
+use Rattle.paging_laws.specs.inner.Columns.{HasColumns}
+use Rattle.paging_laws.specs.inner.State.{State, drain_sight, number_up_to, sight, slot_sight}
 use Rattle.paging_laws.proofs.ColumnLaws.{is_blocked_is, content_is, blocked_is, sealing_is, epoch_is, version_is}
 use Rattle.paging_laws.proofs.ShapeLaws.{drained_by, noting_agrees}
 use Rattle.driver_steps.proofs.PartLaws.{held_within}
-use Rattle.driver_laws.specs.Agrees.{ShowsSlots}
+use Rattle.driver_laws.specs.inner.Agrees.{ShowsSlots}
 use Rattle.driver_rules.specs.Places.{Leaving, place}
-use Rattle.driver_laws.specs.Sound.{IsSound, stands_in}
+use Rattle.driver_laws.specs.inner.Sound.{IsSound, stands_in}
 
 -- ---- what a row sees
 

@@ -6,9 +6,9 @@ use Rattle.std.specs.List.{list_all}
 use Rattle.sgx_rules.specs.declared.entries.Entry.{Entry}
 use Rattle.sgx_types.specs.declared.names.Page.{Page}
 use Rattle.job_grammar.specs.Jobs.{JobView}
-use Rattle.active_list.specs.Active.{are_held}
-use Rattle.active_list.specs.Holds.{is_held as is_held_by}
-use Rattle.active_list.specs.Ring.{pages_of}
+use Rattle.active_list.specs.inner.Active.{are_held}
+use Rattle.active_list.specs.inner.Holds.{is_held as is_held_by}
+use Rattle.active_list.specs.inner.Ring.{pages_of}
 use Rattle.sgx_types.specs.Making.{Making}
 use Rattle.driver_rules.specs.Ages.{head_of}
 use Rattle.driver_rules.specs.Dues.{is_look}
@@ -19,12 +19,12 @@ use Rattle.driver_tables.specs.declared.driver.Driver.{Driver}
 use Rattle.reclaim_worker.specs.declared.turns.PassTurn.{PassTurn}
 use Rattle.reclaim_worker.specs.declared.turns.Phase.{Phase}
 use Rattle.reclaim_worker.specs.declared.turns.Taken.{Taken}
-use Rattle.reclaim_worker.specs.Answers.{IsTurn}
-use Rattle.driver_rules.specs.Reclaims as reclaims
-use Rattle.driver_rules.specs.Reclaims.{look_at, look_due, pass_due}
-use Rattle.reclaim_worker.specs.Scans.{IsBegun, IsScanned}
-use Rattle.driver_laws.specs.Stages.{HasPages, IsScanning}
-use Rattle.reclaim_worker.specs.Tables.{Shows}
+use Rattle.reclaim_worker.specs.inner.Answers.{IsTurn}
+use Rattle.driver_rules.specs.inner.Reclaims as reclaims
+use Rattle.driver_rules.specs.inner.Reclaims.{look_at, look_due, pass_due}
+use Rattle.reclaim_worker.specs.inner.Scans.{IsBegun, IsScanned}
+use Rattle.driver_laws.specs.inner.Stages.{HasPages, IsScanning}
+use Rattle.reclaim_worker.specs.inner.Tables.{Shows}
 use Rattle.driver_tables.proofs.ListLaws.{head_marks, heads, pages_are}
 
 -- ---- a look

@@ -21,31 +21,31 @@ use Rattle.sgx_rules.specs.Eviction.{is_drained}
 use Rattle.sgx_rules.specs.Starts.{open_start}
 use Rattle.job_grammar.specs.Jobs.{JobView}
 use Rattle.turn_rules.specs.Script.{frame_at}
-use Rattle.active_list.specs.Holds.{is_held as is_held_by}
-use Rattle.paging_machine.specs.Parts.{Parts, state_of}
+use Rattle.active_list.specs.inner.Holds.{is_held as is_held_by}
+use Rattle.paging_machine.specs.inner.Parts.{Parts, state_of}
 use Rattle.sgx_types.specs.Making.{Making}
-use Rattle.version_array.specs.Keeper.{Keeper, Takes}
+use Rattle.version_array.specs.inner.Keeper.{Keeper, Takes}
 use Rattle.driver_rules.specs.Ages.{head_of}
 use Rattle.driver_rules.specs.Holds.{is_held, is_held_below}
 use Rattle.driver_rules.specs.Passes as passes
 use Rattle.driver_rules.specs.Passes.{Blocking, Tries, pass}
 use Rattle.driver_rules.specs.Places.{Here, Leaving, active, place}
-use Rattle.driver_laws.specs.Kinds.{is_quiet}
-use Rattle.driver_laws.specs.Agrees.{ShowsSlots, loaded_by}
+use Rattle.driver_laws.specs.inner.Kinds.{is_quiet}
+use Rattle.driver_laws.specs.inner.Agrees.{ShowsSlots, loaded_by}
 use Rattle.driver_rules.specs.Turns.{last_of}
-use Rattle.active_list.specs.Keeping.{kept_at, page_kept}
-use Rattle.driver_laws.specs.Sound.{IsSound}
-use Rattle.driver_laws.specs.Stages.{HasPages, IsTaken}
-use Rattle.driver_laws.specs.Tracks.{KeepsTracks}
+use Rattle.active_list.specs.inner.Keeping.{kept_at, page_kept}
+use Rattle.driver_laws.specs.inner.Sound.{IsSound}
+use Rattle.driver_laws.specs.inner.Stages.{HasPages, IsTaken}
+use Rattle.driver_laws.specs.inner.Tracks.{KeepsTracks}
 use Rattle.driver_laws.proofs.AgreeLaws.{is_slotless, shows_quiet}
 use Rattle.driver_laws.proofs.SoundLaws.{head_here}
 use Rattle.driver_tables.specs.declared.driver.Driver.{Driver}
-use Rattle.driver_tables.specs.Moves.{IsLooked}
-use Rattle.driver_tables.specs.Tables.{ShowsTables, listed}
+use Rattle.driver_tables.specs.inner.Moves.{IsLooked}
+use Rattle.driver_tables.specs.inner.Tables.{ShowsTables, listed}
 use Rattle.driver_tables.proofs.ShowLaws.{shows_looked, shows_quiet_entry, shows_started, shows_still}
 use Rattle.driver_tables.proofs.ListLaws.{heads}
 use Rattle.driver_laws.proofs.MarkLaws.{is_markless, listed-quiet}
-use Rattle.driver_laws.specs.Sound.{is_absent}
+use Rattle.driver_laws.specs.inner.Sound.{is_absent}
 use Rattle.reclaim_worker.specs.declared.turns.Form.{Form}
 use Rattle.reclaim_worker.specs.declared.turns.Form.TheVariants as forms
 use Rattle.reclaim_worker.specs.declared.turns.Phase.{Phase}
@@ -53,20 +53,21 @@ use Rattle.reclaim_worker.specs.declared.turns.Phase.TheVariants as phases
 use Rattle.reclaim_worker.specs.declared.turns.PassTurn.{PassTurn}
 use Rattle.reclaim_worker.specs.declared.turns.PassTurn.TheVariants as turns
 use Rattle.reclaim_worker.specs.declared.turns.Taken.{Taken}
-use Rattle.reclaim_worker.specs.After.{cpu_of, kicked_past}
-use Rattle.reclaim_worker.specs.Answers.{IsTurn, by_reclaimer}
-use Rattle.reclaim_worker.specs.Moves.{IsBlockTurn, IsTryTurn, turn_of, turn_of_track}
-use Rattle.reclaim_worker.specs.Ready.{Ready}
-use Rattle.reclaim_worker.specs.Rests.{DriverSays, IsWait}
-use Rattle.reclaim_worker.specs.Scans.{IsScan, IsScanned}
-use Rattle.reclaim_worker.specs.Shown.{ShowsAfter}
-use Rattle.reclaim_worker.specs.Standing.{AreInFrames, IsForm, pages_in}
-use Rattle.reclaim_worker.specs.Tables.{Shows}
-use Rattle.reclaim_worker.specs.Tried.{IsSame, SlotsAfter}
-use Rattle.driver_rules.specs.Reclaims.{is_refused}
-use Rattle.reclaim_worker.specs.Turning.{IsFormTurn, IsThirdTurn, TurnSays}
+use Rattle.reclaim_worker.specs.inner.After.{cpu_of, kicked_past}
+use Rattle.reclaim_worker.specs.inner.Answers.{IsTurn, by_reclaimer}
+use Rattle.reclaim_worker.specs.inner.Moves.{IsBlockTurn, IsTryTurn, turn_of, turn_of_track}
+use Rattle.reclaim_worker.specs.inner.Ready.{Ready}
+use Rattle.reclaim_worker.specs.inner.Rests.{DriverSays, IsWait}
+use Rattle.reclaim_worker.specs.inner.Scans.{IsScan, IsScanned}
+use Rattle.reclaim_worker.specs.inner.Shown.{ShowsAfter}
+use Rattle.reclaim_worker.specs.inner.Standing.{AreInFrames, IsForm, pages_in}
+use Rattle.reclaim_worker.specs.inner.Tables.{Shows}
+use Rattle.reclaim_worker.specs.inner.Tried.{IsSame, SlotsAfter}
+use Rattle.driver_rules.specs.inner.Reclaims.{is_refused}
+use Rattle.reclaim_worker.specs.inner.Turning.{IsFormTurn, IsThirdTurn, TurnSays}
 use Rattle.reclaim_worker.proofs.DueLaws.{drop_get, frames_behind, with_page}
-use Rattle.reclaim_worker.proofs.MoveDueLaws.{block_is_due, block_of, due_there, refused_entry, same_frame, spent_entry, started_entry}
+use Rattle.reclaim_worker.proofs.MoveDueLaws.{block_is_due, block_of, due_there, refused_entry, same_frame, spent_entry}
+use Rattle.reclaim_worker.proofs.MoveDueLaws.{started_entry}
 use Rattle.reclaim_worker.proofs.MoveDueLaws.{track_entry, try_entry}
 
 -- ---- in general

@@ -12,11 +12,11 @@ use Rattle.job_grammar.specs.Jobs.{JobView}
 use Rattle.job_grammar.specs.declared.jobs.Marks.{Marks}
 use Rattle.driver_rules.specs.declared.waits.Why.{Why}
 use Rattle.turn_rules.specs.Script.{frame_at}
-use Rattle.paging_machine.specs.Parts.{Parts, cpu_at, state_of}
+use Rattle.paging_machine.specs.inner.Parts.{Parts, cpu_at, state_of}
 use Rattle.sgx_types.specs.Making.{Making}
 use Rattle.driver_rules.specs.Passes as passes
 use Rattle.driver_rules.specs.Passes.{Between, Blocking, Pass, Scan, Tries, keepers, pass, scan_on, taken_by}
-use Rattle.driver_laws.specs.Tracks.{IsTracked, KeepsTracks}
+use Rattle.driver_laws.specs.inner.Tracks.{IsTracked, KeepsTracks}
 use Rattle.std.proofs.lemmas.Bool.{eq-eqb}
 use Rattle.sgx_types.specs.declared.names.SlotAt.{SlotAt}
 use Rattle.sgx_rules.specs.declared.refusals.Refusal.TheVariants as why
@@ -26,7 +26,7 @@ use Rattle.reclaim_worker.specs.declared.turns.Form.{Form}
 use Rattle.reclaim_worker.specs.declared.turns.Form.TheVariants as forms
 use Rattle.driver_rules.specs.Places.{Leaving, active, place}
 use Rattle.driver_rules.specs.Dues.{Due, KicksAll}
-use Rattle.reclaim_worker.specs.After.{StandsAfter, kicked_past}
+use Rattle.reclaim_worker.specs.inner.After.{StandsAfter, kicked_past}
 use Rattle.driver_tables.specs.declared.driver.Driver.{Driver}
 use Rattle.driver_tables.proofs.ListLaws.{lengths}
 use Rattle.reclaim_worker.specs.declared.turns.Phase.{Phase}
@@ -34,17 +34,19 @@ use Rattle.reclaim_worker.specs.declared.turns.Phase.TheVariants as phases
 use Rattle.reclaim_worker.specs.declared.turns.PassTurn.{PassTurn}
 use Rattle.reclaim_worker.specs.declared.turns.PassTurn.TheVariants as turns
 use Rattle.reclaim_worker.specs.declared.turns.Taken.{Taken}
-use Rattle.reclaim_worker.specs.Answers.{IsTurn, by_reclaimer}
-use Rattle.reclaim_worker.specs.Moves.{IsBlockTurn, IsTryTurn, after_block, after_track, after_try, turn_of, turn_of_track}
-use Rattle.reclaim_worker.specs.Tried.{count_from, is_kept_by}
-use Rattle.reclaim_worker.specs.Ready.{Ready}
-use Rattle.reclaim_worker.specs.Scans.{IsScanned}
-use Rattle.driver_laws.specs.Stages.{HasPages, IsTaken}
-use Rattle.reclaim_worker.specs.Standing.{AreInFrames, IsForm, StandsFor, pages_in}
-use Rattle.reclaim_worker.specs.Turning.{IsFormTurn, IsThirdTurn, TurnSays}
-use Rattle.reclaim_worker.proofs.AfterLaws.{kicks_after, again_after, block_after, look_after, refused_after, started_after, track_after}
+use Rattle.reclaim_worker.specs.inner.Answers.{IsTurn, by_reclaimer}
+use Rattle.reclaim_worker.specs.inner.Moves.{IsBlockTurn, IsTryTurn, after_block, after_track, after_try, turn_of, turn_of_track}
+use Rattle.reclaim_worker.specs.inner.Tried.{count_from, is_kept_by}
+use Rattle.reclaim_worker.specs.inner.Ready.{Ready}
+use Rattle.reclaim_worker.specs.inner.Scans.{IsScanned}
+use Rattle.driver_laws.specs.inner.Stages.{HasPages, IsTaken}
+use Rattle.reclaim_worker.specs.inner.Standing.{AreInFrames, IsForm, StandsFor, pages_in}
+use Rattle.reclaim_worker.specs.inner.Turning.{IsFormTurn, IsThirdTurn, TurnSays}
+use Rattle.reclaim_worker.proofs.AfterLaws.{kicks_after, again_after, block_after, look_after, refused_after, started_after}
+use Rattle.reclaim_worker.proofs.AfterLaws.{track_after}
 use Rattle.reclaim_worker.proofs.DueLaws.{drop_get, frames_behind, with_page}
-use Rattle.reclaim_worker.proofs.MoveDueLaws.{block_of, block_is_due, due_there, refused_entry, spent_entry, started_entry, track_entry}
+use Rattle.reclaim_worker.proofs.MoveDueLaws.{block_of, block_is_due, due_there, refused_entry, spent_entry, started_entry}
+use Rattle.reclaim_worker.proofs.MoveDueLaws.{track_entry}
 use Rattle.reclaim_worker.proofs.MoveDueLaws.{try_entry}
 use Rattle.reclaim_worker.proofs.KeepLaws.{count_is}
 use Rattle.reclaim_worker.proofs.KeptLaws.{never}

@@ -19,32 +19,32 @@ use Rattle.sgx_types.specs.Making.{Making}
 use Rattle.sgx_rules.proofs.Busy.{IsBareOf}
 use Rattle.job_grammar.specs.Jobs.{JobView}
 use Rattle.backing_store.specs.Calls.{Call}
-use Rattle.paging_laws.specs.Columns.{HasColumns}
+use Rattle.paging_laws.specs.inner.Columns.{HasColumns}
 use Rattle.paging_laws.proofs.ColumnLaws.{content_is}
 use Rattle.paging_laws.proofs.SlotLaws.{started_as}
-use Rattle.paging_machine.specs.Parts.{Parts, state_of}
+use Rattle.paging_machine.specs.inner.Parts.{Parts, state_of}
 use Rattle.driver_rules.specs.Dues.{IsNext}
 use Rattle.driver_rules.specs.Passes.{First, Sealing, Tries, next_tries, pass, pass_by}
 use Rattle.driver_rules.specs.Places.{Away, Leaving, place}
-use Rattle.driver_rules.specs.Reclaims.{pass_due}
-use Rattle.driver_laws.specs.Kinds.{CanMove}
-use Rattle.driver_laws.specs.Sound.{is_absent, slot_at}
-use Rattle.driver_laws.specs.Stages.{HasPages}
+use Rattle.driver_rules.specs.inner.Reclaims.{pass_due}
+use Rattle.driver_laws.specs.inner.Kinds.{CanMove}
+use Rattle.driver_laws.specs.inner.Sound.{is_absent, slot_at}
+use Rattle.driver_laws.specs.inner.Stages.{HasPages}
 use Rattle.driver_rules.specs.Holds.{is_among}
 use Rattle.driver_laws.proofs.StillLaws.{frames_apart, holds_here, still}
 use Rattle.driver_tables.specs.declared.driver.Driver.{Driver}
-use Rattle.driver_tables.specs.Tables.{place_in}
+use Rattle.driver_tables.specs.inner.Tables.{place_in}
 use Rattle.driver_tables.proofs.ShowLaws.{shows_gone}
 use Rattle.reclaim_worker.specs.declared.turns.Phase.{Phase}
 use Rattle.reclaim_worker.specs.declared.turns.Phase.TheVariants as phases
 use Rattle.reclaim_worker.specs.declared.turns.Taken.{Taken}
-use Rattle.reclaim_worker.specs.Answers.{by_reclaimer}
-use Rattle.reclaim_worker.specs.Ended.{IsEnded}
-use Rattle.reclaim_worker.specs.Kept.{Keeps}
-use Rattle.reclaim_worker.specs.Ready.{Ready}
-use Rattle.reclaim_worker.specs.Standing.{AreInFrames, StandsFor, pages_in}
-use Rattle.reclaim_worker.specs.Stored.{IsStored, StoredSays, after_page, gone, next_phase, taken_in}
-use Rattle.reclaim_worker.specs.Tables.{Shows}
+use Rattle.reclaim_worker.specs.inner.Answers.{by_reclaimer}
+use Rattle.reclaim_worker.specs.inner.Ended.{IsEnded}
+use Rattle.reclaim_worker.specs.inner.Kept.{Keeps}
+use Rattle.reclaim_worker.specs.inner.Ready.{Ready}
+use Rattle.reclaim_worker.specs.inner.Standing.{AreInFrames, StandsFor, pages_in}
+use Rattle.reclaim_worker.specs.inner.Stored.{IsStored, StoredSays, after_page, gone, next_phase, taken_in}
+use Rattle.reclaim_worker.specs.inner.Tables.{Shows}
 use Rattle.reclaim_worker.proofs.AfterLaws.{ahead_length, behind_length, drop_next}
 use Rattle.reclaim_worker.proofs.DueLaws.{drop_get}
 use Rattle.reclaim_worker.proofs.ShownLaws.{with_held}

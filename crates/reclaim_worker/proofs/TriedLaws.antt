@@ -3,8 +3,8 @@ use Rattle.std.proofs.Common.{◌≡◌, arith, ◌==◌, ◌&&◌, ◌||◌, no
 use Rattle.std.proofs.lemmas.Bool.{eqb-true, false≢true}
 use Rattle.sgx_types.specs.declared.names.SlotAt.{SlotAt}
 use Rattle.sgx_types.specs.Pages.{same_slot}
-use Rattle.version_array.specs.Keeper.{Gives, Keeper, Takes, is_out}
-use Rattle.reclaim_worker.specs.Tried.{IsSame, SlotsAfter}
+use Rattle.version_array.specs.inner.Keeper.{Gives, Keeper, Takes, is_out}
+use Rattle.reclaim_worker.specs.inner.Tried.{IsSame, SlotsAfter}
 
 both : (a b : Bool) → (a && b) ≡ true → (a ≡ true) × (b ≡ true)
 both true b h = (refl, h)

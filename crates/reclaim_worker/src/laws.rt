@@ -1,22 +1,22 @@
 //! When a pass is ready for a turn. A law is the contract of a function without arguments.
 
 ghost use Rattle.std.specs.Prelude.{ℕ, ◌≡◌, Bool, true, false, List};
-ghost use Rattle.active_list.specs.Holds.{is_held as is_held_by};
+ghost use Rattle.active_list.specs.inner.Holds.{is_held as is_held_by};
 ghost use Rattle.driver_rules.specs.Holds.{is_held};
 ghost use Rattle.driver_rules.specs.Ages.{AgeRule};
-ghost use Rattle.driver_rules.specs.Reclaims.{all_finished, pass_due, reclaimer_due};
+ghost use Rattle.driver_rules.specs.inner.Reclaims.{all_finished, pass_due, reclaimer_due};
 ghost use Rattle.driver_rules.specs.Stops.{is_spent};
 ghost use Rattle.sgx_rules.specs.Rules.{Along};
 ghost use Rattle.driver_rules.specs.Passes.{pass};
 ghost use Rattle.driver_rules.specs.Places.{Leaving, place};
-ghost use Rattle.driver_steps.specs.Agrees.{Agrees};
-ghost use Rattle.version_array.specs.Keeper.{AllOut};
+ghost use Rattle.driver_steps.specs.inner.Agrees.{Agrees};
+ghost use Rattle.version_array.specs.inner.Keeper.{AllOut};
 ghost use Rattle.driver_tables.specs.declared.driver.Driver.{Driver};
 ghost use Rattle.job_grammar.specs.Jobs.{JobView};
-ghost use Rattle.paging_machine.specs.Parts.{Parts, state_of};
-ghost use Rattle.reclaim_worker.specs.Ready.{Ready};
-ghost use Rattle.reclaim_worker.specs.Standing.{StandsFor, is_sealing};
-ghost use Rattle.reclaim_worker.specs.Stored.{IsOpen, IsStarted};
+ghost use Rattle.paging_machine.specs.inner.Parts.{Parts, state_of};
+ghost use Rattle.reclaim_worker.specs.inner.Ready.{Ready};
+ghost use Rattle.reclaim_worker.specs.inner.Standing.{StandsFor, is_sealing};
+ghost use Rattle.reclaim_worker.specs.inner.Stored.{IsOpen, IsStarted};
 ghost use Rattle.reclaim_worker.specs.declared.turns.Phase.{Phase};
 ghost use Rattle.reclaim_worker.specs.declared.turns.Taken.{Taken};
 ghost use Rattle.sgx_types.specs.Making.{Making};

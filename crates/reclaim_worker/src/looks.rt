@@ -2,14 +2,14 @@
 
 ghost use Rattle.std.specs.Prelude.{◌≡◌, true, IfOk, OnErr, Some};
 ghost use Rattle.std.specs.Result.{IsOkAnd};
-ghost use Rattle.io_edges.specs.Faults.{HasCause};
-ghost use Rattle.active_list.specs.Places.{IsPlaced};
-ghost use Rattle.active_list.specs.Listing.{head_of, is_young};
-ghost use Rattle.active_list.specs.Holds.{is_held};
+ghost use Rattle.io_edges.specs.inner.Faults.{HasCause};
+ghost use Rattle.active_list.specs.inner.Places.{IsPlaced};
+ghost use Rattle.active_list.specs.inner.Listing.{head_of, is_young};
+ghost use Rattle.active_list.specs.inner.Holds.{is_held};
 ghost use Rattle.driver_rules.specs.Dues.{is_look};
-ghost use Rattle.driver_tables.specs.Moves.{IsLooked};
-ghost use Rattle.reclaim_worker.specs.Asked.{IsNoRoom, places_with};
-ghost use Rattle.reclaim_worker.specs.Looked.{told_look};
+ghost use Rattle.driver_tables.specs.inner.Moves.{IsLooked};
+ghost use Rattle.reclaim_worker.specs.inner.Asked.{IsNoRoom, places_with};
+ghost use Rattle.reclaim_worker.specs.inner.Looked.{told_look};
 
 use backing_store::backing::{Backing, StoreFault};
 use driver_tables::driver::Driver;

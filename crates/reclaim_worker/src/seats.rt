@@ -1,9 +1,9 @@
 //! Which processors keep a page back.
 
 ghost use Rattle.std.specs.Prelude.{◌≡◌, ◌<◌, ◌≤◌, length};
-ghost use Rattle.paging_machine.specs.Parts.{cpu_at};
-ghost use Rattle.reclaim_worker.specs.Answers.{bits_from};
-ghost use Rattle.reclaim_worker.specs.Tried.{count_from, is_kept_by};
+ghost use Rattle.paging_machine.specs.inner.Parts.{cpu_at};
+ghost use Rattle.reclaim_worker.specs.inner.Answers.{bits_from};
+ghost use Rattle.reclaim_worker.specs.inner.Tried.{count_from, is_kept_by};
 
 use crate::tries::keeps_back;
 use paging_machine::machine::Machine;

@@ -1,16 +1,17 @@
 //! The end of a write-out.
 
 ghost use Rattle.std.specs.Prelude.{◌≡◌, ◌∷◌, ◌≤◌, ◌<◌, ◌+◌, List, length, true};
-ghost use Rattle.active_list.specs.Places.{IsPlaced};
-ghost use Rattle.paging_machine.specs.Parts.{state_of};
+ghost use Rattle.active_list.specs.inner.Places.{IsPlaced};
+ghost use Rattle.paging_machine.specs.inner.Parts.{state_of};
 ghost use Rattle.sgx_rules.specs.declared.entries.Entry.{Entry};
 ghost use Rattle.sgx_types.specs.Making.{Making};
 ghost use Rattle.job_grammar.specs.Jobs.{JobView};
-ghost use Rattle.paging_laws.specs.Shape.{FitsApart, ShapeWithRules};
-ghost use Rattle.reclaim_worker.specs.Ended.{IsEnded};
-ghost use Rattle.reclaim_worker.specs.Ready.{Ready};
-ghost use Rattle.reclaim_worker.specs.Stored.{frame_sealing, IsOpen, IsToSeal, IsStarted, IsStored, StoredSays, after_page, gone};
-ghost use Rattle.reclaim_worker.specs.Stored.{next_phase, still_out, taken_in};
+ghost use Rattle.paging_laws.specs.inner.Shape.{FitsApart, ShapeWithRules};
+ghost use Rattle.reclaim_worker.specs.inner.Ended.{IsEnded};
+ghost use Rattle.reclaim_worker.specs.inner.Ready.{Ready};
+ghost use Rattle.reclaim_worker.specs.inner.Stored.{frame_sealing, IsOpen, IsToSeal, IsStarted, IsStored, StoredSays, after_page};
+ghost use Rattle.reclaim_worker.specs.inner.Stored.{gone};
+ghost use Rattle.reclaim_worker.specs.inner.Stored.{next_phase, still_out, taken_in};
 
 use crate::passes::Pass;
 use crate::turns::{Form, Phase, Taken};

@@ -4,11 +4,11 @@ ghost use Rattle.std.specs.Prelude.{◌≡◌, ◌∷◌, ◌≤◌, ◌<◌, fa
 ghost use Rattle.sgx_types.specs.declared.names.Actor.TheVariants as actors;
 ghost use Rattle.sgx_rules.specs.declared.entries.Action.TheVariants as actions;
 ghost use Rattle.sgx_rules.specs.declared.entries.Entry.{Entry};
-ghost use Rattle.version_array.specs.Keeper.{AllOut};
-ghost use Rattle.paging_machine.specs.Parts.{cpu_at, state_of};
-ghost use Rattle.driver_steps.specs.Carried.{Carries};
-ghost use Rattle.reclaim_worker.specs.Tried.{IsTried, is_kept_by};
-ghost use Rattle.driver_rules.specs.Reclaims.{is_refused};
+ghost use Rattle.version_array.specs.inner.Keeper.{AllOut};
+ghost use Rattle.paging_machine.specs.inner.Parts.{cpu_at, state_of};
+ghost use Rattle.driver_steps.specs.inner.Carried.{Carries};
+ghost use Rattle.reclaim_worker.specs.inner.Tried.{IsTried, is_kept_by};
+ghost use Rattle.driver_rules.specs.inner.Reclaims.{is_refused};
 
 use cached_translations::processor::Mode;
 use driver_steps::steps::{is_refused, step};

@@ -1,7 +1,7 @@
 -- When nothing is left to the processors.
 use Rattle.std.proofs.Common.{◌≡◌, ℕ, ◌+◌, ◌<◌, ◌==◌, Bool, true, false, arith, refl, sym, subst, ◌∙◌}
-use Rattle.machine_book.specs.Views.{BookView}
-use Rattle.rounds.specs.Rests.{CpuRests, CpusRest}
+use Rattle.machine_book.specs.inner.Views.{BookView}
+use Rattle.rounds.specs.inner.Rests.{CpuRests, CpusRest}
 
 -- one processor more
 rest_more : (b : BookView) (n : ℕ) → CpusRest b n → CpuRests b n → CpusRest b (n + 1)

@@ -1,2 +1,1 @@
-pub use Rattle.machine_book.specs.Views
-pub mod Rests
+pub mod inner

@@ -1,7 +1,7 @@
 //! A run of a book on one thread.
 
 ghost use Rattle.driver_rules.specs.Scripts.{IsEnded};
-ghost use Rattle.rounds.specs.Rests.{CpusRest, IsSameRun};
+ghost use Rattle.rounds.specs.inner.Rests.{CpusRest, IsSameRun};
 ghost use Rattle.std.specs.Prelude.{◌≡◌, OnOk, IfOk, false, length, true};
 
 use crate::turns::{build, reclaim, run_cpu};

@@ -1,6 +1,6 @@
 //! A turn of each actor, with its work done and committed at once.
 
-ghost use Rattle.rounds.specs.Rests.{BuilderRests, CpuRests, IsSameRun};
+ghost use Rattle.rounds.specs.inner.Rests.{BuilderRests, CpuRests, IsSameRun};
 ghost use Rattle.std.specs.Prelude.{◌≡◌, ◌<◌, IfOk, false, length, true};
 
 use backing_store::backing::Backing;

@@ -5,26 +5,27 @@ use Rattle.sgx_types.specs.declared.names.Page.{Page}
 use Rattle.sgx_types.specs.Making.{Making}
 use Rattle.job_grammar.specs.Jobs.{JobView}
 use Rattle.backing_store.specs.Calls.{Call}
-use Rattle.paging_laws.specs.Histories.{StandsWithAllRules}
-use Rattle.paging_machine.specs.Parts.{Parts, state_of}
-use Rattle.driver_laws.specs.Three.{TcsAreApart}
+use Rattle.paging_laws.specs.inner.Histories.{StandsWithAllRules}
+use Rattle.paging_machine.specs.inner.Parts.{Parts, state_of}
+use Rattle.driver_laws.specs.inner.Three.{TcsAreApart}
 use Rattle.driver_laws.proofs.EndLaws.{their_rule}
 use Rattle.driver_laws.proofs.TcsLaws.{apart_stay}
 use Rattle.driver_tables.specs.declared.driver.Driver.{Driver}
 use Rattle.driver_steps.proofs.AgreesLaws.{agrees_more}
-use Rattle.driver_steps.specs.Agrees.{Agrees}
-use Rattle.driver_tables.specs.Tables.{ShowsTables}
+use Rattle.driver_steps.specs.inner.Agrees.{Agrees}
+use Rattle.driver_tables.specs.inner.Tables.{ShowsTables}
 use Rattle.turn_tables.specs.declared.turns.Turns.{Turns}
-use Rattle.turn_tables.specs.Holding.{KeepsHolds}
-use Rattle.turn_tables.specs.Shown.{ShowsTurns}
+use Rattle.turn_tables.specs.inner.Holding.{KeepsHolds}
+use Rattle.turn_tables.specs.inner.Shown.{ShowsTurns}
 use Rattle.turn_tables.proofs.OrderLaws.{orderly_more}
 use Rattle.run_history.specs.Given.{UnforgedRun, made_in}
 use Rattle.run_history.proofs.RunLaws.{unforged_before}
-use Rattle.book_laws.specs.Stores.{TellsStore}
+use Rattle.book_laws.specs.inner.Stores.{TellsStore}
 use Rattle.book_laws.proofs.StoreLaws.{tells_more}
-use Rattle.run_book.specs.Books.{IsMade, KeepsBook, KeepsBytes, KeepsHonest, with_own}
+use Rattle.run_book.specs.inner.Books.{IsMade, KeepsBook, KeepsBytes, KeepsHonest, with_own}
 use Rattle.run_history.specs.Calls.{CallsAre}
-use Rattle.run_history.specs.Honest.{GiftsAreLast, IsHonest}
+use Rattle.run_history.specs.Honest.{IsHonest}
+use Rattle.run_history.specs.inner.Honest.{GiftsAreLast}
 use Rattle.run_history.proofs.HonestLaws.{gifts_more, honest_before}
 
 -- ---- holds change nothing else of the tables

@@ -12,48 +12,49 @@ use Rattle.sgx_types.specs.declared.names.Page.{Page}
 use Rattle.sgx_rules.specs.declared.refusals.Refusal.{Refusal}
 use Rattle.sgx_types.specs.Making.{Making}
 use Rattle.sgx_types.specs.Sealed.{Sealed}
-use Rattle.sgx_rules.specs.Starts.{Start, open_start, BareStart}
+use Rattle.sgx_rules.specs.Starts.{Start, open_start}
+use Rattle.sgx_rules.specs.inner.Starts.{BareStart}
 use Rattle.sgx_rules.specs.Table.{first_of_row}
 use Rattle.job_grammar.specs.Jobs.{JobView}
 use Rattle.backing_store.specs.Calls.{Call}
-use Rattle.paging_laws.specs.State.{State}
-use Rattle.paging_laws.specs.Steps.{IsReloaded, commit_row, did_by, refused_by}
+use Rattle.paging_laws.specs.inner.State.{State}
+use Rattle.paging_laws.specs.inner.Steps.{IsReloaded, commit_row, did_by, refused_by}
 use Rattle.paging_laws.proofs.SlotLaws.{started_as}
-use Rattle.paging_machine.specs.Parts.{Parts, state_of}
-use Rattle.version_array.specs.Keeper.{count_out}
+use Rattle.paging_machine.specs.inner.Parts.{Parts, state_of}
+use Rattle.version_array.specs.inner.Keeper.{count_out}
 use Rattle.turn_rules.specs.Script.{frame_at}
 use Rattle.driver_rules.specs.Ages.{LookOf}
-use Rattle.driver_laws.specs.Kinds.{CanMove}
+use Rattle.driver_laws.specs.inner.Kinds.{CanMove}
 use Rattle.driver_rules.specs.Dues.{Ends, IsNext}
 use Rattle.driver_rules.specs.Passes.{pass}
 use Rattle.driver_rules.specs.Places.{Leaving, place}
-use Rattle.driver_rules.specs.Reclaims.{is_refused}
+use Rattle.driver_rules.specs.inner.Reclaims.{is_refused}
 use Rattle.driver_rules.specs.Stops.{is_spent}
 use Rattle.driver_rules.specs.Turns.{Loads, cpu_due, last_of}
-use Rattle.driver_laws.specs.Counted.{CountMoves}
-use Rattle.driver_laws.specs.Sound.{is_write_start}
-use Rattle.driver_laws.specs.Stages.{HasPages}
-use Rattle.driver_laws.specs.Tracking.{TrackingRule}
-use Rattle.driver_laws.specs.Tracks.{TryTells}
-use Rattle.driver_laws.specs.Used.{StartTells}
+use Rattle.driver_laws.specs.inner.Counted.{CountMoves}
+use Rattle.driver_laws.specs.inner.Sound.{is_write_start}
+use Rattle.driver_laws.specs.inner.Stages.{HasPages}
+use Rattle.driver_laws.specs.inner.Tracking.{TrackingRule}
+use Rattle.driver_laws.specs.inner.Tracks.{TryTells}
+use Rattle.driver_laws.specs.inner.Used.{StartTells}
 use Rattle.driver_tables.specs.declared.driver.Driver.{Driver}
-use Rattle.driver_tables.specs.Tables.{ShowsTables}
-use Rattle.driver_steps.specs.Agrees.{Agrees}
-use Rattle.driver_steps.specs.Asked.{IsNextOf}
+use Rattle.driver_tables.specs.inner.Tables.{ShowsTables}
+use Rattle.driver_steps.specs.inner.Agrees.{Agrees}
+use Rattle.driver_steps.specs.inner.Asked.{IsNextOf}
 use Rattle.fault_handler.specs.declared.answers.Loaded.{Loaded}
 use Rattle.fault_handler.specs.declared.answers.Loaded.TheVariants as ends
-use Rattle.fault_handler.specs.Due.{IsEnd, IsRightEnd, ShowsEnd}
-use Rattle.fault_handler.specs.Finishing.{CanFinish, IsFinished}
+use Rattle.fault_handler.specs.inner.Due.{IsEnd, IsRightEnd, ShowsEnd}
+use Rattle.fault_handler.specs.inner.Finishing.{CanFinish, IsFinished}
 use Rattle.fault_handler.proofs.EndLaws.{end_frame}
 use Rattle.reclaim_worker.specs.declared.turns.Phase.{Phase}
 use Rattle.reclaim_worker.specs.declared.turns.Phase.TheVariants as phases
 use Rattle.reclaim_worker.specs.declared.turns.Taken.{Taken}
-use Rattle.reclaim_worker.specs.Ended.{IsEnded}
-use Rattle.reclaim_worker.specs.Ready.{Ready}
-use Rattle.reclaim_worker.specs.Standing.{AreInFrames, StandsFor}
-use Rattle.reclaim_worker.specs.Stored.{IsStored, StoredSays}
+use Rattle.reclaim_worker.specs.inner.Ended.{IsEnded}
+use Rattle.reclaim_worker.specs.inner.Ready.{Ready}
+use Rattle.reclaim_worker.specs.inner.Standing.{AreInFrames, StandsFor}
+use Rattle.reclaim_worker.specs.inner.Stored.{IsStored, StoredSays}
 use Rattle.reclaim_worker.proofs.DueLaws.{drop_get}
-use Rattle.run_book.specs.Loads.{GoesOnWith, entry_in}
+use Rattle.run_book.specs.inner.Loads.{GoesOnWith, entry_in}
 use Rattle.table_notes.proofs.EntryLaws.{ages}
 use Rattle.run_book.proofs.PlainLaws.{beside, kicks}
 

@@ -18,42 +18,42 @@ use Rattle.job_grammar.specs.Jobs.{JobView}
 use Rattle.backing_store.specs.Calls.{Call}
 use Rattle.backing_store.specs.declared.backing.StoreFault.{StoreFault}
 use Rattle.backing_store.specs.declared.backing.StoreFault.TheVariants as faults
-use Rattle.paging_laws.specs.Columns.{HasColumns, SlotColumns}
+use Rattle.paging_laws.specs.inner.Columns.{HasColumns, SlotColumns}
 use Rattle.sgx_rules.specs.Table.{first_of_row}
-use Rattle.paging_laws.specs.Shape.{ShapeWithRules}
-use Rattle.paging_laws.specs.State.{State, row_of}
-use Rattle.paging_laws.specs.Steps.{IsDone, IsStep, refused_by}
-use Rattle.paging_machine.specs.Parts.{Parts, state_of}
-use Rattle.version_array.specs.Keeper.{count_out}
+use Rattle.paging_laws.specs.inner.Shape.{ShapeWithRules}
+use Rattle.paging_laws.specs.inner.State.{State, row_of}
+use Rattle.paging_laws.specs.inner.Steps.{IsDone, IsStep, refused_by}
+use Rattle.paging_machine.specs.inner.Parts.{Parts, state_of}
+use Rattle.version_array.specs.inner.Keeper.{count_out}
 use Rattle.turn_rules.specs.Script.{frame_at}
-use Rattle.active_list.specs.States.{state_of as page_state}
+use Rattle.active_list.specs.inner.States.{state_of as page_state}
 use Rattle.active_list.specs.declared.page_states.PageState.{PageState}
 use Rattle.active_list.specs.declared.page_states.PageState.TheVariants as states
 use Rattle.driver_rules.specs.Dues.{Ends, IsNext}
 use Rattle.driver_rules.specs.Passes.{pass}
 use Rattle.driver_rules.specs.Places.{Absent, Away, Here, Leaving, Loading, Place, place}
-use Rattle.driver_rules.specs.Reclaims.{is_refused}
+use Rattle.driver_rules.specs.inner.Reclaims.{is_refused}
 use Rattle.driver_rules.specs.Stops.{is_spent}
 use Rattle.driver_rules.specs.Turns.{Fails, Last, Loads, Other, WasEnded, cpu_due, fetches, last_of}
-use Rattle.driver_laws.specs.Agrees.{loaded_by}
-use Rattle.driver_laws.specs.Counted.{CountMoves}
-use Rattle.driver_laws.specs.Tracking.{TrackingRule}
-use Rattle.driver_laws.specs.Tracks.{TryTells}
-use Rattle.driver_laws.specs.Used.{StartTells}
+use Rattle.driver_laws.specs.inner.Agrees.{loaded_by}
+use Rattle.driver_laws.specs.inner.Counted.{CountMoves}
+use Rattle.driver_laws.specs.inner.Tracking.{TrackingRule}
+use Rattle.driver_laws.specs.inner.Tracks.{TryTells}
+use Rattle.driver_laws.specs.inner.Used.{StartTells}
 use Rattle.driver_tables.specs.declared.driver.Driver.{Driver}
-use Rattle.driver_tables.specs.Moves.{with_load}
-use Rattle.driver_steps.specs.Agrees.{Agrees}
-use Rattle.driver_steps.specs.Asked.{IsNextOf}
-use Rattle.driver_steps.specs.Carried.{Carries}
-use Rattle.driver_calls.specs.Comes.{bus_of}
+use Rattle.driver_tables.specs.inner.Moves.{with_load}
+use Rattle.driver_steps.specs.inner.Agrees.{Agrees}
+use Rattle.driver_steps.specs.inner.Asked.{IsNextOf}
+use Rattle.driver_steps.specs.inner.Carried.{Carries}
+use Rattle.driver_calls.specs.inner.Comes.{bus_of}
 use Rattle.fault_handler.specs.declared.answers.FaultAnswer.{FaultAnswer}
 use Rattle.fault_handler.specs.declared.answers.FaultAnswer.TheVariants as answers
-use Rattle.fault_handler.specs.Due.{IsRight}
-use Rattle.fault_handler.specs.Resolving.{IsFetch, IsGot, IsResolved, IsStarted}
+use Rattle.fault_handler.specs.inner.Due.{IsRight}
+use Rattle.fault_handler.specs.inner.Resolving.{IsFetch, IsGot, IsResolved, IsStarted}
 use Rattle.reclaim_worker.specs.declared.turns.Phase.{Phase}
 use Rattle.reclaim_worker.specs.declared.turns.Taken.{Taken}
-use Rattle.reclaim_worker.specs.Standing.{StandsFor}
-use Rattle.run_book.specs.Loads.{GoesOnWith, OfAnswer}
+use Rattle.reclaim_worker.specs.inner.Standing.{StandsFor}
+use Rattle.run_book.specs.inner.Loads.{GoesOnWith, OfAnswer}
 use Rattle.table_notes.proofs.EntryLaws.{ages}
 use Rattle.run_book.proofs.PlainLaws.{beside, kicks}
 

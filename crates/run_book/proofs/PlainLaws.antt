@@ -3,7 +3,8 @@ use Rattle.std.proofs.Common.{◌≡◌, ◌⊎◌, inl, inr, ℕ, not, true, fa
 use Rattle.std.proofs.Common.{Option, Some, None, is_some, length}
 use Rattle.std.proofs.lemmas.Bool.{false≢true}
 use Rattle.sgx_rules.specs.declared.entries.Action.{Action}
-use Rattle.sgx_rules.specs.declared.entries.Action.TheVariants.{Aex, Block, EldStart, Eld, Enter, Ewb, EwbStart, Exit, Resume, Track}
+use Rattle.sgx_rules.specs.declared.entries.Action.TheVariants.{Aex, Block, EldStart, Eld, Enter, Ewb, EwbStart, Exit, Resume}
+use Rattle.sgx_rules.specs.declared.entries.Action.TheVariants.{Track}
 use Rattle.sgx_types.specs.declared.names.Actor.{Actor}
 use Rattle.sgx_types.specs.declared.names.Actor.TheVariants as actors
 use Rattle.sgx_rules.specs.declared.entries.Answer.{Answer}
@@ -12,46 +13,46 @@ use Rattle.sgx_rules.specs.declared.entries.Event.{Event}
 use Rattle.sgx_rules.specs.declared.entries.Event.TheVariants.{Did, Refused}
 use Rattle.sgx_types.specs.declared.names.Page.{Page}
 use Rattle.sgx_rules.specs.declared.refusals.Refusal.{Refusal}
-use Rattle.sgx_rules.specs.Enclaves.{created}
+use Rattle.sgx_rules.specs.inner.Enclaves.{created}
 use Rattle.sgx_rules.specs.Flat.{FlatEnclave, enclave_sight_of}
 use Rattle.sgx_rules.specs.Frames.{added}
 use Rattle.sgx_types.specs.Making.{Making}
-use Rattle.sgx_rules.specs.Rules.{LoadsAwayRule}
+use Rattle.sgx_rules.specs.inner.Rules.{LoadsAwayRule}
 use Rattle.sgx_rules.specs.Processors.{Stay, stay}
 use Rattle.sgx_rules.specs.Sights.{seat_of}
 use Rattle.sgx_rules.specs.Table.{aex_row, enter_row, exit_row, first_of_row, is_made, resume_row}
 use Rattle.sgx_rules.proofs.Rows.{none_holds}
 use Rattle.sgx_types.proofs.Truths.{not_false}
 use Rattle.job_grammar.specs.Jobs.{JobView}
-use Rattle.paging_laws.specs.Columns.{HasColumns, seat_of_stay}
-use Rattle.paging_laws.specs.State.{State, enter_sight, row_of}
-use Rattle.paging_laws.specs.Steps.{IsStep}
+use Rattle.paging_laws.specs.inner.Columns.{HasColumns, seat_of_stay}
+use Rattle.paging_laws.specs.inner.State.{State, enter_sight, row_of}
+use Rattle.paging_laws.specs.inner.Steps.{IsStep}
 use Rattle.paging_laws.proofs.ColumnLaws.{inside_is}
-use Rattle.paging_machine.specs.Parts.{Parts, state_of}
-use Rattle.version_array.specs.Keeper.{count_out}
+use Rattle.paging_machine.specs.inner.Parts.{Parts, state_of}
+use Rattle.version_array.specs.inner.Keeper.{count_out}
 use Rattle.driver_rules.specs.Ages.{BesideOf, FormOf, IsBeside, KickRule}
 use Rattle.driver_rules.specs.Passes as passes
 use Rattle.driver_rules.specs.Passes.{Between, Blocking, Form, Pass, Scan, Tries, keepers, pass}
 use Rattle.driver_rules.specs.Places.{place}
 use Rattle.driver_rules.specs.Scripts.{ScriptRule}
-use Rattle.driver_laws.specs.Counted.{CountMoves}
-use Rattle.driver_laws.specs.Kinds.{CanMove}
-use Rattle.driver_laws.specs.Sound.{is_absent}
-use Rattle.driver_laws.specs.Tracking.{StayTells, TrackingRule}
-use Rattle.driver_laws.specs.Tracks.{TryTells}
-use Rattle.driver_laws.specs.Used.{StartTells}
+use Rattle.driver_laws.specs.inner.Counted.{CountMoves}
+use Rattle.driver_laws.specs.inner.Kinds.{CanMove}
+use Rattle.driver_laws.specs.inner.Sound.{is_absent}
+use Rattle.driver_laws.specs.inner.Tracking.{StayTells, TrackingRule}
+use Rattle.driver_laws.specs.inner.Tracks.{TryTells}
+use Rattle.driver_laws.specs.inner.Used.{StartTells}
 use Rattle.driver_tables.specs.declared.driver.Driver.{Driver}
-use Rattle.driver_tables.specs.Tables.{ShowsTables}
-use Rattle.driver_steps.specs.Agrees.{Agrees}
-use Rattle.driver_steps.specs.Asked.{IsNextOf}
-use Rattle.driver_steps.specs.Carried.{Carries}
+use Rattle.driver_tables.specs.inner.Tables.{ShowsTables}
+use Rattle.driver_steps.specs.inner.Agrees.{Agrees}
+use Rattle.driver_steps.specs.inner.Asked.{IsNextOf}
+use Rattle.driver_steps.specs.inner.Carried.{Carries}
 use Rattle.reclaim_worker.specs.declared.turns.Form.TheVariants as forms
 use Rattle.reclaim_worker.specs.declared.turns.Phase.{Phase}
 use Rattle.reclaim_worker.specs.declared.turns.Phase.TheVariants as phases
 use Rattle.reclaim_worker.specs.declared.turns.Taken.{Taken}
-use Rattle.reclaim_worker.specs.Standing.{IsForm, StandsFor}
+use Rattle.reclaim_worker.specs.inner.Standing.{IsForm, StandsFor}
 use Rattle.table_notes.proofs.EntryLaws.{IsEntryOf, ages, did_moves, entry_by}
-use Rattle.table_notes.specs.Plain.{is_plain, is_reclaimer}
+use Rattle.table_notes.specs.inner.Plain.{is_plain, is_reclaimer}
 
 -- ---- what it asks of the entries before it
 

@@ -13,15 +13,15 @@ use Rattle.sgx_rules.specs.declared.entries.Look.TheVariants as looks
 use Rattle.sgx_types.specs.declared.names.Page.{Page}
 use Rattle.sgx_rules.specs.declared.refusals.Refusal.{Refusal}
 use Rattle.sgx_rules.specs.declared.refusals.Refusal.TheVariants as why
-use Rattle.paging_laws.specs.State.{State}
-use Rattle.paging_laws.specs.Steps.{IsStep}
-use Rattle.paging_machine.specs.Parts.{Parts, cpu_at, state_of}
-use Rattle.version_array.specs.Keeper.{count_out}
-use Rattle.driver_rules.specs.Reclaims.{is_refused}
+use Rattle.paging_laws.specs.inner.State.{State}
+use Rattle.paging_laws.specs.inner.Steps.{IsStep}
+use Rattle.paging_machine.specs.inner.Parts.{Parts, cpu_at, state_of}
+use Rattle.version_array.specs.inner.Keeper.{count_out}
+use Rattle.driver_rules.specs.inner.Reclaims.{is_refused}
 use Rattle.driver_rules.specs.declared.waits.Why.TheVariants as waits
-use Rattle.driver_laws.specs.Counted.{CountMoves}
+use Rattle.driver_laws.specs.inner.Counted.{CountMoves}
 use Rattle.driver_tables.specs.declared.driver.Driver.{Driver}
-use Rattle.driver_tables.specs.Moves.{IsLooked}
+use Rattle.driver_tables.specs.inner.Moves.{IsLooked}
 use Rattle.reclaim_worker.specs.declared.turns.Form.{Form}
 use Rattle.reclaim_worker.specs.declared.turns.Form.TheVariants as forms
 use Rattle.reclaim_worker.specs.declared.turns.Phase.{Phase}
@@ -29,12 +29,12 @@ use Rattle.reclaim_worker.specs.declared.turns.Phase.TheVariants as phases
 use Rattle.reclaim_worker.specs.declared.turns.PassTurn.{PassTurn}
 use Rattle.reclaim_worker.specs.declared.turns.PassTurn.TheVariants as turns
 use Rattle.reclaim_worker.specs.declared.turns.Taken.{Taken}
-use Rattle.reclaim_worker.specs.Moves.{IsBlockTurn, IsTryTurn, turn_of, turn_of_track}
-use Rattle.reclaim_worker.specs.Rests.{DriverSays}
-use Rattle.reclaim_worker.specs.Scans.{IsScanned}
-use Rattle.reclaim_worker.specs.Tried.{SlotsAfter, count_from, is_kept_by}
-use Rattle.reclaim_worker.specs.Turning.{IsFormTurn, TurnSays, WithPage}
-use Rattle.run_book.specs.Turns.{OfEntry}
+use Rattle.reclaim_worker.specs.inner.Moves.{IsBlockTurn, IsTryTurn, turn_of, turn_of_track}
+use Rattle.reclaim_worker.specs.inner.Rests.{DriverSays}
+use Rattle.reclaim_worker.specs.inner.Scans.{IsScanned}
+use Rattle.reclaim_worker.specs.inner.Tried.{SlotsAfter, count_from, is_kept_by}
+use Rattle.reclaim_worker.specs.inner.Turning.{IsFormTurn, TurnSays, WithPage}
+use Rattle.run_book.specs.inner.Turns.{OfEntry}
 use Rattle.table_notes.proofs.EntryLaws.{IsEntryOf, entry_by}
 
 abbrev Counts : Driver → Driver → Entry → Type 0

@@ -11,52 +11,53 @@ use Rattle.sgx_types.specs.declared.names.Page.{Page}
 use Rattle.sgx_types.specs.declared.names.SlotAt.{SlotAt}
 use Rattle.sgx_types.specs.declared.names.TheConstants.{LAST_EPOCH}
 use Rattle.sgx_rules.specs.declared.refusals.Refusal.TheVariants as why
-use Rattle.sgx_rules.specs.Enclaves.{created}
+use Rattle.sgx_rules.specs.inner.Enclaves.{created}
 use Rattle.sgx_rules.specs.Epochs.{epoch, epoch_in}
 use Rattle.sgx_rules.specs.Eviction.{is_drained, kept_back}
 use Rattle.sgx_rules.specs.Frames.{added}
 use Rattle.sgx_types.specs.Making.{Making}
-use Rattle.sgx_rules.specs.Rules.{LoadsAwayRule}
+use Rattle.sgx_rules.specs.inner.Rules.{LoadsAwayRule}
 use Rattle.sgx_rules.specs.Slots.{next_version}
 use Rattle.sgx_rules.specs.Starts.{open_start}
 use Rattle.job_grammar.specs.Jobs.{JobView}
 use Rattle.paging_laws.proofs.ColumnLaws.{added_is}
-use Rattle.paging_machine.specs.Parts.{Parts, state_of}
-use Rattle.version_array.specs.Keeper.{Keeper, count_out}
+use Rattle.paging_machine.specs.inner.Parts.{Parts, state_of}
+use Rattle.version_array.specs.inner.Keeper.{Keeper, count_out}
 use Rattle.turn_rules.specs.Script.{frame_at}
 use Rattle.driver_rules.specs.Ages.{head_of}
 use Rattle.driver_rules.specs.declared.waits.Why.TheVariants as waits
 use Rattle.driver_rules.specs.Dues.{Ends, Makes, TriesOut, Waits}
-use Rattle.driver_rules.specs.Passes.{Between, Blocking, First, Form, Kicks, Pass, Scan, Sealing, Second, Third, ToKick, ToTrack, Tries}
+use Rattle.driver_rules.specs.Passes.{Between, Blocking, First, Form, Kicks, Pass, Scan, Sealing, Second, Third, ToKick, ToTrack}
+use Rattle.driver_rules.specs.Passes.{Tries}
 use Rattle.driver_rules.specs.Passes.{keepers, pass}
 use Rattle.driver_rules.specs.Places.{Absent, Away, Here, Leaving, Loading, Place, active, frame_leaving, place}
-use Rattle.driver_rules.specs.Reclaims.{are_held, form_due, in_frame, leaving_due, look_at, look_due, pass_due, third_due}
+use Rattle.driver_rules.specs.inner.Reclaims.{are_held, form_due, in_frame, leaving_due, look_at, look_due, pass_due, third_due}
 use Rattle.driver_rules.specs.Scripts.{is_load}
 use Rattle.driver_rules.specs.Stops.{is_spent}
-use Rattle.driver_laws.specs.Counted.{CountMoves}
-use Rattle.driver_laws.specs.Sound.{is_absent}
-use Rattle.driver_laws.specs.Stages.{HasPages, IsTaken, IsTrying}
-use Rattle.driver_laws.specs.Tracking.{TrackingRule}
-use Rattle.driver_laws.specs.Tracks.{IsCalm, KeepsTracks}
-use Rattle.driver_laws.specs.Used.{StartTells}
+use Rattle.driver_laws.specs.inner.Counted.{CountMoves}
+use Rattle.driver_laws.specs.inner.Sound.{is_absent}
+use Rattle.driver_laws.specs.inner.Stages.{HasPages, IsTaken, IsTrying}
+use Rattle.driver_laws.specs.inner.Tracking.{TrackingRule}
+use Rattle.driver_laws.specs.inner.Tracks.{IsCalm, KeepsTracks}
+use Rattle.driver_laws.specs.inner.Used.{StartTells}
 use Rattle.driver_laws.proofs.EpochLaws.{none_older}
 use Rattle.driver_laws.proofs.ReadyLaws.{first_below}
 use Rattle.driver_tables.specs.declared.driver.Driver.{Driver}
-use Rattle.driver_steps.specs.Agrees.{Agrees}
-use Rattle.driver_steps.specs.Asked.{IsNextOf}
-use Rattle.driver_steps.specs.Carried.{Carries}
+use Rattle.driver_steps.specs.inner.Agrees.{Agrees}
+use Rattle.driver_steps.specs.inner.Asked.{IsNextOf}
+use Rattle.driver_steps.specs.inner.Carried.{Carries}
 use Rattle.driver_steps.proofs.PartLaws.{added_created}
 use Rattle.reclaim_worker.specs.declared.turns.Phase.{Phase}
 use Rattle.reclaim_worker.specs.declared.turns.PassTurn.{PassTurn}
 use Rattle.reclaim_worker.specs.declared.turns.PassTurn.TheVariants as turns
 use Rattle.reclaim_worker.specs.declared.turns.Taken.{Taken}
-use Rattle.reclaim_worker.specs.Answers.{IsTurn, by_reclaimer, track_turn, try_turn}
-use Rattle.reclaim_worker.specs.Going.{TurnGoes}
-use Rattle.reclaim_worker.specs.Kept.{Keeps, TurnKeeps}
-use Rattle.reclaim_worker.specs.Shown.{ShowsAfter}
-use Rattle.reclaim_worker.specs.Standing.{StandsFor, is_kicked}
-use Rattle.reclaim_worker.specs.Tables.{Shows}
-use Rattle.run_book.specs.Turns.{OfEntry}
+use Rattle.reclaim_worker.specs.inner.Answers.{IsTurn, by_reclaimer, track_turn, try_turn}
+use Rattle.reclaim_worker.specs.inner.Going.{TurnGoes}
+use Rattle.reclaim_worker.specs.inner.Kept.{Keeps, TurnKeeps}
+use Rattle.reclaim_worker.specs.inner.Shown.{ShowsAfter}
+use Rattle.reclaim_worker.specs.inner.Standing.{StandsFor, is_kicked}
+use Rattle.reclaim_worker.specs.inner.Tables.{Shows}
+use Rattle.run_book.specs.inner.Turns.{OfEntry}
 use Rattle.run_book.proofs.PlainLaws.{enclave_is}
 
 -- what an entry of the reclaimer is, besides what its turn keeps

@@ -1,4 +1,2 @@
-pub mod Books
-pub mod Turns
-pub mod Loads
 pub mod Lost
+pub mod inner

@@ -13,30 +13,31 @@ use Rattle.sgx_types.specs.declared.names.Page.{Page}
 use Rattle.sgx_rules.specs.declared.refusals.Refusal.{Refusal}
 use Rattle.sgx_types.specs.Making.{Making}
 use Rattle.sgx_types.specs.Sealed.{Sealed}
-use Rattle.sgx_rules.specs.Starts.{Start, open_start, bare_start}
+use Rattle.sgx_rules.specs.Starts.{Start, open_start}
+use Rattle.sgx_rules.specs.inner.Starts.{bare_start}
 use Rattle.sgx_rules.specs.Table.{first_of_row}
 use Rattle.job_grammar.specs.Jobs.{JobView}
 use Rattle.seal_record.specs.Records.{Made, Unforged}
 use Rattle.backing_store.specs.Calls.{Call}
-use Rattle.paging_laws.specs.Histories as laws
-use Rattle.paging_laws.specs.Histories.{StandsWithAllRules}
-use Rattle.paging_laws.specs.State.{State}
-use Rattle.paging_laws.specs.Steps.{IsReloaded, commit_row, did_by, refused_by}
+use Rattle.paging_laws.specs.inner.Histories as laws
+use Rattle.paging_laws.specs.inner.Histories.{StandsWithAllRules}
+use Rattle.paging_laws.specs.inner.State.{State}
+use Rattle.paging_laws.specs.inner.Steps.{IsReloaded, commit_row, did_by, refused_by}
 use Rattle.paging_laws.proofs.ColumnLaws.{start_is}
-use Rattle.paging_machine.specs.Parts.{Parts, state_of}
-use Rattle.active_list.specs.Keeping.{record_kept}
-use Rattle.driver_rules.specs.Reclaims.{is_refused}
+use Rattle.paging_machine.specs.inner.Parts.{Parts, state_of}
+use Rattle.active_list.specs.inner.Keeping.{record_kept}
+use Rattle.driver_rules.specs.inner.Reclaims.{is_refused}
 use Rattle.driver_rules.specs.Turns.{Loads, last_of}
 use Rattle.driver_tables.specs.declared.driver.Driver.{Driver}
-use Rattle.driver_steps.specs.Agrees.{Agrees}
+use Rattle.driver_steps.specs.inner.Agrees.{Agrees}
 use Rattle.fault_handler.specs.declared.answers.Loaded.{Loaded}
-use Rattle.fault_handler.specs.Finishing.{CanFinish, IsFinished}
+use Rattle.fault_handler.specs.inner.Finishing.{CanFinish, IsFinished}
 use Rattle.fault_handler.proofs.EndLaws.{end_frame}
 use Rattle.run_history.specs.Calls.{before}
 use Rattle.run_history.specs.Given.{UnforgedRun, gift, given_in, given_more, looked_at, made_in, made_more}
-use Rattle.book_laws.specs.Stores.{TellsStore}
-use Rattle.run_book.specs.Books.{CarriesBytes}
-use Rattle.run_book.specs.Loads.{entry_in}
+use Rattle.book_laws.specs.inner.Stores.{TellsStore}
+use Rattle.run_book.specs.inner.Books.{CarriesBytes}
+use Rattle.run_book.specs.inner.Loads.{entry_in}
 
 -- ---- the entry
 

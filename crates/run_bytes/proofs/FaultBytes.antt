@@ -19,21 +19,21 @@ use Rattle.job_grammar.specs.Jobs.{JobView}
 use Rattle.backing_store.specs.Calls.{Call}
 use Rattle.backing_store.specs.declared.backing.StoreFault.{StoreFault}
 use Rattle.backing_store.specs.declared.backing.StoreFault.TheVariants as faults
-use Rattle.paging_laws.specs.State.{State, row_of}
-use Rattle.paging_laws.specs.Steps.{IsDone, IsStep, refused_by}
-use Rattle.paging_machine.specs.Parts.{Parts, state_of}
+use Rattle.paging_laws.specs.inner.State.{State, row_of}
+use Rattle.paging_laws.specs.inner.Steps.{IsDone, IsStep, refused_by}
+use Rattle.paging_machine.specs.inner.Parts.{Parts, state_of}
 use Rattle.turn_rules.specs.Script.{frame_at}
 use Rattle.active_list.specs.declared.page_states.PageState.{PageState}
 use Rattle.active_list.specs.declared.page_states.PageState.TheVariants as states
-use Rattle.driver_steps.specs.Carried.{Carries}
+use Rattle.driver_steps.specs.inner.Carried.{Carries}
 use Rattle.driver_tables.specs.declared.driver.Driver.{Driver}
-use Rattle.driver_calls.specs.Comes.{bus_of}
+use Rattle.driver_calls.specs.inner.Comes.{bus_of}
 use Rattle.fault_handler.specs.declared.answers.FaultAnswer.{FaultAnswer}
 use Rattle.fault_handler.specs.declared.answers.FaultAnswer.TheVariants as answers
-use Rattle.fault_handler.specs.Resolving.{IsFetch, IsGot, IsResolved, IsStarted}
-use Rattle.run_book.specs.Books.{CarriesBytes}
-use Rattle.run_book.specs.Loads.{OfAnswer}
-use Rattle.run_bytes.specs.Records.{StaysWith, writes_out}
+use Rattle.fault_handler.specs.inner.Resolving.{IsFetch, IsGot, IsResolved, IsStarted}
+use Rattle.run_book.specs.inner.Books.{CarriesBytes}
+use Rattle.run_book.specs.inner.Loads.{OfAnswer}
+use Rattle.run_bytes.specs.inner.Records.{StaysWith, writes_out}
 use Rattle.run_bytes.proofs.StepBytes.{note_bytes, step_bytes}
 
 -- ---- what a fault step leaves the machine as

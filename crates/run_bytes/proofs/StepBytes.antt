@@ -19,24 +19,25 @@ use Rattle.sgx_types.specs.Making.{Making}
 use Rattle.sgx_types.specs.Sealed.{Sealed}
 use Rattle.job_grammar.specs.Jobs.{JobView}
 use Rattle.seal_record.specs.Records.{Made}
-use Rattle.backing_store.specs.Calls.{Call, Put, with_call}
-use Rattle.paging_laws.specs.Histories.{StandsWithAllRules, given_out}
-use Rattle.paging_laws.specs.Notes.{IsNote}
-use Rattle.paging_laws.specs.State.{State}
-use Rattle.paging_laws.specs.Steps.{IsStep}
-use Rattle.paging_machine.specs.Parts.{Parts, state_of}
-use Rattle.driver_steps.specs.Carried.{Carries}
+use Rattle.backing_store.specs.Calls.{Call, Put}
+use Rattle.backing_store.specs.inner.Calls.{with_call}
+use Rattle.paging_laws.specs.inner.Histories.{StandsWithAllRules, given_out}
+use Rattle.paging_laws.specs.inner.Notes.{IsNote}
+use Rattle.paging_laws.specs.inner.State.{State}
+use Rattle.paging_laws.specs.inner.Steps.{IsStep}
+use Rattle.paging_machine.specs.inner.Parts.{Parts, state_of}
+use Rattle.driver_steps.specs.inner.Carried.{Carries}
 use Rattle.driver_tables.specs.declared.driver.Driver.{Driver}
 use Rattle.reclaim_worker.specs.declared.turns.Phase.{Phase}
 use Rattle.reclaim_worker.specs.declared.turns.Phase.TheVariants as phases
 use Rattle.reclaim_worker.specs.declared.turns.Taken.{Taken}
-use Rattle.reclaim_worker.specs.Stored.{IsStored, StoredSays}
+use Rattle.reclaim_worker.specs.inner.Stored.{IsStored, StoredSays}
 use Rattle.run_history.specs.Calls.{before}
 use Rattle.run_history.specs.Given.{made_in, made_more}
-use Rattle.run_book.specs.Books.{CarriesBytes}
-use Rattle.table_notes.specs.Plain.{is_plain}
+use Rattle.run_book.specs.inner.Books.{CarriesBytes}
+use Rattle.table_notes.specs.inner.Plain.{is_plain}
 use Rattle.table_notes.proofs.EntryLaws.{IsEntryOf, entry_by}
-use Rattle.run_bytes.specs.Records.{StaysWith, writes_out}
+use Rattle.run_bytes.specs.inner.Records.{StaysWith, writes_out}
 
 -- ---- entries that make no record
 

@@ -13,17 +13,17 @@ use Rattle.sgx_types.specs.Making.{Making}
 use Rattle.sgx_rules.specs.Slots.{next_version}
 use Rattle.job_grammar.specs.Jobs.{JobView}
 use Rattle.backing_store.specs.Calls.{Call}
-use Rattle.paging_machine.specs.Parts.{Parts, state_of}
-use Rattle.version_array.specs.Keeper.{Keeper}
+use Rattle.paging_machine.specs.inner.Parts.{Parts, state_of}
+use Rattle.version_array.specs.inner.Keeper.{Keeper}
 use Rattle.turn_rules.specs.Script.{frame_at}
 use Rattle.driver_rules.specs.Dues.{Due, KicksAll, LooksAt, Makes, TriesOut, Waits}
 use Rattle.reclaim_worker.specs.declared.turns.PassTurn.{PassTurn}
 use Rattle.reclaim_worker.specs.declared.turns.PassTurn.TheVariants as turns
-use Rattle.reclaim_worker.specs.Answers.{IsTurn, by_reclaimer, track_turn, try_turn}
-use Rattle.reclaim_worker.specs.Going.{TurnGoes}
-use Rattle.run_book.specs.Books.{CarriesBytes}
-use Rattle.run_book.specs.Turns.{OfEntry}
-use Rattle.run_bytes.specs.Records.{writes_out}
+use Rattle.reclaim_worker.specs.inner.Answers.{IsTurn, by_reclaimer, track_turn, try_turn}
+use Rattle.reclaim_worker.specs.inner.Going.{TurnGoes}
+use Rattle.run_book.specs.inner.Books.{CarriesBytes}
+use Rattle.run_book.specs.inner.Turns.{OfEntry}
+use Rattle.run_bytes.specs.inner.Records.{writes_out}
 use Rattle.run_bytes.proofs.StepBytes.{step_bytes}
 
 -- ---- which entry a turn made

@@ -4,17 +4,18 @@ use Rattle.sgx_rules.specs.declared.entries.Entry.{Entry}
 use Rattle.sgx_rules.specs.Rules.{Along}
 use Rattle.job_grammar.specs.Jobs.{JobView}
 use Rattle.turn_rules.specs.Machines.{machine_of}
-use Rattle.driver_laws.specs.Driven.{IsDriven}
+use Rattle.driver_laws.specs.inner.Driven.{IsDriven}
 use Rattle.driver_rules.specs.Passes.{pass}
-use Rattle.driver_laws.specs.Sound.{IsSound}
-use Rattle.driver_laws.specs.Stages.{KeepsPages}
-use Rattle.driver_laws.specs.Three.{IsApart, TcsAreApart}
-use Rattle.driver_laws.specs.Tracks.{KeepsTracks}
+use Rattle.driver_laws.specs.inner.Sound.{IsSound}
+use Rattle.driver_laws.specs.inner.Stages.{KeepsPages}
+use Rattle.driver_laws.specs.inner.Three.{IsApart, TcsAreApart}
+use Rattle.driver_laws.specs.inner.Tracks.{KeepsTracks}
 use Rattle.driver_laws.proofs.HistoryLaws.{driven_pages, driven_sound}
 use Rattle.driver_laws.proofs.TcsLaws.{driven_apart}
 use Rattle.run_history.specs.declared.rules.Rule.{Rule}
 use Rattle.run_history.specs.declared.rules.Rule.TheVariants as rules
-use Rattle.run_history.specs.Histories.{AtEntry, Before, FailsFirst, GoesOn, History, IsPlace, Keeps, Says, Throughout}
+use Rattle.run_history.specs.Histories.{AtEntry, Before, FailsFirst, History, IsPlace, Keeps, Says, Throughout}
+use Rattle.run_history.specs.inner.Histories.{GoesOn}
 
 -- ---- the rules of a history
 

@@ -18,8 +18,9 @@ use Rattle.sgx_rules.specs.declared.entries.Look.TheVariants as looks
 use Rattle.sgx_types.specs.declared.names.Frame.{Frame}
 use Rattle.sgx_types.specs.declared.names.Page.{Page}
 use Rattle.sgx_types.specs.declared.names.SlotAt.{SlotAt}
-use Rattle.sgx_rules.specs.Enclaves.{EnclavesAreFlat, created, created_by}
-use Rattle.sgx_rules.specs.Flat.{FlatEnclave, FlatMemory, Inside, accepts, cpu_after, event_after, flat, header_at, memory_after, saved}
+use Rattle.sgx_rules.specs.inner.Enclaves.{EnclavesAreFlat, created, created_by}
+use Rattle.sgx_rules.specs.Flat.{FlatEnclave, FlatMemory, Inside, accepts, cpu_after, event_after, flat, header_at, memory_after}
+use Rattle.sgx_rules.specs.Flat.{saved}
 use Rattle.sgx_rules.specs.Flat.{stored, sum_of, word_seen}
 use Rattle.sgx_types.specs.Pages.{page_at, same_page}
 use Rattle.sgx_rules.specs.Frames.{Free, content}
@@ -30,14 +31,16 @@ use Rattle.sgx_rules.specs.Starts.{Start, is_load_of, loads_page, open_start}
 use Rattle.sgx_rules.specs.Table.{is_loading}
 use Rattle.page_history.proofs.FlatLaws.{added_flat, header_still}
 use Rattle.backing_store.specs.Calls.{Call, Failed, Given, Got, Nothing, Put, Room}
-use Rattle.driver_rules.specs.Places.{Absent, Away, Here, Leaving, Loading, Place, after_look, back_to, gone_to, place, place_after}
-use Rattle.driver_laws.specs.Kinds.{CanMove}
-use Rattle.driver_laws.specs.Sound.{IsSound, is_load_start, load_slot, slot_if, slot_loading}
+use Rattle.driver_rules.specs.Places.{Absent, Away, Here, Leaving, Loading, Place, after_look, back_to, gone_to, place}
+use Rattle.driver_rules.specs.Places.{place_after}
+use Rattle.driver_laws.specs.inner.Kinds.{CanMove}
+use Rattle.driver_laws.specs.inner.Sound.{IsSound, is_load_start, load_slot, slot_if, slot_loading}
 use Rattle.driver_laws.proofs.PlaceLaws.{loads_one}
 use Rattle.driver_laws.proofs.SoundLaws.{entry_of}
 use Rattle.run_history.specs.Calls.{CallsAre, ComesWith, IsFailed, IsGiven, IsNothing, IsPut, IsRoom, before, without_last}
 use Rattle.run_history.specs.Given.{gift, gift_after, got_last}
-use Rattle.run_history.specs.Honest.{GiftsAreLast, IsHonest, IsLastPut, gift_of, last_put}
+use Rattle.run_history.specs.Honest.{IsHonest, gift_of, last_put}
+use Rattle.run_history.specs.inner.Honest.{GiftsAreLast, IsLastPut}
 use Rattle.run_history.specs.Stored.{PutsSealed, StoreCalls, Tells}
 
 -- ---- the last record put of a page

@@ -12,7 +12,8 @@ use Rattle.driver_rules.specs.Ages.{AgeRule, KickRule}
 use Rattle.driver_rules.specs.Scripts.{ScriptRule}
 use Rattle.run_history.specs.declared.rules.Rule.{Rule}
 use Rattle.run_history.specs.declared.rules.Rule.TheVariants as rules
-use Rattle.run_history.specs.Histories.{GoesOn, Says, is_machines, is_note}
+use Rattle.run_history.specs.Histories.{Says}
+use Rattle.run_history.specs.inner.Histories.{GoesOn, is_machines, is_note}
 
 -- what a rule of the machine says of the place is all that it says of such an entry
 pub note_says : (j : JobView) (past : List Entry) (a : Actor) (ev : Event) (rule : Rule) → is_note ev ≡ true → is_machines rule ≡ true

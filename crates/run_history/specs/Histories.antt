@@ -1,8 +1,6 @@
 -- The rules of a trace together: what each says of a place, and when a trace keeps them, goes on, or fails. Entries stand newest first.
-use Rattle.std.specs.Prelude.{ℕ, ◌≡◌, ◌<◌, Bool, true, false, List, [], ◌∷◌, ◌++◌, Option, Some, None, length}
+use Rattle.std.specs.Prelude.{ℕ, ◌≡◌, ◌<◌, List, [], ◌∷◌, ◌++◌, Option, Some, None, length}
 use Rattle.sgx_rules.specs.declared.entries.Entry.{Entry}
-use Rattle.sgx_rules.specs.declared.entries.Event.{Event}
-use Rattle.sgx_rules.specs.declared.entries.Event.TheVariants.{Age, Kick, Bus}
 use Rattle.sgx_rules.specs.Rules.{EvictRule, FitsRule, FlatRule, NoneStale, NoPageTwice, RefusalRule, StaleRule}
 use Rattle.sgx_rules.specs.Fresh.{FreshRule}
 use Rattle.seal_record.specs.Sealing.{SealedRule}
@@ -27,20 +25,6 @@ rank rules.Sealed = 7
 rank rules.Measure = 8
 rank rules.Age = 9
 rank rules.Kick = 10
-
--- the rules that say nothing of a driver
-abbrev pub is_machines : Rule → Bool
-is_machines rules.Script = false
-is_machines rules.Age = false
-is_machines rules.Kick = false
-is_machines _ = true
-
--- an entry of no instruction: a look, a kick, or why a page did not come back
-abbrev pub is_note : Event → Bool
-is_note (Age page look) = true
-is_note (Kick cpu) = true
-is_note (Bus page reason) = true
-is_note _ = false
 
 -- ---- what a rule says of a place: of the entries before it, and of the next one, None at the end
 
@@ -85,20 +69,6 @@ Keeps j rule past = Throughout (Says j rule) past
 -- a trace is a history of the job
 pub record History (j : JobView) (past : List Entry) : Type 0 where
   pub script : Keeps j rules.Script past
-  pub refusal : Keeps j rules.Refusal past
-  pub flat : Keeps j rules.Flat past
-  pub fits : Keeps j rules.Fits past
-  pub stale : Keeps j rules.Stale past
-  pub evict : Keeps j rules.Evict past
-  pub fresh : Keeps j rules.Fresh past
-  pub sealed : Keeps j rules.Sealed past
-  pub measure : Keeps j rules.Measure past
-  pub age : Keeps j rules.Age past
-  pub kick : Keeps j rules.Kick past
-
--- .. or a history that goes on: nothing is asked of its end
-pub record GoesOn (j : JobView) (past : List Entry) : Type 0 where
-  pub script : Before (Says j rules.Script) past
   pub refusal : Keeps j rules.Refusal past
   pub flat : Keeps j rules.Flat past
   pub fits : Keeps j rules.Fits past

@@ -3,3 +3,4 @@ pub mod Calls
 pub mod Given
 pub mod Stored
 pub mod Honest
+pub mod inner

@@ -6,7 +6,7 @@ use Rattle.std.proofs.lemmas.List.Sorted.{IsPermutation-reverse, list_any-IsPerm
 use Rattle.sgx_rules.specs.declared.entries.Entry.{Entry}
 use Rattle.driver_rules.specs.Stops.{is_bus, is_spent, spends}
 use Rattle.run_book.specs.Lost.{AllCameBack}
-use Rattle.run_jobs.specs.Ends.{tells_loss, tells_spent}
+use Rattle.run_jobs.specs.inner.Ends.{tells_loss, tells_spent}
 
 -- ---- in either order
 

@@ -9,10 +9,11 @@ use Rattle.driver_rules.specs.Scripts.{IsDone, IsEnded}
 use Rattle.honest_store.proofs.DoneLaws.{all_done}
 use Rattle.run_book.specs.Lost.{AllCameBack}
 use Rattle.run_history.specs.Given.{UnforgedRun}
-use Rattle.run_history.specs.Histories.{GoesOn, History}
+use Rattle.run_history.specs.Histories.{History}
+use Rattle.run_history.specs.inner.Histories.{GoesOn}
 use Rattle.run_history.specs.Honest.{IsHonest}
 use Rattle.run_history.specs.Stored.{PutsAreFlat}
-use Rattle.crew.specs.Views.{BookView, Holds}
+use Rattle.crew.specs.inner.Views.{BookView, Holds}
 use Rattle.run_jobs.specs.Ends.{IsEndOf}
 use Rattle.run_jobs.specs.Runs.{WholeRun}
 use Rattle.run_jobs.specs.declared.ends.End.{End}

@@ -18,8 +18,9 @@ use Rattle.sgx_types.specs.declared.names.Page.{Page}
 use Rattle.sgx_types.specs.declared.names.Perm.{Perm}
 use Rattle.sgx_rules.specs.declared.refusals.Refusal.{Refusal}
 use Rattle.sgx_rules.specs.declared.refusals.Refusal.TheVariants as why
-use Rattle.sgx_rules.specs.Enclaves.{EnclavesAreFlat, created, created_by}
-use Rattle.sgx_rules.specs.Flat.{FlatEnclave, FlatMemory, Inside, accepts, added_as, cpu_after, enclave_sight_of, event_after, first_words}
+use Rattle.sgx_rules.specs.inner.Enclaves.{EnclavesAreFlat, created, created_by}
+use Rattle.sgx_rules.specs.Flat.{FlatEnclave, FlatMemory, Inside, accepts, added_as, cpu_after, enclave_sight_of, event_after}
+use Rattle.sgx_rules.specs.Flat.{first_words}
 use Rattle.sgx_rules.specs.Flat.{flat, flat_build_row, marked, memory_after, open_frame, saved, stored, sum_of, word_seen}
 use Rattle.sgx_types.specs.Pages.{page_at, same_page}
 use Rattle.sgx_rules.specs.Frames.{added, added_by}
@@ -27,13 +28,13 @@ use Rattle.sgx_rules.specs.Table.{add_row, create_row, first_of_row, init_row}
 use Rattle.sgx_types.proofs.Pages.{same_page-swap}
 use Rattle.page_history.proofs.FlatLaws.{event_kinds}
 use Rattle.measure_log.specs.Rule.{IsExpected, IsOther}
-use Rattle.paging_laws.specs.Columns.{HasColumns}
-use Rattle.paging_laws.specs.State.{State, after_init, row_of, sight}
-use Rattle.paging_laws.specs.Steps.{IsDone, IsStep, did_by, refused_by}
+use Rattle.paging_laws.specs.inner.Columns.{HasColumns}
+use Rattle.paging_laws.specs.inner.State.{State, after_init, row_of, sight}
+use Rattle.paging_laws.specs.inner.Steps.{IsDone, IsStep, did_by, refused_by}
 use Rattle.paging_laws.proofs.BuildLaws.{add_open, create_open, is_some-added_as}
 use Rattle.paging_laws.proofs.ColumnLaws.{enclave_seen, page_seen}
 use Rattle.paging_laws.proofs.TestLaws.{is_none-None}
-use Rattle.run_records.specs.Builds.{builds, is_building}
+use Rattle.run_records.specs.inner.Builds.{builds, is_building}
 
 -- nothing was built, on either side
 pub flat_first : EnclavesAreFlat []

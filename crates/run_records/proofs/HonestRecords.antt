@@ -19,11 +19,11 @@ use Rattle.sgx_types.specs.Sealed.{Sealed}
 use Rattle.sgx_rules.specs.Slots.{version_in}
 use Rattle.job_grammar.specs.Jobs.{JobView}
 use Rattle.backing_store.specs.Calls.{Call, Failed, Given, Got, Nothing, Put, Room}
-use Rattle.paging_machine.specs.Parts.{Parts, state_of}
+use Rattle.paging_machine.specs.inner.Parts.{Parts, state_of}
 use Rattle.driver_rules.specs.Dues.{IsFetch, IsNext}
 use Rattle.driver_rules.specs.Places.{Absent, Away, Here, Leaving, Loading, Place, place}
 use Rattle.driver_rules.specs.Turns.{Loads, fetches, last_of}
-use Rattle.driver_laws.specs.Sound.{IsSound, slot_outside, version_out}
+use Rattle.driver_laws.specs.inner.Sound.{IsSound, slot_outside, version_out}
 use Rattle.driver_tables.specs.declared.driver.Driver.{Driver}
 use Rattle.turn_tables.specs.declared.turns.Turns.{Turns}
 use Rattle.run_history.specs.Calls.{ComesByBus, IsFailed, IsNothing, before, is_lost}
@@ -31,9 +31,9 @@ use Rattle.run_history.specs.Honest.{IsHonest, gift_of, last_put}
 use Rattle.run_history.specs.Stored.{StoreCalls}
 use Rattle.run_history.proofs.HonestLaws.{last_sealed}
 use Rattle.fault_handler.specs.declared.answers.Loaded.{Loaded}
-use Rattle.fault_handler.specs.Finishing.{CanFinish, IsBack, IsFinished}
+use Rattle.fault_handler.specs.inner.Finishing.{CanFinish, IsBack, IsFinished}
 use Rattle.fault_handler.proofs.HonestLaws.{honest_back}
-use Rattle.run_book.specs.Books.{KeepsBook}
+use Rattle.run_book.specs.inner.Books.{KeepsBook}
 use Rattle.driver_rules.specs.Stops.{is_bus}
 use Rattle.run_records.proofs.LoadRecords.{given}
 

@@ -11,13 +11,14 @@ use Rattle.sgx_types.specs.declared.names.Kind.{Kind}
 use Rattle.sgx_types.specs.declared.names.Page.{Page}
 use Rattle.sgx_types.specs.declared.names.Perm.{Perm}
 use Rattle.sgx_rules.specs.Flat.{FlatEnclave, FlatPage, added_as, flat, header_at, header_by}
-use Rattle.sgx_rules.specs.Frames.{Content, Free, Holds, IsLoading, IsVa, SecsOf, added, added_by, content, held_after, made_before}
+use Rattle.sgx_rules.specs.Frames.{Content, Free, Holds, IsLoading, IsVa, SecsOf, added, added_by, content, held_after}
+use Rattle.sgx_rules.specs.Frames.{made_before}
 use Rattle.sgx_types.specs.Pages.{page_at, same_page}
 use Rattle.sgx_rules.specs.Frames.{put_by, reloaded, vas_made}
 use Rattle.sgx_types.specs.Sealed.{header_of}
 use Rattle.sgx_types.proofs.Pages.{same_page-refl}
-use Rattle.driver_laws.specs.Counted.{pages_added, with_added}
-use Rattle.driver_laws.specs.Sound.{times}
+use Rattle.driver_laws.specs.inner.Counted.{pages_added, with_added}
+use Rattle.driver_laws.specs.inner.Sound.{times}
 
 -- ---- pages that were added once
 

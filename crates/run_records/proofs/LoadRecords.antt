@@ -21,51 +21,53 @@ use Rattle.sgx_rules.specs.Flat.{header_at}
 use Rattle.sgx_rules.specs.Frames.{least_free}
 use Rattle.sgx_types.specs.Making.{Making}
 use Rattle.sgx_types.specs.Sealed.{Sealed}
-use Rattle.sgx_rules.specs.Starts.{Start, open_start, BareStart}
+use Rattle.sgx_rules.specs.Starts.{Start, open_start}
+use Rattle.sgx_rules.specs.inner.Starts.{BareStart}
 use Rattle.sgx_rules.specs.Table.{first_of_row}
 use Rattle.sgx_types.proofs.Truths.{both_true, not_false}
-use Rattle.sgx_rules.specs.Enclaves.{EnclavesAreFlat}
+use Rattle.sgx_rules.specs.inner.Enclaves.{EnclavesAreFlat}
 use Rattle.sgx_rules.proofs.Busy.{IsBareOf}
 use Rattle.seal_record.specs.Cipher.{tag}
-use Rattle.seal_record.specs.Row.{eld_row, is_header, same_header}
+use Rattle.seal_record.specs.inner.Row.{eld_row, is_header, same_header}
 use Rattle.job_grammar.specs.Jobs.{JobView}
 use Rattle.turn_rules.specs.Script.{frame_at}
-use Rattle.backing_store.specs.Calls.{Call, told_got}
+use Rattle.backing_store.specs.Calls.{Call}
+use Rattle.backing_store.specs.inner.Calls.{told_got}
 use Rattle.backing_store.specs.declared.backing.StoreFault.{StoreFault}
 use Rattle.backing_store.specs.declared.backing.StoreFault.TheVariants as faults
-use Rattle.active_list.specs.Keeping.{record_kept}
-use Rattle.active_list.specs.Places.{IsPlaced}
-use Rattle.active_list.specs.States.{state_of as page_state}
+use Rattle.active_list.specs.inner.Keeping.{record_kept}
+use Rattle.active_list.specs.inner.Places.{IsPlaced}
+use Rattle.active_list.specs.inner.States.{state_of as page_state}
 use Rattle.active_list.specs.declared.page_states.PageState.{PageState}
 use Rattle.active_list.specs.declared.page_states.PageState.TheVariants as states
-use Rattle.paging_laws.specs.State.{State}
-use Rattle.paging_laws.specs.Steps.{IsComing, IsReloaded, commit_row, did_by, refused_by}
+use Rattle.paging_laws.specs.inner.State.{State}
+use Rattle.paging_laws.specs.inner.Steps.{IsComing, IsReloaded, commit_row, did_by, refused_by}
 use Rattle.paging_laws.proofs.ColumnLaws.{enclave_seen, page_seen}
 use Rattle.paging_laws.proofs.SlotLaws.{started_as}
-use Rattle.paging_machine.specs.Parts.{Parts, state_of}
+use Rattle.paging_machine.specs.inner.Parts.{Parts, state_of}
 use Rattle.driver_rules.specs.Places.{Loading}
-use Rattle.driver_rules.specs.Reclaims.{is_refused}
+use Rattle.driver_rules.specs.inner.Reclaims.{is_refused}
 use Rattle.driver_rules.specs.Turns.{Loads, last_of}
 use Rattle.driver_tables.specs.declared.driver.Driver.{Driver}
-use Rattle.driver_steps.specs.Agrees.{Agrees}
+use Rattle.driver_steps.specs.inner.Agrees.{Agrees}
 use Rattle.turn_tables.specs.declared.turns.Turns.{Turns}
 use Rattle.run_history.specs.Calls.{before}
 use Rattle.run_history.specs.Given.{gift}
 use Rattle.run_history.specs.Stored.{IsBackBy, IsUnfit}
 use Rattle.run_history.specs.Stored.{Tells as TellsRecord}
-use Rattle.driver_calls.specs.Comes.{AnswerComes, Comes, EndComes, Tells, bus_of}
+use Rattle.driver_calls.specs.inner.Comes.{AnswerComes, Comes, EndComes, Tells, bus_of}
 use Rattle.driver_calls.proofs.FaultLaws.{end_tells, resolved_tells}
 use Rattle.fault_handler.specs.declared.answers.FaultAnswer.{FaultAnswer}
 use Rattle.fault_handler.specs.declared.answers.FaultAnswer.TheVariants as answers
 use Rattle.fault_handler.specs.declared.answers.Loaded.{Loaded}
 use Rattle.fault_handler.specs.declared.answers.Loaded.TheVariants as ends
-use Rattle.fault_handler.specs.Finishing.{CanFinish, IsFinished}
-use Rattle.fault_handler.specs.Resolving.{IsFetch, IsGot, IsResolved}
+use Rattle.fault_handler.specs.inner.Finishing.{CanFinish, IsFinished}
+use Rattle.fault_handler.specs.inner.Resolving.{IsFetch, IsGot, IsResolved}
 use Rattle.fault_handler.proofs.EndLaws.{end_frame}
-use Rattle.run_book.specs.Books.{AreTold, IsTold, KeepsBook}
-use Rattle.run_book.specs.Loads.{OfAnswer, entry_in}
-use Rattle.run_records.specs.Builds.{is_building}
-use Rattle.run_records.specs.Silent.{HasNoEntry, IsSilent, OfBus}
+use Rattle.run_book.specs.inner.Books.{AreTold, IsTold, KeepsBook}
+use Rattle.run_book.specs.inner.Loads.{OfAnswer, entry_in}
+use Rattle.run_records.specs.inner.Builds.{is_building}
+use Rattle.run_records.specs.inner.Silent.{HasNoEntry, IsSilent, OfBus}
 use Rattle.run_records.proofs.FlatSteps.{flat_other}
 use Rattle.run_records.proofs.KindLaws.{header_told}
 use Rattle.run_records.proofs.ToldLaws.{eldstart_silent}

@@ -18,16 +18,17 @@ use Rattle.sgx_types.specs.Making.{Making}
 use Rattle.sgx_types.specs.declared.record.Header.{Header}
 use Rattle.sgx_rules.specs.Flat.{header_at}
 use Rattle.sgx_types.specs.Sealed.{Sealed}
-use Rattle.sgx_rules.specs.Enclaves.{EnclavesAreFlat}
+use Rattle.sgx_rules.specs.inner.Enclaves.{EnclavesAreFlat}
 use Rattle.job_grammar.specs.Jobs.{JobView}
 use Rattle.seal_record.specs.Cipher.{cipher, sealed, tag}
-use Rattle.backing_store.specs.Calls.{Call, Put, with_call}
-use Rattle.paging_laws.specs.State.{State}
-use Rattle.paging_laws.specs.Steps.{IsHeaderIn, IsWrittenOut}
+use Rattle.backing_store.specs.Calls.{Call, Put}
+use Rattle.backing_store.specs.inner.Calls.{with_call}
+use Rattle.paging_laws.specs.inner.State.{State}
+use Rattle.paging_laws.specs.inner.Steps.{IsHeaderIn, IsWrittenOut}
 use Rattle.paging_laws.proofs.ColumnLaws.{content_is, enclave_seen}
-use Rattle.paging_machine.specs.Parts.{Parts, cpu_at, state_of}
-use Rattle.driver_laws.specs.Counted.{pages_added}
-use Rattle.driver_laws.specs.Sound.{times}
+use Rattle.paging_machine.specs.inner.Parts.{Parts, cpu_at, state_of}
+use Rattle.driver_laws.specs.inner.Counted.{pages_added}
+use Rattle.driver_laws.specs.inner.Sound.{times}
 use Rattle.driver_rules.specs.declared.waits.Why.TheVariants as waits
 use Rattle.driver_tables.specs.declared.driver.Driver.{Driver}
 use Rattle.turn_tables.specs.declared.turns.Turns.{Turns}
@@ -35,7 +36,7 @@ use Rattle.run_history.specs.Calls.{before}
 use Rattle.run_history.specs.Given.{gift}
 use Rattle.run_history.specs.Stored.{IsSealedRecord}
 use Rattle.run_history.specs.Stored.{Tells as TellsRecord}
-use Rattle.driver_calls.specs.Comes.{Comes, Tells, TurnComes}
+use Rattle.driver_calls.specs.inner.Comes.{Comes, Tells, TurnComes}
 use Rattle.driver_calls.proofs.PassLaws.{stored_tells, turn_tells}
 use Rattle.reclaim_worker.specs.declared.turns.Form.{Form}
 use Rattle.reclaim_worker.specs.declared.turns.Form.TheVariants as forms
@@ -44,20 +45,20 @@ use Rattle.reclaim_worker.specs.declared.turns.Phase.TheVariants as phases
 use Rattle.reclaim_worker.specs.declared.turns.PassTurn.{PassTurn}
 use Rattle.reclaim_worker.specs.declared.turns.PassTurn.TheVariants as turns
 use Rattle.reclaim_worker.specs.declared.turns.Taken.{Taken}
-use Rattle.reclaim_worker.specs.Answers.{by_reclaimer}
-use Rattle.reclaim_worker.specs.Asked.{look_in, look_told, told_by}
-use Rattle.reclaim_worker.specs.Looked.{told_look}
-use Rattle.reclaim_worker.specs.Moves.{IsBlockTurn, IsTryTurn, turn_of, turn_of_track}
-use Rattle.reclaim_worker.specs.Ready.{Ready}
-use Rattle.reclaim_worker.specs.Rests.{DriverSays, IsWait}
-use Rattle.reclaim_worker.specs.Scans.{IsScanned}
-use Rattle.reclaim_worker.specs.Stored.{IsStored, StoredSays}
-use Rattle.reclaim_worker.specs.Tried.{count_from, is_kept_by}
-use Rattle.reclaim_worker.specs.Turning.{IsFormTurn, TurnSays, WithPage}
-use Rattle.run_book.specs.Books.{AreTold, IsTold, KeepsBook}
-use Rattle.run_book.specs.Turns.{OfEntry}
-use Rattle.run_records.specs.Builds.{is_building}
-use Rattle.run_records.specs.Silent.{IsSilent, MakesNoEntry}
+use Rattle.reclaim_worker.specs.inner.Answers.{by_reclaimer}
+use Rattle.reclaim_worker.specs.inner.Asked.{look_in, look_told, told_by}
+use Rattle.reclaim_worker.specs.inner.Looked.{told_look}
+use Rattle.reclaim_worker.specs.inner.Moves.{IsBlockTurn, IsTryTurn, turn_of, turn_of_track}
+use Rattle.reclaim_worker.specs.inner.Ready.{Ready}
+use Rattle.reclaim_worker.specs.inner.Rests.{DriverSays, IsWait}
+use Rattle.reclaim_worker.specs.inner.Scans.{IsScanned}
+use Rattle.reclaim_worker.specs.inner.Stored.{IsStored, StoredSays}
+use Rattle.reclaim_worker.specs.inner.Tried.{count_from, is_kept_by}
+use Rattle.reclaim_worker.specs.inner.Turning.{IsFormTurn, TurnSays, WithPage}
+use Rattle.run_book.specs.inner.Books.{AreTold, IsTold, KeepsBook}
+use Rattle.run_book.specs.inner.Turns.{OfEntry}
+use Rattle.run_records.specs.inner.Builds.{is_building}
+use Rattle.run_records.specs.inner.Silent.{IsSilent, MakesNoEntry}
 use Rattle.run_records.proofs.FlatSteps.{flat_other}
 use Rattle.run_records.proofs.KindLaws.{header_told, held_kind}
 use Rattle.run_records.proofs.ToldLaws.{block_silent, ewbstart_silent, track_silent}

@@ -1,2 +1,1 @@
-pub mod Builds
-pub mod Silent
+pub mod inner

@@ -2,7 +2,7 @@
 use Rattle.std.proofs.Common.{◌≡◌, ℕ, ◌+◌, ◌<◌, List, ◌∷◌, Option, get_or, length, reverse, subst, sym, take}
 use Rattle.sgx_rules.specs.declared.entries.Entry.{Entry}
 use Rattle.trace_text.proofs.EntryLaws.{newest_more}
-use Rattle.run_replies.specs.Gathered.{AreEndings, AreReplies}
+use Rattle.run_replies.specs.inner.Gathered.{AreEndings, AreReplies}
 use Rattle.run_replies.specs.declared.replies.Ending.{Ending}
 use Rattle.run_replies.specs.declared.replies.Replies.{Replies}
 

@@ -1,6 +1,7 @@
 -- The lines of enclaves and processors, one number after another.
 use Rattle.std.proofs.Common.{Option, refl, ap₂, reverse, take}
-use Rattle.std.proofs.Common.{◌≡◌, ℕ, zero, suc, ◌+◌, ◌<◌, ◌≤◌, List, [], ◌∷◌, ◌++◌, length, get_or, sym, ap, subst, ◌∙◌, add-one, arith}
+use Rattle.std.proofs.Common.{◌≡◌, ℕ, zero, suc, ◌+◌, ◌<◌, ◌≤◌, List, [], ◌∷◌, ◌++◌, length, get_or, sym, ap, subst, ◌∙◌}
+use Rattle.std.proofs.Common.{add-one, arith}
 use Rattle.std.specs.List.{flat_map}
 use Rattle.std.proofs.lemmas.List.{append-nil, append_assoc, take_all}
 use Rattle.std.proofs.lemmas.List.Concat.{flat_map-append}
@@ -8,7 +9,7 @@ use Rattle.sgx_rules.specs.declared.entries.Entry.{Entry}
 use Rattle.job_grammar.specs.Jobs.{JobView}
 use Rattle.turn_rules.specs.Script.{numbers_from}
 use Rattle.text_words.specs.Words.{Words, line_text}
-use Rattle.run_replies.specs.Gathered.{IsReplies, line_at, lines_of}
+use Rattle.run_replies.specs.inner.Gathered.{IsReplies, line_at, lines_of}
 use Rattle.run_replies.specs.OutText.{cpu_lines, enclave_lines, out_of}
 use Rattle.run_replies.proofs.EntryLaws.{Gathers}
 use Rattle.run_replies.specs.declared.replies.Ending.{Ending}

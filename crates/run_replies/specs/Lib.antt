@@ -1,2 +1,2 @@
 pub mod OutText
-pub mod Gathered
+pub mod inner

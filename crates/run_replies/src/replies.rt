@@ -4,9 +4,9 @@ ghost use Rattle.std.specs.Prelude.{ℕ, ◌≡◌, ◌<◌, true, List, [], ◌
 ghost use Rattle.sgx_rules.specs.declared.entries.Entry.{Entry};
 ghost use Rattle.sgx_rules.specs.Processors.{is_by};
 ghost use Rattle.turn_rules.specs.Script.{interrupted_after, numbers_from};
-ghost use Rattle.text_words.specs.Room.{HasRoom};
+ghost use Rattle.text_words.specs.inner.Room.{HasRoom};
 ghost use Rattle.text_words.specs.Words.{Words, line_text};
-ghost use Rattle.run_replies.specs.Gathered.{AreEndings, AreReplies, IsReplies, ended_by, ending_lines, line_at, lines_of};
+ghost use Rattle.run_replies.specs.inner.Gathered.{AreEndings, AreReplies, IsReplies, ended_by, ending_lines, line_at, lines_of};
 ghost use Rattle.run_replies.specs.OutText.{done_reply, init_line, out_of, refused_reply, reply_words};
 
 use job_grammar::jobs::Job;

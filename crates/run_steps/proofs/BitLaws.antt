@@ -4,8 +4,8 @@ use Rattle.std.proofs.Common.{true, false, if◌then◌else◌, refl, sym, ◌�
 use Rattle.std.proofs.Common.{◌∷◌, ◌++◌, nat_lt, arith}
 use Rattle.std.proofs.lemmas.Bool.{eqb-true, false≢true}
 use Rattle.std.proofs.lemmas.Nat.Bits.{bit_at-suc}
-use Rattle.reclaim_worker.specs.Answers.{bits_from, bits_of}
-use Rattle.run_steps.specs.Bits.{AllBelow, GoesOnBy, RisesFrom, below, has_bit, is_member}
+use Rattle.reclaim_worker.specs.inner.Answers.{bits_from, bits_of}
+use Rattle.run_steps.specs.inner.Bits.{AllBelow, GoesOnBy, RisesFrom, below, has_bit, is_member}
 
 -- ---- lists that rise
 

@@ -7,24 +7,24 @@ use Rattle.sgx_rules.specs.declared.entries.Event.{Event}
 use Rattle.sgx_types.specs.Making.{Making}
 use Rattle.backing_store.specs.Calls.{Call}
 use Rattle.cached_translations.specs.declared.processor.Mode.{Mode}
-use Rattle.epcm_entry.specs.Epc.{is_free_frame}
+use Rattle.epcm_entry.specs.inner.Epc.{is_free_frame}
 use Rattle.job_grammar.specs.Jobs.{JobView}
-use Rattle.paging_laws.specs.Columns.{HasColumns}
-use Rattle.paging_laws.specs.Shape.{ShapeWithRules}
+use Rattle.paging_laws.specs.inner.Columns.{HasColumns}
+use Rattle.paging_laws.specs.inner.Shape.{ShapeWithRules}
 use Rattle.paging_laws.proofs.ColumnLaws.{inside_is}
-use Rattle.paging_machine.specs.Parts.{Parts, seat_of_mode, state_of}
+use Rattle.paging_machine.specs.inner.Parts.{Parts, seat_of_mode, state_of}
 use Rattle.driver_rules.specs.Passes.{free_count}
 use Rattle.driver_rules.specs.Scripts.{IsActors}
-use Rattle.driver_laws.specs.Three.{TcsAreApart}
+use Rattle.driver_laws.specs.inner.Three.{TcsAreApart}
 use Rattle.driver_laws.proofs.TcsLaws.{apart_stay}
 use Rattle.driver_tables.specs.declared.driver.Driver.{Driver}
 use Rattle.turn_tables.specs.declared.turns.Turns.{Turns}
-use Rattle.turn_tables.specs.Entries.{CanNote, StoodSo}
-use Rattle.turn_tables.specs.Holding.{KeepsHolds, mode_of}
-use Rattle.turn_tables.specs.Noting.{IsAmong}
+use Rattle.turn_tables.specs.inner.Entries.{CanNote, StoodSo}
+use Rattle.turn_tables.specs.inner.Holding.{KeepsHolds, mode_of}
+use Rattle.turn_tables.specs.inner.Noting.{IsAmong}
 use Rattle.reclaim_worker.proofs.DueLaws.{free_is}
-use Rattle.run_book.specs.Books.{IsMade, KeepsBook}
-use Rattle.run_steps.specs.Behind.{CanHoldBehind}
+use Rattle.run_book.specs.inner.Books.{IsMade, KeepsBook}
+use Rattle.run_steps.specs.inner.Behind.{CanHoldBehind}
 
 -- ---- how the processor stood
 

@@ -2,11 +2,11 @@
 use Rattle.std.proofs.Common.{◌≡◌, ℕ, List, [], length, ap, ◌∙◌}
 use Rattle.std.proofs.lemmas.List.{length-replicate}
 use Rattle.job_grammar.specs.Jobs.{JobView}
-use Rattle.epcm_entry.specs.Epc.{free_frame}
-use Rattle.paging_laws.specs.Histories.{StandsWithAllRules}
-use Rattle.paging_laws.specs.Shape.{ShapeWithRules}
-use Rattle.paging_laws.specs.State.{making_of}
-use Rattle.paging_machine.specs.Parts.{Parts, idle, made, state_of}
+use Rattle.epcm_entry.specs.inner.Epc.{free_frame}
+use Rattle.paging_laws.specs.inner.Histories.{StandsWithAllRules}
+use Rattle.paging_laws.specs.inner.Shape.{ShapeWithRules}
+use Rattle.paging_laws.specs.inner.State.{making_of}
+use Rattle.paging_machine.specs.inner.Parts.{Parts, idle, made, state_of}
 use Rattle.turn_rules.specs.Machines.{machine_of}
 
 -- a new machine, which was made for the job and stands for no entry

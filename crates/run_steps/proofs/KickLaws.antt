@@ -9,26 +9,27 @@ use Rattle.sgx_types.specs.declared.names.Page.{Page}
 use Rattle.sgx_rules.specs.Eviction.{block_place}
 use Rattle.sgx_types.specs.Making.{Making}
 use Rattle.job_grammar.specs.Jobs.{JobView}
-use Rattle.paging_machine.specs.Parts.{Parts}
+use Rattle.paging_machine.specs.inner.Parts.{Parts}
 use Rattle.driver_rules.specs.Ages.{FormOf, InForm, IsKickOrTry, PassOf}
 use Rattle.driver_rules.specs.Dues.{Due, KicksAll}
-use Rattle.driver_rules.specs.Passes.{Form, Kicks, ToKick, Tries, decided, free_count, keepers, keepers_behind, keepers_from, keepers_in}
+use Rattle.driver_rules.specs.Passes.{Form, Kicks, ToKick, Tries, decided, free_count, keepers, keepers_behind, keepers_from}
+use Rattle.driver_rules.specs.Passes.{keepers_in}
 use Rattle.driver_rules.specs.Passes.{keeps_from, kicks_on, pass, pass_after}
 use Rattle.driver_rules.specs.Places.{frame_leaving, place}
-use Rattle.driver_rules.specs.Reclaims.{pass_due}
+use Rattle.driver_rules.specs.inner.Reclaims.{pass_due}
 use Rattle.driver_rules.specs.Stops.{is_spent}
 use Rattle.driver_tables.specs.declared.driver.Driver.{Driver}
 use Rattle.driver_tables.proofs.ShowLaws.{shows_quiet_entry}
-use Rattle.driver_steps.specs.Agrees.{Agrees}
-use Rattle.driver_steps.specs.Asked.{IsNextOf}
+use Rattle.driver_steps.specs.inner.Agrees.{Agrees}
+use Rattle.driver_steps.specs.inner.Asked.{IsNextOf}
 use Rattle.reclaim_worker.specs.declared.turns.Form.TheVariants as forms
 use Rattle.reclaim_worker.specs.declared.turns.Phase.TheVariants as phases
 use Rattle.reclaim_worker.specs.declared.turns.Taken.{Taken}
-use Rattle.reclaim_worker.specs.After.{cpu_of, kicked_past}
-use Rattle.reclaim_worker.specs.Answers.{by_reclaimer}
-use Rattle.reclaim_worker.specs.Standing.{StandsFor, pages_in}
-use Rattle.run_book.specs.Loads.{GoesOnWith}
-use Rattle.run_steps.specs.Bits.{AllBelow, RisesFrom}
+use Rattle.reclaim_worker.specs.inner.After.{cpu_of, kicked_past}
+use Rattle.reclaim_worker.specs.inner.Answers.{by_reclaimer}
+use Rattle.reclaim_worker.specs.inner.Standing.{StandsFor, pages_in}
+use Rattle.run_book.specs.inner.Loads.{GoesOnWith}
+use Rattle.run_steps.specs.inner.Bits.{AllBelow, RisesFrom}
 use Rattle.run_steps.proofs.BitLaws.{rises_sooner}
 
 -- ---- whom it kicks

@@ -13,14 +13,15 @@ use Rattle.job_grammar.specs.Jobs.{JobView}
 use Rattle.turn_rules.specs.declared.steps.BuildStep.{BuildStep}
 use Rattle.turn_rules.specs.declared.steps.BuildStep.TheVariants as builds
 use Rattle.turn_rules.specs.Script.{build_of, built, with_frame}
-use Rattle.paging_laws.specs.Steps.{CanApply, MayNeedMemory}
+use Rattle.paging_laws.specs.inner.Steps.{CanApply, MayNeedMemory}
 use Rattle.driver_rules.specs.declared.waits.Why.TheVariants as waits
 use Rattle.driver_rules.specs.Dues.{Due, Makes, Stopped, makes_or}
 use Rattle.driver_rules.specs.Stops.{is_spent}
-use Rattle.driver_rules.specs.Turns.{Fails, Last, Loads, Other, WasEnded, builder_due, cpu_due, due_after, is_last, last_of, step_turn}
+use Rattle.driver_rules.specs.Turns.{Fails, Last, Loads, Other, WasEnded, builder_due, cpu_due, due_after, is_last, last_of}
+use Rattle.driver_rules.specs.Turns.{step_turn}
 use Rattle.driver_rules.specs.Turns.{turn_due}
 use Rattle.driver_laws.proofs.OwnLaws.{OfTurn, is_script, turn_script}
-use Rattle.table_notes.specs.Plain.{is_plain}
+use Rattle.table_notes.specs.inner.Plain.{is_plain}
 
 -- ---- the builder
 

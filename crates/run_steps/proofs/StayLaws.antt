@@ -7,21 +7,21 @@ use Rattle.sgx_rules.specs.declared.entries.Entry.{Entry}
 use Rattle.sgx_rules.specs.declared.entries.Event.{Event}
 use Rattle.sgx_types.specs.Making.{Making}
 use Rattle.job_grammar.specs.Jobs.{JobView}
-use Rattle.paging_machine.specs.Parts.{Parts}
+use Rattle.paging_machine.specs.inner.Parts.{Parts}
 use Rattle.driver_rules.specs.Passes.{Between, Blocking, Pass, Scan, Tries, decided, free_count, pass, pass_after}
 use Rattle.driver_rules.specs.Scripts.{ScriptRule}
-use Rattle.driver_laws.specs.Kinds.{CanMove}
-use Rattle.driver_laws.specs.Tracks.{KeepsTracks, is_reclaimers}
+use Rattle.driver_laws.specs.inner.Kinds.{CanMove}
+use Rattle.driver_laws.specs.inner.Tracks.{KeepsTracks, is_reclaimers}
 use Rattle.driver_laws.proofs.OwnLaws.{script_own}
 use Rattle.driver_tables.specs.declared.driver.Driver.{Driver}
-use Rattle.driver_steps.specs.Agrees.{Agrees}
-use Rattle.driver_steps.specs.Asked.{IsNextOf}
+use Rattle.driver_steps.specs.inner.Agrees.{Agrees}
+use Rattle.driver_steps.specs.inner.Asked.{IsNextOf}
 use Rattle.driver_steps.proofs.AgreesLaws.{agrees_more}
 use Rattle.reclaim_worker.specs.declared.turns.Phase.{Phase}
 use Rattle.reclaim_worker.specs.declared.turns.Taken.{Taken}
-use Rattle.reclaim_worker.specs.Standing.{StandsFor}
+use Rattle.reclaim_worker.specs.inner.Standing.{StandsFor}
 use Rattle.reclaim_worker.proofs.NoteLaws.{others_stand}
-use Rattle.table_notes.specs.Plain.{is_reclaimer}
+use Rattle.table_notes.specs.inner.Plain.{is_reclaimer}
 
 -- looks, kicks, blocks, tracks and write-outs are none of an actor that is not the reclaimer
 pub others_make_none : (j : JobView) (past : List Entry) (e : Entry) → ScriptRule j past e → is_reclaimer e.actor ≡ false

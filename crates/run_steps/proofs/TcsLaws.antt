@@ -9,9 +9,9 @@ use Rattle.job_grammar.specs.declared.jobs.Op.{Op}
 use Rattle.job_grammar.specs.declared.jobs.Op.TheVariants as ops
 use Rattle.job_grammar.specs.Jobs as jobs
 use Rattle.job_grammar.specs.Jobs.{JobView, script_names}
-use Rattle.job_grammar.specs.Valid.{IsValid}
+use Rattle.job_grammar.specs.inner.Valid.{IsValid}
 use Rattle.turn_rules.specs.Script.{script_of}
-use Rattle.driver_laws.specs.Three.{TcsAreApart, is_tcs_of}
+use Rattle.driver_laws.specs.inner.Three.{TcsAreApart, is_tcs_of}
 
 -- an operation names a TCS page by its enclave and its number
 same_name : (g : Page) (op : Op) → is_tcs_of op g ≡ jobs.names_tcs g.enclave g.number op

@@ -5,34 +5,35 @@ use Rattle.sgx_types.specs.declared.names.Actor.{Actor}
 use Rattle.sgx_types.specs.declared.names.Actor.TheVariants as actors
 use Rattle.sgx_rules.specs.declared.entries.Entry.{Entry}
 use Rattle.sgx_types.specs.Making.{Making}
-use Rattle.version_array.specs.Keeper.{Keeper}
-use Rattle.reclaim_worker.specs.Answers.{IsTurn, by_reclaimer}
+use Rattle.version_array.specs.inner.Keeper.{Keeper}
+use Rattle.reclaim_worker.specs.inner.Answers.{IsTurn, by_reclaimer}
 use Rattle.std.specs.Global.{Box}
 use Rattle.seal_record.specs.declared.seal.SealWork.{SealWork}
 use Rattle.job_grammar.specs.Jobs.{JobView}
 use Rattle.backing_store.specs.Calls.{Call}
 use Rattle.turn_rules.specs.Machines.{machine_of}
-use Rattle.paging_machine.specs.Parts.{Parts}
+use Rattle.paging_machine.specs.inner.Parts.{Parts}
 use Rattle.driver_rules.specs.Dues.{Due, Ends, Fetches, Finished, KicksAll, LooksAt, Makes, Reports, Stopped, TriesOut}
 use Rattle.driver_rules.specs.Dues as dues
 use Rattle.driver_rules.specs.Passes.{pass}
-use Rattle.driver_rules.specs.Reclaims.{all_finished, pass_due, reclaimer_due}
-use Rattle.driver_rules.specs.Stops.{frame_started, is_frame, is_spent, started}
+use Rattle.driver_rules.specs.inner.Reclaims.{all_finished, pass_due, reclaimer_due}
+use Rattle.driver_rules.specs.Stops.{is_spent}
+use Rattle.driver_rules.specs.inner.Stops.{frame_started, is_frame, started}
 use Rattle.driver_tables.specs.declared.driver.Driver.{Driver}
 use Rattle.reclaim_worker.specs.declared.passes.Pass as worker
 use Rattle.reclaim_worker.specs.declared.turns.Phase.{Phase}
 use Rattle.reclaim_worker.specs.declared.turns.PassTurn.{PassTurn}
 use Rattle.reclaim_worker.specs.declared.turns.PassTurn.TheVariants as passed
-use Rattle.reclaim_worker.specs.Rests.{IsWait}
-use Rattle.reclaim_worker.specs.Standing.{is_kicked, is_sealing}
+use Rattle.reclaim_worker.specs.inner.Rests.{IsWait}
+use Rattle.reclaim_worker.specs.inner.Standing.{is_kicked, is_sealing}
 use Rattle.reclaim_worker.proofs.NextLaws.{next_is_pass}
 use Rattle.run_turns.specs.declared.course.Course.{Course}
 use Rattle.run_turns.specs.declared.turn.Turn.{Turn}
 use Rattle.run_turns.specs.declared.turn.Turn.TheVariants as turns
-use Rattle.run_turns.specs.Courses.{Grows, IsSame, KeepsCourse, past_of}
-use Rattle.run_turns.specs.Passing.{FollowsBy, HasKicks, HasOne, HasSealed, IsFollowed, IsOwnEntry, IsSealOf}
-use Rattle.run_turns.specs.Turns.{IsAtRest, IsReclaimerTurn, IsWaitBy, MakesMany, due_of}
-use Rattle.reclaim_worker.specs.After.{cpu_of, kicked_past}
+use Rattle.run_turns.specs.inner.Courses.{Grows, IsSame, KeepsCourse, past_of}
+use Rattle.run_turns.specs.inner.Passing.{FollowsBy, HasKicks, HasOne, HasSealed, IsFollowed, IsOwnEntry, IsSealOf}
+use Rattle.run_turns.specs.inner.Turns.{IsAtRest, IsReclaimerTurn, IsWaitBy, MakesMany, due_of}
+use Rattle.reclaim_worker.specs.inner.After.{cpu_of, kicked_past}
 use Rattle.sgx_rules.specs.declared.entries.Event.TheVariants.{Kick}
 use Rattle.run_turns.proofs.PassTurnLaws.{IsTurnEntry, TellsDue, spent_none}
 use Rattle.run_turns.proofs.StartLaws.{none_started}

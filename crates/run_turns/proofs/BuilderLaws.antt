@@ -8,8 +8,8 @@ use Rattle.driver_rules.specs.Turns.{builder_due}
 use Rattle.run_turns.specs.declared.course.Course.{Course}
 use Rattle.run_turns.specs.declared.turn.Turn.{Turn}
 use Rattle.run_turns.specs.declared.turn.Turn.TheVariants as turns
-use Rattle.run_turns.specs.Courses.{Grows, past_of}
-use Rattle.run_turns.specs.Turns.{CanInstruct, CanTurn, IsBuilderTurn}
+use Rattle.run_turns.specs.inner.Courses.{Grows, past_of}
+use Rattle.run_turns.specs.inner.Turns.{CanInstruct, CanTurn, IsBuilderTurn}
 
 -- an instruction was done for it
 pub builder_made : (c new : Course) (action : Action) (r : Result Turn Memory) → (CanTurn c → builder_due c.job (past_of c) ≡ Makes action)

@@ -5,23 +5,24 @@ use Rattle.sgx_rules.specs.declared.entries.Entry.{Entry}
 use Rattle.sgx_rules.specs.declared.entries.Look.{Look}
 use Rattle.sgx_rules.specs.declared.entries.Look.TheVariants as looks
 use Rattle.sgx_types.specs.declared.names.Page.{Page}
-use Rattle.backing_store.specs.Calls.{Call, with_call}
-use Rattle.paging_laws.specs.State.{State}
+use Rattle.backing_store.specs.Calls.{Call}
+use Rattle.backing_store.specs.inner.Calls.{with_call}
+use Rattle.paging_laws.specs.inner.State.{State}
 use Rattle.driver_tables.specs.declared.driver.Driver.{Driver}
 use Rattle.reclaim_worker.specs.declared.turns.PassTurn.{PassTurn}
 use Rattle.reclaim_worker.specs.declared.turns.PassTurn.TheVariants as passed
 use Rattle.reclaim_worker.specs.declared.turns.Phase.{Phase}
 use Rattle.reclaim_worker.specs.declared.turns.Phase.TheVariants as phases
 use Rattle.reclaim_worker.specs.declared.turns.Taken.{Taken}
-use Rattle.reclaim_worker.specs.Asked.{look_in, told_by}
-use Rattle.reclaim_worker.specs.Looked.{told_look}
-use Rattle.reclaim_worker.specs.Rests.{IsWait}
-use Rattle.reclaim_worker.specs.Stored.{IsStored, StoredSays}
+use Rattle.reclaim_worker.specs.inner.Asked.{look_in, told_by}
+use Rattle.reclaim_worker.specs.inner.Looked.{told_look}
+use Rattle.reclaim_worker.specs.inner.Rests.{IsWait}
+use Rattle.reclaim_worker.specs.inner.Stored.{IsStored, StoredSays}
 use Rattle.run_turns.specs.declared.course.Course.{Course}
 use Rattle.run_turns.specs.declared.turn.Turn.{Turn}
 use Rattle.run_turns.specs.declared.turn.Turn.TheVariants as turns
-use Rattle.run_turns.specs.Passing.{IsFollowed, IsWaiting}
-use Rattle.run_turns.specs.Turns.{WritesOut}
+use Rattle.run_turns.specs.inner.Passing.{IsFollowed, IsWaiting}
+use Rattle.run_turns.specs.inner.Turns.{WritesOut}
 
 call_tells : (call : Call) (told : Option (List Call)) → is_some (with_call call told) ≡ is_some told
 call_tells call None = refl

@@ -1,6 +1,7 @@
 -- The end of a write-out can be taken in.
 use Rattle.std.proofs.Common.{◌≡◌, ℕ, ◌+◌, ◌*◌, ◌≤◌, Bool, true, false, if◌then◌else◌, List, ◌∷◌, Option}
-use Rattle.std.proofs.Common.{Some, None, IsSomeAnd, length, count_by, nat_lt, slice_get, vec_len, vec_capacity, refl, sym, ap, subst}
+use Rattle.std.proofs.Common.{Some, None, IsSomeAnd, length, count_by, nat_lt, slice_get, vec_len, vec_capacity, refl, sym, ap}
+use Rattle.std.proofs.Common.{subst}
 use Rattle.std.proofs.Common.{◌∙◌, arith}
 use Rattle.std.proofs.lemmas.Bool.{false≢true}
 use Rattle.sgx_rules.specs.declared.entries.Action.TheVariants.{Ewb}
@@ -11,9 +12,9 @@ use Rattle.sgx_rules.specs.declared.entries.Event.TheVariants.{Did}
 use Rattle.sgx_types.specs.declared.names.Frame.{Frame}
 use Rattle.backing_store.specs.Calls.{Call}
 use Rattle.turn_rules.specs.Machines.{machine_of}
-use Rattle.paging_laws.specs.Shape.{FitsApart, ShapeWithRules}
-use Rattle.paging_laws.specs.State.{State}
-use Rattle.paging_machine.specs.Parts.{Parts, state_of}
+use Rattle.paging_laws.specs.inner.Shape.{FitsApart, ShapeWithRules}
+use Rattle.paging_laws.specs.inner.State.{State}
+use Rattle.paging_machine.specs.inner.Parts.{Parts, state_of}
 use Rattle.driver_rules.specs.Passes.{pass}
 use Rattle.driver_rules.specs.Stops.{is_spent}
 use Rattle.driver_tables.specs.declared.driver.Driver.{Driver}
@@ -22,20 +23,20 @@ use Rattle.reclaim_worker.specs.declared.turns.Form.TheVariants as forms
 use Rattle.reclaim_worker.specs.declared.turns.Phase.{Phase}
 use Rattle.reclaim_worker.specs.declared.turns.Phase.TheVariants as phases
 use Rattle.reclaim_worker.specs.declared.turns.Taken.{Taken}
-use Rattle.reclaim_worker.specs.Ended.{IsEnded}
-use Rattle.reclaim_worker.specs.Ready.{Ready}
-use Rattle.reclaim_worker.specs.Standing.{StandsFor, is_sealing}
-use Rattle.reclaim_worker.specs.Stored.{IsOpen, IsStarted, IsStored, StoredSays, next_phase, still_out}
+use Rattle.reclaim_worker.specs.inner.Ended.{IsEnded}
+use Rattle.reclaim_worker.specs.inner.Ready.{Ready}
+use Rattle.reclaim_worker.specs.inner.Standing.{StandsFor, is_sealing}
+use Rattle.reclaim_worker.specs.inner.Stored.{IsOpen, IsStarted, IsStored, StoredSays, next_phase, still_out}
 use Rattle.reclaim_worker.proofs.AfterLaws.{ahead_length}
 use Rattle.reclaim_worker.proofs.OpenLaws.{can_store}
 use Rattle.run_book.proofs.EndTurns.{out_next}
 use Rattle.run_bytes.proofs.StepBytes.{stored_bytes}
 use Rattle.run_records.proofs.PassRecords.{out_flat, out_told}
-use Rattle.turn_tables.specs.Noting.{with_kick}
-use Rattle.turn_tables.specs.Entries.{EntersApart}
+use Rattle.turn_tables.specs.inner.Noting.{with_kick}
+use Rattle.turn_tables.specs.inner.Entries.{EntersApart}
 use Rattle.run_turns.specs.declared.course.Course.{Course}
-use Rattle.run_turns.specs.Courses.{KeepsCourse, has_open_load, past_of}
-use Rattle.run_turns.specs.Passing.{IsOwnEntry}
+use Rattle.run_turns.specs.inner.Courses.{KeepsCourse, has_open_load, past_of}
+use Rattle.run_turns.specs.inner.Passing.{IsOwnEntry}
 use Rattle.run_turns.proofs.FollowLaws.{course_ready}
 use Rattle.run_turns.proofs.TakeLaws.{own_entry}
 use Rattle.driver_rules.specs.Stops.{is_bus}

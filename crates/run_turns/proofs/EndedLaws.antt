@@ -10,7 +10,7 @@ use Rattle.sgx_types.specs.declared.names.Page.{Page}
 use Rattle.sgx_rules.specs.Processors.{is_by}
 use Rattle.sgx_rules.specs.Starts.{Start, open_start}
 use Rattle.driver_rules.specs.Turns.{Fails, Last, last_by, last_of}
-use Rattle.turn_tables.specs.Ending.{EndsAreTold, IsForRecord, NoneFails}
+use Rattle.turn_tables.specs.inner.Ending.{EndsAreTold, IsForRecord, NoneFails}
 use Rattle.turn_tables.proofs.EndLaws.{ends_go_on}
 
 -- the end of a load that was refused

@@ -13,16 +13,16 @@ use Rattle.driver_rules.specs.declared.waits.Why.{Why}
 use Rattle.driver_rules.specs.declared.waits.Why.TheVariants as waits
 use Rattle.driver_rules.specs.Dues.{Stopped, makes_or}
 use Rattle.driver_rules.specs.Places.{Absent, Away, Here, Leaving, Loading, Place, place}
-use Rattle.driver_rules.specs.Reclaims.{all_finished, are_finished, is_finished}
+use Rattle.driver_rules.specs.inner.Reclaims.{all_finished, are_finished, is_finished}
 use Rattle.driver_rules.specs.Stops.{is_spent}
 use Rattle.driver_rules.specs.Turns.{builder_due, cpu_due, fetches, is_built, step_turn}
 use Rattle.turn_tables.proofs.EndLaws.{past_all}
-use Rattle.turn_tables.specs.Due.{building_in, due_in}
+use Rattle.turn_tables.specs.inner.Due.{building_in, due_in}
 use Rattle.turn_tables.specs.declared.dues.BuilderDue.{BuilderDue}
 use Rattle.turn_tables.specs.declared.dues.BuilderDue.TheVariants as builders
 use Rattle.turn_tables.specs.declared.dues.CpuDue.{CpuDue}
 use Rattle.turn_tables.specs.declared.dues.CpuDue.TheVariants as dues
-use Rattle.run_turns.specs.Passing.{is_building, is_left}
+use Rattle.run_turns.specs.inner.Passing.{is_building, is_left}
 
 -- ---- the builder
 

@@ -5,15 +5,15 @@ use Rattle.std.proofs.lemmas.Bool.{false≢true}
 use Rattle.std.proofs.lemmas.List.Sums.{sum_by-cons}
 use Rattle.sgx_types.specs.Making.{Making}
 use Rattle.job_grammar.specs.Jobs.{JobView, va_pages}
-use Rattle.job_grammar.specs.Valid.{IsValid}
+use Rattle.job_grammar.specs.inner.Valid.{IsValid}
 use Rattle.backing_store.specs.Calls.{Call}
-use Rattle.paging_laws.specs.Histories.{StandsWithAllRules}
-use Rattle.paging_laws.specs.Shape.{FitsApart, ShapeWithRules}
-use Rattle.paging_machine.specs.Parts.{Parts, state_of}
+use Rattle.paging_laws.specs.inner.Histories.{StandsWithAllRules}
+use Rattle.paging_laws.specs.inner.Shape.{FitsApart, ShapeWithRules}
+use Rattle.paging_machine.specs.inner.Parts.{Parts, state_of}
 use Rattle.turn_rules.specs.Machines.{machine_of}
 use Rattle.driver_rules.specs.Passes.{pass}
 use Rattle.driver_rules.specs.Turns as dues
-use Rattle.driver_laws.specs.Counted.{CountsSlots}
+use Rattle.driver_laws.specs.inner.Counted.{CountsSlots}
 use Rattle.driver_laws.proofs.BuiltLaws.{first_built}
 use Rattle.driver_laws.proofs.CountLaws.{first_counts}
 use Rattle.driver_laws.proofs.HistoryLaws.{first_sound}
@@ -22,11 +22,11 @@ use Rattle.driver_laws.proofs.StageLaws.{first_pages}
 use Rattle.driver_laws.proofs.TcsLaws.{apart_first}
 use Rattle.driver_laws.proofs.UsedLaws.{first_used}
 use Rattle.driver_tables.specs.declared.driver.Driver.{Driver}
-use Rattle.driver_tables.specs.Tables.{IsNew}
+use Rattle.driver_tables.specs.inner.Tables.{IsNew}
 use Rattle.driver_tables.proofs.FirstLaws.{shows_first}
-use Rattle.driver_steps.specs.Agrees.{Agrees}
-use Rattle.reclaim_worker.specs.Standing.{StandsFor, is_sealing}
-use Rattle.reclaim_worker.specs.Stored.{still_out}
+use Rattle.driver_steps.specs.inner.Agrees.{Agrees}
+use Rattle.reclaim_worker.specs.inner.Standing.{StandsFor, is_sealing}
+use Rattle.reclaim_worker.specs.inner.Stored.{still_out}
 use Rattle.reclaim_worker.specs.declared.turns.Phase.{Phase}
 use Rattle.reclaim_worker.specs.declared.turns.Phase.TheVariants as phases
 use Rattle.reclaim_worker.specs.declared.turns.Taken.{Taken}
@@ -34,24 +34,24 @@ use Rattle.turn_tables.specs.declared.cpu_turns.CpuTurn.{CpuTurn}
 use Rattle.turn_tables.specs.declared.cpu_turns.Last.{Last}
 use Rattle.turn_tables.specs.declared.cpu_turns.Last.TheVariants as ways
 use Rattle.turn_tables.specs.declared.turns.Turns.{Turns}
-use Rattle.turn_tables.specs.CpuTurns.{last_told, turn_at}
-use Rattle.turn_tables.specs.Ending.{EndsAreTold, NoneFails}
-use Rattle.turn_tables.specs.Holding.{KeepsHolds}
-use Rattle.turn_tables.specs.Shown.{ShowsTurns}
+use Rattle.turn_tables.specs.inner.CpuTurns.{last_told, turn_at}
+use Rattle.turn_tables.specs.inner.Ending.{EndsAreTold, NoneFails}
+use Rattle.turn_tables.specs.inner.Holding.{KeepsHolds}
+use Rattle.turn_tables.specs.inner.Shown.{ShowsTurns}
 use Rattle.turn_tables.proofs.EndLaws.{ends_first}
 use Rattle.turn_tables.proofs.FirstLaws.{holds_first}
 use Rattle.turn_tables.proofs.OrderLaws.{orderly_first}
-use Rattle.table_notes.specs.Arrays.{KeepsArrays}
+use Rattle.table_notes.specs.inner.Arrays.{KeepsArrays}
 use Rattle.table_notes.proofs.ArrayLaws.{arrays_begin}
-use Rattle.book_laws.specs.Stores.{TellsStore}
+use Rattle.book_laws.specs.inner.Stores.{TellsStore}
 use Rattle.book_laws.proofs.StoreLaws.{tells_first}
-use Rattle.run_book.specs.Books.{KeepsBook, KeepsBytes, KeepsHonest}
+use Rattle.run_book.specs.inner.Books.{KeepsBook, KeepsBytes, KeepsHonest}
 use Rattle.run_records.proofs.FlatSteps.{flat_first}
 use Rattle.run_steps.proofs.FreshLaws.{IsFresh, fresh_cpus, fresh_making}
 use Rattle.run_steps.proofs.TcsLaws.{tcs_apart}
 use Rattle.run_turns.specs.declared.course.Course.{Course}
-use Rattle.run_turns.specs.Courses.{KeepsCourse, is_load, has_open_load, open_starts, past_of}
-use Rattle.run_history.specs.Honest.{GiftsAreLast}
+use Rattle.run_turns.specs.inner.Courses.{KeepsCourse, is_load, has_open_load, open_starts, past_of}
+use Rattle.run_history.specs.inner.Honest.{GiftsAreLast}
 
 -- ---- the machine
 

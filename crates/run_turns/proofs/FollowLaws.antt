@@ -1,56 +1,57 @@
 -- What a turn of the pass made can be taken in.
 use Rattle.std.proofs.Common.{◌≡◌, ℕ, ◌+◌, ◌*◌, ◌≤◌, ◌⊎◌, Bool, true, false, if◌then◌else◌, List}
-use Rattle.std.proofs.Common.{◌∷◌, Option, Some, None, IfSome, length, count_by, is_some, vec_len, vec_capacity, refl, sym, ap, subst}
+use Rattle.std.proofs.Common.{◌∷◌, Option, Some, None, IfSome, length, count_by, is_some, vec_len, vec_capacity, refl, sym, ap}
+use Rattle.std.proofs.Common.{subst}
 use Rattle.std.proofs.Common.{◌∙◌, arith, length-set}
 use Rattle.std.proofs.lemmas.List.Sums.{count_by-le-length}
 use Rattle.sgx_rules.specs.declared.entries.Entry.{Entry}
 use Rattle.sgx_rules.specs.declared.entries.Event.{Event}
 use Rattle.sgx_rules.specs.declared.entries.Event.TheVariants.{Age, Bus, Did, Kick, Refused}
 use Rattle.sgx_types.specs.Making.{Making}
-use Rattle.sgx_rules.specs.Enclaves.{EnclavesAreFlat}
+use Rattle.sgx_rules.specs.inner.Enclaves.{EnclavesAreFlat}
 use Rattle.backing_store.specs.Calls.{Call}
 use Rattle.turn_rules.specs.Machines.{machine_of}
-use Rattle.version_array.specs.Keeper.{AllOut}
-use Rattle.paging_laws.specs.State.{State}
-use Rattle.paging_machine.specs.Parts.{Parts, state_of}
+use Rattle.version_array.specs.inner.Keeper.{AllOut}
+use Rattle.paging_laws.specs.inner.State.{State}
+use Rattle.paging_machine.specs.inner.Parts.{Parts, state_of}
 use Rattle.driver_rules.specs.Dues.{KicksAll}
 use Rattle.driver_rules.specs.Passes.{pass, pass_by}
 use Rattle.driver_rules.specs.Places.{Leaving, place}
-use Rattle.driver_rules.specs.Reclaims.{pass_due}
+use Rattle.driver_rules.specs.inner.Reclaims.{pass_due}
 use Rattle.driver_rules.specs.Stops.{is_spent}
-use Rattle.driver_laws.specs.Sound.{is_absent}
+use Rattle.driver_laws.specs.inner.Sound.{is_absent}
 use Rattle.driver_laws.proofs.BuiltLaws.{not_all_out}
 use Rattle.driver_tables.specs.declared.driver.Driver.{Driver}
 use Rattle.driver_tables.proofs.HeldLaws.{held_same}
-use Rattle.driver_steps.specs.Asked.{IsNextOf}
+use Rattle.driver_steps.specs.inner.Asked.{IsNextOf}
 use Rattle.reclaim_worker.specs.declared.passes.Pass as worker
 use Rattle.reclaim_worker.specs.declared.turns.Phase.{Phase}
 use Rattle.reclaim_worker.specs.declared.turns.Phase.TheVariants as phases
 use Rattle.reclaim_worker.specs.declared.turns.PassTurn.{PassTurn}
 use Rattle.reclaim_worker.specs.declared.turns.PassTurn.TheVariants as turns
-use Rattle.reclaim_worker.specs.After.{StandsAfter}
-use Rattle.reclaim_worker.specs.Answers.{IsTurn}
-use Rattle.reclaim_worker.specs.Asked.{look_in, told_by}
-use Rattle.reclaim_worker.specs.Going.{TurnGoes}
-use Rattle.reclaim_worker.specs.Kept.{TurnKeeps}
-use Rattle.reclaim_worker.specs.Ready.{Ready}
-use Rattle.reclaim_worker.specs.Rests.{DriverSays, IsWait}
-use Rattle.reclaim_worker.specs.Shown.{ShowsAfter}
-use Rattle.reclaim_worker.specs.Standing.{AreInFrames, StandsFor, is_kicked, is_sealing}
-use Rattle.reclaim_worker.specs.Stored.{still_out}
-use Rattle.reclaim_worker.specs.Turning.{TurnSays}
-use Rattle.run_book.specs.Books.{AreTold, CarriesBytes, KeepsBook}
-use Rattle.run_book.specs.Turns.{OfEntry}
+use Rattle.reclaim_worker.specs.inner.After.{StandsAfter}
+use Rattle.reclaim_worker.specs.inner.Answers.{IsTurn}
+use Rattle.reclaim_worker.specs.inner.Asked.{look_in, told_by}
+use Rattle.reclaim_worker.specs.inner.Going.{TurnGoes}
+use Rattle.reclaim_worker.specs.inner.Kept.{TurnKeeps}
+use Rattle.reclaim_worker.specs.inner.Ready.{Ready}
+use Rattle.reclaim_worker.specs.inner.Rests.{DriverSays, IsWait}
+use Rattle.reclaim_worker.specs.inner.Shown.{ShowsAfter}
+use Rattle.reclaim_worker.specs.inner.Standing.{AreInFrames, StandsFor, is_kicked, is_sealing}
+use Rattle.reclaim_worker.specs.inner.Stored.{still_out}
+use Rattle.reclaim_worker.specs.inner.Turning.{TurnSays}
+use Rattle.run_book.specs.inner.Books.{AreTold, CarriesBytes, KeepsBook}
+use Rattle.run_book.specs.inner.Turns.{OfEntry}
 use Rattle.run_book.proofs.SlotTurns.{turn_counts}
 use Rattle.run_book.proofs.TurnLaws.{turn_next}
 use Rattle.run_bytes.proofs.TurnBytes.{turn_bytes}
 use Rattle.run_records.proofs.PassRecords.{turn_flat, turn_stays, turn_told}
-use Rattle.table_notes.specs.Arrays.{KeepsArrays}
+use Rattle.table_notes.specs.inner.Arrays.{KeepsArrays}
 use Rattle.turn_tables.specs.declared.cpu_turns.CpuTurn.{CpuTurn}
-use Rattle.turn_tables.specs.Noting.{with_kick}
+use Rattle.turn_tables.specs.inner.Noting.{with_kick}
 use Rattle.run_turns.specs.declared.course.Course.{Course}
-use Rattle.run_turns.specs.Courses.{KeepsCourse, has_open_load, past_of}
-use Rattle.run_turns.specs.Passing.{FollowsBy, IsOwnEntry, IsOwnKicks}
+use Rattle.run_turns.specs.inner.Courses.{KeepsCourse, has_open_load, past_of}
+use Rattle.run_turns.specs.inner.Passing.{FollowsBy, IsOwnEntry, IsOwnKicks}
 use Rattle.run_turns.proofs.KeepLaws.{few_cpus}
 use Rattle.run_turns.proofs.PassTurnLaws.{AtTries, IsTrackSpent, IsTrySpent, IsTurnEntry, Leaves, StaysAtTries, TellsDue}
 use Rattle.run_turns.proofs.PassTurnLaws.{spent_pass, spent_stands, turn_leaves, turn_tells}

@@ -14,26 +14,26 @@ use Rattle.job_grammar.specs.Jobs.{JobView}
 use Rattle.turn_rules.specs.Machines.{machine_of}
 use Rattle.turn_rules.specs.Script.{action_of}
 use Rattle.backing_store.specs.Calls.{Call}
-use Rattle.book_laws.specs.Stores.{StoreMoves}
+use Rattle.book_laws.specs.inner.Stores.{StoreMoves}
 use Rattle.cached_translations.specs.declared.processor.Mode.{Mode}
-use Rattle.paging_laws.specs.Steps.{CanApply, IsStep}
-use Rattle.paging_machine.specs.Parts.{Parts, state_of}
+use Rattle.paging_laws.specs.inner.Steps.{CanApply, IsStep}
+use Rattle.paging_machine.specs.inner.Parts.{Parts, state_of}
 use Rattle.driver_rules.specs.Dues.{Due, IsNext, Makes, Stopped}
 use Rattle.driver_rules.specs.Passes.{pass, pass_after}
 use Rattle.driver_rules.specs.Scripts.{IsActors, ScriptRule}
 use Rattle.driver_rules.specs.Stops.{is_spent}
 use Rattle.driver_tables.specs.declared.driver.Driver.{Driver}
-use Rattle.driver_steps.specs.Carried.{Carries}
+use Rattle.driver_steps.specs.inner.Carried.{Carries}
 use Rattle.reclaim_worker.specs.declared.passes.Pass as passes
-use Rattle.reclaim_worker.specs.Standing.{StandsFor}
-use Rattle.turn_tables.specs.Holding.{mode_of}
-use Rattle.turn_tables.specs.Noting.{IsAmong}
+use Rattle.reclaim_worker.specs.inner.Standing.{StandsFor}
+use Rattle.turn_tables.specs.inner.Holding.{mode_of}
+use Rattle.turn_tables.specs.inner.Noting.{IsAmong}
 use Rattle.turn_tables.proofs.OrderLaws.{enters_apart}
-use Rattle.table_notes.specs.Noted.{AreNoted, CanNoteTables}
+use Rattle.table_notes.specs.inner.Noted.{AreNoted, CanNoteTables}
 use Rattle.table_notes.proofs.EntryLaws.{IsEntryOf, entry_by}
-use Rattle.run_book.specs.Books.{CarriesBytes, IsMade, KeepsBook}
-use Rattle.table_notes.specs.Plain.{is_plain, is_reclaimer}
-use Rattle.driver_rules.specs.Stops.{frame_started, started}
+use Rattle.run_book.specs.inner.Books.{CarriesBytes, IsMade, KeepsBook}
+use Rattle.table_notes.specs.inner.Plain.{is_plain, is_reclaimer}
+use Rattle.driver_rules.specs.inner.Stops.{frame_started, started}
 use Rattle.run_turns.proofs.RecordLaws.{none_started_built, none_started_by}
 use Rattle.run_book.proofs.PlainLaws.{plain_next}
 use Rattle.run_records.proofs.FlatSteps.{flat_step}
@@ -44,8 +44,8 @@ use Rattle.run_steps.proofs.MakeLaws.{builder_makes, cpu_makes}
 use Rattle.run_turns.specs.declared.course.Course.{Course}
 use Rattle.run_turns.proofs.EndedLaws.{is_failed}
 use Rattle.run_turns.proofs.KeepLaws.{Enters}
-use Rattle.run_turns.specs.Courses.{past_of}
-use Rattle.run_turns.specs.Turns.{CanInstruct, IsDueTo}
+use Rattle.run_turns.specs.inner.Courses.{past_of}
+use Rattle.run_turns.specs.inner.Turns.{CanInstruct, IsDueTo}
 use Rattle.run_records.proofs.HonestRecords.{acts_back, not_lost}
 
 -- ---- what is due

@@ -10,21 +10,21 @@ use Rattle.sgx_types.specs.Making.{Making}
 use Rattle.job_grammar.specs.Jobs.{JobView}
 use Rattle.backing_store.specs.Calls.{Call}
 use Rattle.turn_rules.specs.Machines.{machine_of}
-use Rattle.driver_laws.specs.Three.{TcsAreApart}
+use Rattle.driver_laws.specs.inner.Three.{TcsAreApart}
 use Rattle.cached_translations.specs.declared.processor.Mode.{Mode}
-use Rattle.paging_machine.specs.Parts.{Parts}
+use Rattle.paging_machine.specs.inner.Parts.{Parts}
 use Rattle.driver_tables.specs.declared.driver.Driver.{Driver}
 use Rattle.driver_rules.specs.Passes.{pass, pass_after}
-use Rattle.reclaim_worker.specs.Standing.{StandsFor, is_sealing}
-use Rattle.reclaim_worker.specs.Stored.{still_out}
+use Rattle.reclaim_worker.specs.inner.Standing.{StandsFor, is_sealing}
+use Rattle.reclaim_worker.specs.inner.Stored.{still_out}
 use Rattle.turn_tables.specs.declared.turns.Turns.{Turns}
-use Rattle.turn_tables.specs.Holding.{mode_of}
-use Rattle.turn_tables.specs.Ending.{EndsAreTold, NoneFails}
-use Rattle.table_notes.specs.Arrays.{KeepsArrays}
-use Rattle.run_book.specs.Books.{IsMade, KeepsBook}
+use Rattle.turn_tables.specs.inner.Holding.{mode_of}
+use Rattle.turn_tables.specs.inner.Ending.{EndsAreTold, NoneFails}
+use Rattle.table_notes.specs.inner.Arrays.{KeepsArrays}
+use Rattle.run_book.specs.inner.Books.{IsMade, KeepsBook}
 use Rattle.run_turns.specs.declared.course.Course.{Course}
-use Rattle.run_turns.specs.Courses.{Grows, IsSame, KeepsCourse, has_open_load, open_starts, past_of}
-use Rattle.run_turns.specs.Recording.{CanTake, IsRecorded, IsTaken}
+use Rattle.run_turns.specs.inner.Courses.{Grows, IsSame, KeepsCourse, has_open_load, open_starts, past_of}
+use Rattle.run_turns.specs.inner.Recording.{CanTake, IsRecorded, IsTaken}
 use Rattle.run_turns.proofs.RecordLaws.{newest}
 
 -- no more than seventeen starts are open

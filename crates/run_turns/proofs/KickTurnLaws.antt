@@ -12,35 +12,35 @@ use Rattle.job_grammar.specs.Jobs.{JobView}
 use Rattle.backing_store.specs.Calls.{Call}
 use Rattle.cached_translations.specs.declared.processor.Mode.TheVariants.{Outside}
 use Rattle.turn_rules.specs.Machines.{machine_of}
-use Rattle.version_array.specs.Keeper.{Keeper}
-use Rattle.paging_laws.specs.Shape.{FitsApart, ShapeWithRules}
-use Rattle.paging_machine.specs.Parts.{state_of}
+use Rattle.version_array.specs.inner.Keeper.{Keeper}
+use Rattle.paging_laws.specs.inner.Shape.{FitsApart, ShapeWithRules}
+use Rattle.paging_machine.specs.inner.Parts.{state_of}
 use Rattle.driver_rules.specs.Passes.{pass}
-use Rattle.driver_laws.specs.Three.{TcsAreApart}
+use Rattle.driver_laws.specs.inner.Three.{TcsAreApart}
 use Rattle.driver_tables.specs.declared.driver.Driver.{Driver}
-use Rattle.driver_steps.specs.Asked.{IsNextOf}
+use Rattle.driver_steps.specs.inner.Asked.{IsNextOf}
 use Rattle.reclaim_worker.specs.declared.passes.Pass.{Pass}
-use Rattle.reclaim_worker.specs.After.{cpu_of, kicked_past}
-use Rattle.reclaim_worker.specs.Answers.{by_reclaimer}
-use Rattle.reclaim_worker.specs.Standing.{StandsFor}
-use Rattle.reclaim_worker.specs.Stored.{still_out}
-use Rattle.run_book.specs.Books.{KeepsBook, with_own}
-use Rattle.run_book.specs.Loads.{GoesOnWith}
-use Rattle.run_bytes.specs.Records.{StaysWith}
+use Rattle.reclaim_worker.specs.inner.After.{cpu_of, kicked_past}
+use Rattle.reclaim_worker.specs.inner.Answers.{by_reclaimer}
+use Rattle.reclaim_worker.specs.inner.Standing.{StandsFor}
+use Rattle.reclaim_worker.specs.inner.Stored.{still_out}
+use Rattle.run_book.specs.inner.Books.{KeepsBook, with_own}
+use Rattle.run_book.specs.inner.Loads.{GoesOnWith}
+use Rattle.run_bytes.specs.inner.Records.{StaysWith}
 use Rattle.run_bytes.proofs.StepBytes.{note_bytes}
 use Rattle.run_records.proofs.FlatSteps.{flat_other}
 use Rattle.run_records.proofs.ToldLaws.{kick_told}
-use Rattle.run_steps.specs.Bits.{AllBelow, GoesOnBy, RisesFrom, below, has_bit}
+use Rattle.run_steps.specs.inner.Bits.{AllBelow, GoesOnBy, RisesFrom, below, has_bit}
 use Rattle.run_steps.proofs.BitLaws.{below_all, below_more, bit_is, goes_on}
 use Rattle.run_steps.proofs.KickLaws.{kick_next, kicked_more, kicks_in_order}
-use Rattle.table_notes.specs.Arrays.{KeepsArrays}
+use Rattle.table_notes.specs.inner.Arrays.{KeepsArrays}
 use Rattle.table_notes.proofs.ArrayLaws.{arrays_stay}
-use Rattle.turn_tables.specs.Ending.{EndsAreTold, NoneFails}
+use Rattle.turn_tables.specs.inner.Ending.{EndsAreTold, NoneFails}
 use Rattle.run_turns.specs.declared.course.Course.{Course}
-use Rattle.run_turns.specs.Courses.{Grows, past_of}
-use Rattle.run_turns.specs.Kicking.{CanKick, CanKickOne, HasKicked}
-use Rattle.run_turns.specs.Passing.{IsOwnKicks}
-use Rattle.run_turns.specs.Recording.{CanRecord, IsRecorded}
+use Rattle.run_turns.specs.inner.Courses.{Grows, past_of}
+use Rattle.run_turns.specs.inner.Kicking.{CanKick, CanKickOne, HasKicked}
+use Rattle.run_turns.specs.inner.Passing.{IsOwnKicks}
+use Rattle.run_turns.specs.inner.Recording.{CanRecord, IsRecorded}
 use Rattle.run_turns.proofs.KeepLaws.{few_cpus, room_behind}
 use Rattle.run_turns.proofs.OwnLaws.{own_ends, own_none}
 use Rattle.run_turns.proofs.RecordLaws.{newest}

@@ -19,43 +19,43 @@ use Rattle.cached_translations.specs.declared.processor.Mode.{Mode}
 use Rattle.job_grammar.specs.Jobs.{JobView}
 use Rattle.turn_rules.specs.Machines.{machine_of}
 use Rattle.backing_store.specs.Calls.{Call}
-use Rattle.paging_machine.specs.Parts.{Parts}
-use Rattle.active_list.specs.Keeping.{kept_at, page_kept}
-use Rattle.active_list.specs.Places.{IsPlaced}
+use Rattle.paging_machine.specs.inner.Parts.{Parts}
+use Rattle.active_list.specs.inner.Keeping.{kept_at, page_kept}
+use Rattle.active_list.specs.inner.Places.{IsPlaced}
 use Rattle.driver_rules.specs.declared.waits.Why.TheVariants as waits
 use Rattle.driver_rules.specs.Dues.{Ends, IsNext, Stopped, Waits}
 use Rattle.driver_rules.specs.Passes.{pass, pass_after}
 use Rattle.driver_rules.specs.Places.{Absent, Away, Here, Leaving, Loading, Place, is_here}
 use Rattle.driver_rules.specs.Stops.{is_spent}
 use Rattle.driver_rules.specs.Turns.{Fails, Last, Loads, Other, WasEnded, cpu_due, due_after, fetches, is_last, last_of, turn_due}
-use Rattle.driver_laws.specs.Agrees.{loaded_by}
-use Rattle.driver_laws.specs.Loads.{EndsOwn}
-use Rattle.driver_laws.specs.Three.{TcsAreApart}
+use Rattle.driver_laws.specs.inner.Agrees.{loaded_by}
+use Rattle.driver_laws.specs.inner.Loads.{EndsOwn}
+use Rattle.driver_laws.specs.inner.Three.{TcsAreApart}
 use Rattle.driver_laws.proofs.EndLaws.{their_rule}
 use Rattle.driver_tables.specs.declared.driver.Driver.{Driver}
-use Rattle.driver_tables.specs.Tables.{ShowsTables}
-use Rattle.driver_steps.specs.Agrees.{Agrees}
-use Rattle.driver_calls.specs.Comes.{bus_of}
-use Rattle.fault_handler.specs.Repeating.{WaitsFor}
+use Rattle.driver_tables.specs.inner.Tables.{ShowsTables}
+use Rattle.driver_steps.specs.inner.Agrees.{Agrees}
+use Rattle.driver_calls.specs.inner.Comes.{bus_of}
+use Rattle.fault_handler.specs.inner.Repeating.{WaitsFor}
 use Rattle.fault_handler.proofs.EndLaws.{can_finish}
-use Rattle.reclaim_worker.specs.Standing.{StandsFor, is_sealing}
-use Rattle.reclaim_worker.specs.Stored.{still_out}
-use Rattle.table_notes.specs.Arrays.{KeepsArrays}
-use Rattle.table_notes.specs.Plain.{is_reclaimer}
+use Rattle.reclaim_worker.specs.inner.Standing.{StandsFor, is_sealing}
+use Rattle.reclaim_worker.specs.inner.Stored.{still_out}
+use Rattle.table_notes.specs.inner.Arrays.{KeepsArrays}
+use Rattle.table_notes.specs.inner.Plain.{is_reclaimer}
 use Rattle.turn_tables.specs.declared.turns.Turns.{Turns}
-use Rattle.turn_tables.specs.Ending.{EndsAreTold, IsForRecord, NoneFails}
+use Rattle.turn_tables.specs.inner.Ending.{EndsAreTold, IsForRecord, NoneFails}
 use Rattle.turn_tables.proofs.EndLaws.{ends_go_on}
-use Rattle.turn_tables.specs.CpuTurns.{turn_at}
+use Rattle.turn_tables.specs.inner.CpuTurns.{turn_at}
 use Rattle.turn_tables.specs.declared.cpu_turns.CpuTurn.{CpuTurn}
-use Rattle.turn_tables.specs.Holding.{mode_of}
-use Rattle.turn_tables.specs.Noting.{IsNoted, turn_after, with_own}
-use Rattle.turn_tables.specs.Shown.{ShowsTurns}
-use Rattle.turn_tables.specs.TcsTurns.{has_place}
-use Rattle.run_book.specs.Books.{IsMade, KeepsBook}
+use Rattle.turn_tables.specs.inner.Holding.{mode_of}
+use Rattle.turn_tables.specs.inner.Noting.{IsNoted, turn_after, with_own}
+use Rattle.turn_tables.specs.inner.Shown.{ShowsTurns}
+use Rattle.turn_tables.specs.inner.TcsTurns.{has_place}
+use Rattle.run_book.specs.inner.Books.{IsMade, KeepsBook}
 use Rattle.run_steps.proofs.StayLaws.{passes_stay_next}
 use Rattle.run_turns.specs.declared.course.Course.{Course}
-use Rattle.run_turns.specs.Courses.{KeepsCourse, has_open_load, open_starts, past_of}
-use Rattle.run_turns.specs.Recording.{CanTake, IsRecorded, IsTaken}
+use Rattle.run_turns.specs.inner.Courses.{KeepsCourse, has_open_load, open_starts, past_of}
+use Rattle.run_turns.specs.inner.Recording.{CanTake, IsRecorded, IsTaken}
 use Rattle.run_turns.proofs.LoadLaws.{IsEndOfLoad, starts_set}
 use Rattle.run_turns.proofs.RecordLaws.{newest}
 

@@ -25,55 +25,58 @@ use Rattle.turn_rules.specs.Script.{action_of}
 use Rattle.sgx_types.specs.Making.{Making}
 use Rattle.sgx_types.proofs.CountLaws.{one_if}
 use Rattle.backing_store.specs.Calls.{Call}
-use Rattle.active_list.specs.Places.{IsPlaced}
-use Rattle.active_list.specs.States.{state_of as page_state}
-use Rattle.paging_laws.specs.Shape.{FitsApart, ShapeWithRules}
-use Rattle.paging_machine.specs.Parts.{Parts, state_of}
-use Rattle.version_array.specs.Keeper.{Keeper}
+use Rattle.active_list.specs.inner.Places.{IsPlaced}
+use Rattle.active_list.specs.inner.States.{state_of as page_state}
+use Rattle.paging_laws.specs.inner.Shape.{FitsApart, ShapeWithRules}
+use Rattle.paging_machine.specs.inner.Parts.{Parts, state_of}
+use Rattle.version_array.specs.inner.Keeper.{Keeper}
 use Rattle.driver_rules.specs.Dues.{Reports, Stopped}
 use Rattle.driver_rules.specs.Places.{Absent, Away, Here, Leaving, Loading, Place, place}
-use Rattle.driver_rules.specs.Reclaims.{is_refused}
+use Rattle.driver_rules.specs.inner.Reclaims.{is_refused}
 use Rattle.driver_rules.specs.Stops.{is_spent, spends}
-use Rattle.driver_rules.specs.Turns.{Fails, Loads, cpu_due, due_after, fails_with, fetches, is_last, last_by, last_of, load_of, turn_due}
+use Rattle.driver_rules.specs.Turns.{Fails, Loads, cpu_due, due_after, fails_with, fetches, is_last, last_by, last_of, load_of}
+use Rattle.driver_rules.specs.Turns.{turn_due}
 use Rattle.driver_tables.specs.declared.driver.Driver.{Driver}
-use Rattle.driver_tables.specs.Tables.{ShowsTables}
-use Rattle.driver_laws.specs.Agrees.{loaded_by}
-use Rattle.driver_steps.specs.Agrees.{Agrees}
-use Rattle.driver_calls.specs.Comes.{bus_of}
+use Rattle.driver_tables.specs.inner.Tables.{ShowsTables}
+use Rattle.driver_laws.specs.inner.Agrees.{loaded_by}
+use Rattle.driver_steps.specs.inner.Agrees.{Agrees}
+use Rattle.driver_calls.specs.inner.Comes.{bus_of}
 use Rattle.fault_handler.specs.declared.answers.FaultAnswer.{FaultAnswer}
 use Rattle.fault_handler.specs.declared.answers.FaultAnswer.TheVariants as answers
 use Rattle.fault_handler.specs.declared.answers.Loaded.{Loaded}
-use Rattle.fault_handler.specs.Due.{IsEnd, IsRight, IsRightEnd, ShowsEnd}
-use Rattle.fault_handler.specs.Finishing.{CanFinish, IsFinished}
-use Rattle.fault_handler.specs.Resolving.{IsResolved}
+use Rattle.fault_handler.specs.inner.Due.{IsEnd, IsRight, IsRightEnd, ShowsEnd}
+use Rattle.fault_handler.specs.inner.Finishing.{CanFinish, IsFinished}
+use Rattle.fault_handler.specs.inner.Resolving.{IsResolved}
 use Rattle.fault_handler.proofs.EndLaws.{can_finish}
-use Rattle.reclaim_worker.specs.Standing.{is_sealing}
-use Rattle.reclaim_worker.specs.Stored.{still_out}
-use Rattle.table_notes.specs.Arrays.{KeepsArrays}
+use Rattle.reclaim_worker.specs.inner.Standing.{is_sealing}
+use Rattle.reclaim_worker.specs.inner.Stored.{still_out}
+use Rattle.table_notes.specs.inner.Arrays.{KeepsArrays}
 use Rattle.table_notes.proofs.ArrayLaws.{arrays_late, arrays_moved, arrays_stay}
 use Rattle.turn_tables.specs.declared.turns.Turns.{Turns}
-use Rattle.turn_tables.specs.CpuTurns.{first_turn, turn_at}
-use Rattle.turn_tables.specs.Ending.{IsForRecord, NoneFails}
-use Rattle.turn_tables.specs.Noting.{IsNoted}
-use Rattle.turn_tables.specs.Shown.{ShowsTurns}
-use Rattle.run_book.specs.Books.{AreTold, IsMade, with_own}
-use Rattle.run_book.specs.Loads.{OfAnswer, entry_in}
+use Rattle.turn_tables.specs.inner.CpuTurns.{first_turn, turn_at}
+use Rattle.turn_tables.specs.inner.Ending.{IsForRecord, NoneFails}
+use Rattle.turn_tables.specs.inner.Noting.{IsNoted}
+use Rattle.turn_tables.specs.inner.Shown.{ShowsTurns}
+use Rattle.run_book.specs.inner.Books.{AreTold, IsMade, with_own}
+use Rattle.run_book.specs.inner.Loads.{OfAnswer, entry_in}
 use Rattle.run_book.proofs.BookLaws.{shows_with}
-use Rattle.run_bytes.specs.Records.{StaysWith}
-use Rattle.run_records.specs.Silent.{OfBus}
+use Rattle.run_bytes.specs.inner.Records.{StaysWith}
+use Rattle.run_records.specs.inner.Silent.{OfBus}
 use Rattle.run_records.proofs.LoadRecords.{end_told}
 use Rattle.run_turns.specs.declared.course.Course.{Course}
-use Rattle.run_turns.specs.Courses.{Grows, KeepsCourse, has_open_load, open_starts, past_of}
-use Rattle.run_turns.specs.Recording.{CanTake, IsRecorded, IsTaken}
-use Rattle.run_turns.specs.Turns.{EndsBy, EndsLoad, RefusesLoad}
+use Rattle.run_turns.specs.inner.Courses.{Grows, KeepsCourse, has_open_load, open_starts, past_of}
+use Rattle.run_turns.specs.inner.Recording.{CanTake, IsRecorded, IsTaken}
+use Rattle.run_turns.specs.inner.Turns.{EndsBy, EndsLoad, RefusesLoad}
 use Rattle.run_turns.proofs.KeepLaws.{few_cpus, room_behind}
-use Rattle.run_turns.proofs.LoadCourse.{Stands, is_open, kept_room, bus_starts, ended_starts, one_longer, stands_keeps, taken_stands}
+use Rattle.run_turns.proofs.LoadCourse.{Stands, is_open, kept_room, bus_starts, ended_starts, one_longer, stands_keeps}
+use Rattle.run_turns.proofs.LoadCourse.{taken_stands}
 use Rattle.run_turns.proofs.LoadLaws.{IsOfAway, due_quiet, end_of_load, starts_set, end_quiet, loading_told, none_behind_bus}
 use Rattle.run_turns.proofs.LoadLaws.{none_more}
 use Rattle.run_turns.proofs.RecordLaws.{newest}
-use Rattle.run_turns.proofs.LoadMade.{Leaves, NotesBus, bus_made, bus_told, end_acts, end_by, end_made, fault_made, resolved_leaves}
+use Rattle.run_turns.proofs.LoadMade.{Leaves, NotesBus, bus_made, bus_told, end_acts, end_by, end_made, fault_made}
+use Rattle.run_turns.proofs.LoadMade.{resolved_leaves}
 use Rattle.run_history.specs.Honest.{IsHonest}
-use Rattle.fault_handler.specs.Finishing.{IsBack}
+use Rattle.fault_handler.specs.inner.Finishing.{IsBack}
 use Rattle.run_records.proofs.HonestRecords.{ended_back}
 
 -- an entry was taken in, by all that is said of it

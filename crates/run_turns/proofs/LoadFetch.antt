@@ -14,32 +14,32 @@ use Rattle.turn_rules.specs.Machines.{machine_of}
 use Rattle.std.specs.Global.{Box}
 use Rattle.seal_record.specs.declared.unseal.UnsealWork.{UnsealWork}
 use Rattle.backing_store.specs.Calls.{Call}
-use Rattle.active_list.specs.Places.{IsPlaced}
-use Rattle.active_list.specs.States.{state_of as page_state}
-use Rattle.paging_laws.specs.Shape.{FitsApart, ShapeWithRules}
-use Rattle.paging_machine.specs.Parts.{Parts, cpu_at, state_of}
+use Rattle.active_list.specs.inner.Places.{IsPlaced}
+use Rattle.active_list.specs.inner.States.{state_of as page_state}
+use Rattle.paging_laws.specs.inner.Shape.{FitsApart, ShapeWithRules}
+use Rattle.paging_machine.specs.inner.Parts.{Parts, cpu_at, state_of}
 use Rattle.driver_rules.specs.declared.waits.Why.{Why}
 use Rattle.driver_rules.specs.declared.waits.Why.TheVariants as waits
 use Rattle.driver_rules.specs.Dues.{Due, Fetches, Waits}
 use Rattle.driver_rules.specs.Places.{place}
 use Rattle.driver_rules.specs.Turns.{cpu_due, fetches}
-use Rattle.driver_steps.specs.Agrees.{Agrees}
+use Rattle.driver_steps.specs.inner.Agrees.{Agrees}
 use Rattle.driver_tables.specs.declared.driver.Driver.{Driver}
-use Rattle.driver_calls.specs.Comes.{bus_of}
+use Rattle.driver_calls.specs.inner.Comes.{bus_of}
 use Rattle.fault_handler.specs.declared.answers.FaultAnswer.{FaultAnswer}
 use Rattle.fault_handler.specs.declared.answers.FaultAnswer.TheVariants as answers
-use Rattle.fault_handler.specs.Due.{IsRight, WaitsBy}
-use Rattle.fault_handler.specs.Resolving.{IsResolved}
-use Rattle.table_notes.specs.Plain.{is_reclaimer}
-use Rattle.turn_tables.specs.Holding.{mode_of}
-use Rattle.turn_tables.specs.TcsTurns.{has_place}
-use Rattle.fault_handler.specs.Repeating.{IsAgain}
-use Rattle.run_book.specs.Books.{IsMade}
-use Rattle.run_bytes.specs.Records.{StaysWith}
+use Rattle.fault_handler.specs.inner.Due.{IsRight, WaitsBy}
+use Rattle.fault_handler.specs.inner.Resolving.{IsResolved}
+use Rattle.table_notes.specs.inner.Plain.{is_reclaimer}
+use Rattle.turn_tables.specs.inner.Holding.{mode_of}
+use Rattle.turn_tables.specs.inner.TcsTurns.{has_place}
+use Rattle.fault_handler.specs.inner.Repeating.{IsAgain}
+use Rattle.run_book.specs.inner.Books.{IsMade}
+use Rattle.run_bytes.specs.inner.Records.{StaysWith}
 use Rattle.run_turns.specs.declared.course.Course.{Course}
-use Rattle.run_turns.specs.Courses.{Grows, IsSame, KeepsCourse, past_of}
-use Rattle.run_turns.specs.Recording.{CanTake}
-use Rattle.run_turns.specs.Turns.{IsWaitBy, OpensFor}
+use Rattle.run_turns.specs.inner.Courses.{Grows, IsSame, KeepsCourse, past_of}
+use Rattle.run_turns.specs.inner.Recording.{CanTake}
+use Rattle.run_turns.specs.inner.Turns.{IsWaitBy, OpensFor}
 use Rattle.run_turns.proofs.LoadCourse.{can_take, course_stands, here_waits, kept_room, placed_there}
 use Rattle.run_turns.proofs.LoadEnds.{Takes, fetch_made, fetched_keeps, grows_one, notes_of, right_away, took_in, took_past}
 use Rattle.run_turns.proofs.SameLaws.{same_keeps}

@@ -21,19 +21,19 @@ use Rattle.sgx_types.proofs.CountLaws.{one_if}
 use Rattle.turn_rules.specs.Script.{action_of}
 use Rattle.driver_rules.specs.Dues.{IsFetch, IsNext}
 use Rattle.driver_rules.specs.Places.{Absent, Away, Here, Leaving, Loading, Place}
-use Rattle.driver_rules.specs.Reclaims.{is_refused}
+use Rattle.driver_rules.specs.inner.Reclaims.{is_refused}
 use Rattle.driver_rules.specs.Turns.{Fails, Loads, WasEnded, fetches, last_by, last_of}
-use Rattle.driver_laws.specs.Sound.{is_absent}
-use Rattle.driver_calls.specs.Comes.{bus_of}
-use Rattle.table_notes.specs.Arrays.{is_move}
+use Rattle.driver_laws.specs.inner.Sound.{is_absent}
+use Rattle.driver_calls.specs.inner.Comes.{bus_of}
+use Rattle.table_notes.specs.inner.Arrays.{is_move}
 use Rattle.turn_tables.specs.declared.cpu_turns.CpuTurn.{CpuTurn}
 use Rattle.turn_tables.specs.declared.cpu_turns.Last.{Last}
 use Rattle.turn_tables.specs.declared.cpu_turns.Last.TheVariants as ways
-use Rattle.turn_tables.specs.CpuTurns.{first_turn, last_told, turn_at}
-use Rattle.turn_tables.specs.Ending.{IsForRecord, NoneFails}
-use Rattle.turn_tables.specs.Entries.{EntersApart}
-use Rattle.turn_tables.specs.Noting.{failed_by, last_after, with_kick}
-use Rattle.run_turns.specs.Courses.{is_load, has_open_load}
+use Rattle.turn_tables.specs.inner.CpuTurns.{first_turn, last_told, turn_at}
+use Rattle.turn_tables.specs.inner.Ending.{IsForRecord, NoneFails}
+use Rattle.turn_tables.specs.inner.Entries.{EntersApart}
+use Rattle.turn_tables.specs.inner.Noting.{failed_by, last_after, with_kick}
+use Rattle.run_turns.specs.inner.Courses.{is_load, has_open_load}
 
 -- ---- refused loads
 

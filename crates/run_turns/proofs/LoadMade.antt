@@ -21,10 +21,10 @@ use Rattle.seal_record.specs.declared.unseal.UnsealWork.{UnsealWork}
 use Rattle.backing_store.specs.Calls.{Call}
 use Rattle.backing_store.specs.declared.backing.StoreFault.{StoreFault}
 use Rattle.backing_store.specs.declared.backing.StoreFault.TheVariants as faults
-use Rattle.paging_machine.specs.Parts.{Parts, state_of}
-use Rattle.active_list.specs.Keeping.{keeping, kept_at}
-use Rattle.active_list.specs.Places.{IsPlaced}
-use Rattle.active_list.specs.States.{state_of as page_state, with_state}
+use Rattle.paging_machine.specs.inner.Parts.{Parts, state_of}
+use Rattle.active_list.specs.inner.Keeping.{keeping, kept_at}
+use Rattle.active_list.specs.inner.Places.{IsPlaced}
+use Rattle.active_list.specs.inner.States.{state_of as page_state, with_state}
 use Rattle.active_list.specs.declared.page_states.PageState.{PageState}
 use Rattle.active_list.specs.declared.page_states.PageState.TheVariants as states
 use Rattle.active_list.proofs.PageLaws.{is_same}
@@ -32,34 +32,34 @@ use Rattle.active_list.proofs.StateLaws.{state_of-with_state}
 use Rattle.driver_rules.specs.Dues.{IsNext, Reports}
 use Rattle.driver_rules.specs.Passes.{pass}
 use Rattle.driver_rules.specs.Places.{place}
-use Rattle.driver_rules.specs.Reclaims.{is_refused}
+use Rattle.driver_rules.specs.inner.Reclaims.{is_refused}
 use Rattle.driver_rules.specs.Stops.{is_spent}
 use Rattle.driver_rules.specs.Turns.{Loads, cpu_due, fetches, last_of}
 use Rattle.driver_tables.specs.declared.driver.Driver.{Driver}
-use Rattle.driver_tables.specs.Moves.{with_load}
-use Rattle.driver_tables.specs.Tables.{ShowsTables}
-use Rattle.driver_steps.specs.Asked.{IsNextOf}
-use Rattle.driver_calls.specs.Comes.{bus_of}
-use Rattle.book_laws.specs.Stores.{StoreMoves, TellsStore}
+use Rattle.driver_tables.specs.inner.Moves.{with_load}
+use Rattle.driver_tables.specs.inner.Tables.{ShowsTables}
+use Rattle.driver_steps.specs.inner.Asked.{IsNextOf}
+use Rattle.driver_calls.specs.inner.Comes.{bus_of}
+use Rattle.book_laws.specs.inner.Stores.{StoreMoves, TellsStore}
 use Rattle.fault_handler.specs.declared.answers.FaultAnswer.{FaultAnswer}
 use Rattle.fault_handler.specs.declared.answers.FaultAnswer.TheVariants as answers
 use Rattle.fault_handler.specs.declared.answers.Loaded.{Loaded}
 use Rattle.fault_handler.specs.declared.answers.Loaded.TheVariants as ends
-use Rattle.fault_handler.specs.Due.{IsEnd, IsRight, IsRightEnd}
-use Rattle.fault_handler.specs.Finishing.{CanFinish, IsFinished}
-use Rattle.fault_handler.specs.Repeating.{IsAgain, IsWorkFor}
-use Rattle.fault_handler.specs.Resolving.{IsFetch, IsGot, IsResolved, IsStarted, IsToOpen}
+use Rattle.fault_handler.specs.inner.Due.{IsEnd, IsRight, IsRightEnd}
+use Rattle.fault_handler.specs.inner.Finishing.{CanFinish, IsFinished}
+use Rattle.fault_handler.specs.inner.Repeating.{IsAgain, IsWorkFor}
+use Rattle.fault_handler.specs.inner.Resolving.{IsFetch, IsGot, IsResolved, IsStarted, IsToOpen}
 use Rattle.reclaim_worker.specs.declared.turns.Phase.{Phase}
 use Rattle.reclaim_worker.specs.declared.turns.Taken.{Taken}
-use Rattle.reclaim_worker.specs.Standing.{StandsFor}
+use Rattle.reclaim_worker.specs.inner.Standing.{StandsFor}
 use Rattle.turn_tables.specs.declared.turns.Turns.{Turns}
 use Rattle.table_notes.proofs.EntryLaws.{ages}
-use Rattle.run_book.specs.Books.{AreTold, CarriesBytes, IsMade, KeepsBook, with_own}
-use Rattle.run_book.specs.Loads.{GoesOnWith, OfAnswer, entry_in}
+use Rattle.run_book.specs.inner.Books.{AreTold, CarriesBytes, IsMade, KeepsBook, with_own}
+use Rattle.run_book.specs.inner.Loads.{GoesOnWith, OfAnswer, entry_in}
 use Rattle.run_book.proofs.EndTurns.{end_next}
 use Rattle.run_book.proofs.LoadTurns.{fault_next}
 use Rattle.run_book.proofs.PlainLaws.{beside, kicks}
-use Rattle.run_bytes.specs.Records.{StaysWith}
+use Rattle.run_bytes.specs.inner.Records.{StaysWith}
 use Rattle.run_bytes.proofs.EndBytes.{end_bytes}
 use Rattle.run_bytes.proofs.FaultBytes.{answer_bytes}
 use Rattle.run_bytes.proofs.StepBytes.{note_bytes}
@@ -73,9 +73,9 @@ use Rattle.run_history.specs.Stored.{StoreCalls}
 use Rattle.table_notes.proofs.EntryLaws.{IsEntryOf, entry_by}
 use Rattle.sgx_rules.specs.declared.entries.Action.{Action}
 use Rattle.sgx_types.specs.declared.names.Actor.{Actor}
-use Rattle.sgx_rules.specs.Enclaves.{EnclavesAreFlat}
-use Rattle.paging_laws.specs.State.{State}
-use Rattle.paging_laws.specs.Steps.{IsStep}
+use Rattle.sgx_rules.specs.inner.Enclaves.{EnclavesAreFlat}
+use Rattle.paging_laws.specs.inner.State.{State}
+use Rattle.paging_laws.specs.inner.Steps.{IsStep}
 
 -- ---- what a fault step leaves
 

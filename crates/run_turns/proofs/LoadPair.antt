@@ -9,22 +9,23 @@ use Rattle.sgx_types.specs.Making.{Making}
 use Rattle.cached_translations.specs.declared.processor.Mode.{Mode}
 use Rattle.job_grammar.specs.Jobs.{JobView}
 use Rattle.backing_store.specs.Calls.{Call}
-use Rattle.paging_laws.specs.Shape.{FitsApart, ShapeWithRules}
-use Rattle.paging_machine.specs.Parts.{Parts, cpu_at, state_of}
-use Rattle.driver_rules.specs.Reclaims.{is_refused}
+use Rattle.paging_laws.specs.inner.Shape.{FitsApart, ShapeWithRules}
+use Rattle.paging_machine.specs.inner.Parts.{Parts, cpu_at, state_of}
+use Rattle.driver_rules.specs.inner.Reclaims.{is_refused}
 use Rattle.driver_rules.specs.Stops.{is_spent}
 use Rattle.driver_rules.specs.Turns.{Fails, last_of}
 use Rattle.driver_tables.specs.declared.driver.Driver.{Driver}
-use Rattle.driver_calls.specs.Comes.{bus_of}
+use Rattle.driver_calls.specs.inner.Comes.{bus_of}
 use Rattle.fault_handler.specs.declared.answers.Loaded.TheVariants as ends
-use Rattle.table_notes.specs.Plain.{is_reclaimer}
-use Rattle.turn_tables.specs.Holding.{mode_of}
-use Rattle.run_bytes.specs.Records.{StaysWith}
+use Rattle.table_notes.specs.inner.Plain.{is_reclaimer}
+use Rattle.turn_tables.specs.inner.Holding.{mode_of}
+use Rattle.run_bytes.specs.inner.Records.{StaysWith}
 use Rattle.run_turns.specs.declared.course.Course.{Course}
-use Rattle.run_turns.specs.Courses.{Grows, KeepsCourse, past_of}
-use Rattle.run_turns.specs.Recording.{CanTake}
+use Rattle.run_turns.specs.inner.Courses.{Grows, KeepsCourse, past_of}
+use Rattle.run_turns.specs.inner.Recording.{CanTake}
 use Rattle.run_turns.proofs.LoadCourse.{Stands, can_take, course_stands}
-use Rattle.run_turns.proofs.LoadEnds.{EndFacts, Takes, TookIn, grows_two, notes_of, own_last, refused_bus, refused_keeps, room_for_bus}
+use Rattle.run_turns.proofs.LoadEnds.{EndFacts, Takes, TookIn, grows_two, notes_of, own_last, refused_bus, refused_keeps}
+use Rattle.run_turns.proofs.LoadEnds.{room_for_bus}
 use Rattle.run_turns.proofs.LoadEnds.{took_in, took_past, took_stands, turns_room}
 use Rattle.run_turns.proofs.LoadLaws.{fails_for_record}
 use Rattle.run_turns.proofs.LoadMade.{NotesBus}

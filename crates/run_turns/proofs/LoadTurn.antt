@@ -8,9 +8,9 @@ use Rattle.sgx_types.specs.declared.names.Memory.{Memory}
 use Rattle.run_turns.specs.declared.course.Course.{Course}
 use Rattle.run_turns.specs.declared.turn.Turn.{Turn}
 use Rattle.run_turns.specs.declared.turn.Turn.TheVariants as turns
-use Rattle.driver_rules.specs.Stops.{started}
-use Rattle.run_turns.specs.Courses.{Grows, IsSame, KeepsCourse, past_of}
-use Rattle.run_turns.specs.Turns.{CanInstruct, IsCpuTurn}
+use Rattle.driver_rules.specs.inner.Stops.{started}
+use Rattle.run_turns.specs.inner.Courses.{Grows, IsSame, KeepsCourse, past_of}
+use Rattle.run_turns.specs.inner.Turns.{CanInstruct, IsCpuTurn}
 use Rattle.run_turns.proofs.SameLaws.{same_keeps}
 
 -- its answer is one entry

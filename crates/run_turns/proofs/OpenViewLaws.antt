@@ -8,28 +8,29 @@ use Rattle.sgx_types.specs.declared.names.Memory.{Memory}
 use Rattle.sgx_types.specs.declared.names.Page.{Page}
 use Rattle.sgx_types.specs.declared.names.SlotAt.{SlotAt}
 use Rattle.sgx_types.specs.Making.{Making}
-use Rattle.sgx_rules.specs.Starts.{Start, open_start, BareStart, bare_start}
+use Rattle.sgx_rules.specs.Starts.{Start, open_start}
+use Rattle.sgx_rules.specs.inner.Starts.{BareStart, bare_start}
 use Rattle.io_edges.specs.declared.plans.PlanLine.{PlanLine}
 use Rattle.std.specs.Global.{Box}
 use Rattle.seal_record.specs.declared.unseal.UnsealWork.{UnsealWork}
-use Rattle.active_list.specs.Keeping.{Kept, kept_at, page_kept, record_kept}
+use Rattle.active_list.specs.inner.Keeping.{Kept, kept_at, page_kept, record_kept}
 use Rattle.backing_store.specs.Calls.{Call}
 use Rattle.paging_laws.proofs.ColumnLaws.{start_is}
 use Rattle.driver_rules.specs.Places.{Loading}
 use Rattle.driver_rules.specs.Turns.{Loads, last_of}
-use Rattle.driver_laws.specs.Sound.{is_absent}
+use Rattle.driver_laws.specs.inner.Sound.{is_absent}
 use Rattle.driver_laws.proofs.LoadLaws.{loading_place}
-use Rattle.driver_tables.specs.Tables.{place_in}
-use Rattle.fault_handler.specs.Repeating.{IsWorkFor}
+use Rattle.driver_tables.specs.inner.Tables.{place_in}
+use Rattle.fault_handler.specs.inner.Repeating.{IsWorkFor}
 use Rattle.run_history.specs.Given.{gift}
-use Rattle.book_laws.specs.Stores.{TellsStore}
+use Rattle.book_laws.specs.inner.Stores.{TellsStore}
 use Rattle.run_turns.specs.declared.course.Course.{Course}
 use Rattle.run_turns.specs.declared.turn.Turn.{Turn}
 use Rattle.run_turns.specs.declared.turn.Turn.TheVariants as turns
-use Rattle.run_turns.specs.Courses.{IsSame, KeepsCourse, past_of}
-use Rattle.run_turns.specs.Kept.{IsKept, view_of}
-use Rattle.run_turns.specs.Turns.{IsCpuTurn, IsOpened, OpensFor}
-use Rattle.run_turns.specs.Views.{IsLoadEnd, IsRun, OpensLoad}
+use Rattle.run_turns.specs.inner.Courses.{IsSame, KeepsCourse, past_of}
+use Rattle.run_turns.specs.inner.Kept.{IsKept, view_of}
+use Rattle.run_turns.specs.inner.Turns.{IsCpuTurn, IsOpened, OpensFor}
+use Rattle.run_turns.specs.inner.Views.{IsLoadEnd, IsRun, OpensLoad}
 use Rattle.run_turns.proofs.LoadCourse.{is_open}
 use Rattle.run_turns.proofs.SameLaws.{same_keeps, same_view}
 use Rattle.run_turns.proofs.ReportLaws.{cpu_stopped}

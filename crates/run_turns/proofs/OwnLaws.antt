@@ -10,19 +10,19 @@ use Rattle.cached_translations.specs.declared.processor.Mode.TheVariants.{Outsid
 use Rattle.job_grammar.specs.Jobs.{JobView}
 use Rattle.backing_store.specs.Calls.{Call}
 use Rattle.driver_tables.specs.declared.driver.Driver.{Driver}
-use Rattle.reclaim_worker.specs.Standing.{is_sealing}
-use Rattle.reclaim_worker.specs.Stored.{still_out}
-use Rattle.run_book.specs.Books.{with_own}
-use Rattle.table_notes.specs.Arrays.{KeepsArrays}
+use Rattle.reclaim_worker.specs.inner.Standing.{is_sealing}
+use Rattle.reclaim_worker.specs.inner.Stored.{still_out}
+use Rattle.run_book.specs.inner.Books.{with_own}
+use Rattle.table_notes.specs.inner.Arrays.{KeepsArrays}
 use Rattle.turn_tables.specs.declared.cpu_turns.CpuTurn.{CpuTurn}
 use Rattle.turn_tables.specs.declared.turns.Turns.{Turns}
-use Rattle.turn_tables.specs.Ending.{EndsAreTold, NoneFails}
-use Rattle.turn_tables.specs.Noting.{IsNoted, with_kick}
-use Rattle.turn_tables.specs.Noting as noting
+use Rattle.turn_tables.specs.inner.Ending.{EndsAreTold, NoneFails}
+use Rattle.turn_tables.specs.inner.Noting.{IsNoted, with_kick}
+use Rattle.turn_tables.specs.inner.Noting as noting
 use Rattle.run_turns.specs.declared.course.Course.{Course}
-use Rattle.run_turns.specs.Courses.{Grows, has_open_load, open_starts, past_of}
-use Rattle.run_turns.specs.Passing.{IsOwnEntry}
-use Rattle.run_turns.specs.Recording.{IsRecorded, IsTaken}
+use Rattle.run_turns.specs.inner.Courses.{Grows, has_open_load, open_starts, past_of}
+use Rattle.run_turns.specs.inner.Passing.{IsOwnEntry}
+use Rattle.run_turns.specs.inner.Recording.{IsRecorded, IsTaken}
 use Rattle.run_turns.proofs.KeepLaws.{taken_keeps}
 use Rattle.run_turns.proofs.RecordLaws.{newest}
 

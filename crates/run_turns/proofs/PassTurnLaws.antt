@@ -24,9 +24,9 @@ use Rattle.sgx_rules.specs.Processors.{stay}
 use Rattle.sgx_types.specs.Making.{Making}
 use Rattle.sgx_rules.specs.Slots.{next_version}
 use Rattle.job_grammar.specs.Jobs.{JobView}
-use Rattle.paging_laws.specs.State.{State}
-use Rattle.paging_machine.specs.Parts.{Parts, cpu_at, state_of}
-use Rattle.version_array.specs.Keeper.{AllOut, Keeper}
+use Rattle.paging_laws.specs.inner.State.{State}
+use Rattle.paging_machine.specs.inner.Parts.{Parts, cpu_at, state_of}
+use Rattle.version_array.specs.inner.Keeper.{AllOut, Keeper}
 use Rattle.turn_rules.specs.Script.{frame_at}
 use Rattle.driver_rules.specs.Dues.{Due, KicksAll, LooksAt, Makes, TriesOut, Waits}
 use Rattle.driver_rules.specs.Passes as passes
@@ -34,7 +34,7 @@ use Rattle.driver_rules.specs.Passes.{Pass, keepers, keepers_behind, keepers_fro
 use Rattle.driver_rules.specs.Places.{Leaving, frame_leaving, place}
 use Rattle.driver_rules.specs.declared.waits.Why.TheVariants as waits
 use Rattle.driver_tables.specs.declared.driver.Driver.{Driver}
-use Rattle.driver_tables.specs.Moves.{IsLooked}
+use Rattle.driver_tables.specs.inner.Moves.{IsLooked}
 use Rattle.reclaim_worker.specs.declared.turns.Form.{Form}
 use Rattle.reclaim_worker.specs.declared.turns.Form.TheVariants as forms
 use Rattle.reclaim_worker.specs.declared.turns.Phase.{Phase}
@@ -42,16 +42,17 @@ use Rattle.reclaim_worker.specs.declared.turns.Phase.TheVariants as phases
 use Rattle.reclaim_worker.specs.declared.turns.PassTurn.{PassTurn}
 use Rattle.reclaim_worker.specs.declared.turns.PassTurn.TheVariants as turns
 use Rattle.reclaim_worker.specs.declared.turns.Taken.{Taken}
-use Rattle.reclaim_worker.specs.Answers.{IsTurn, bits_of, by_reclaimer, track_turn, try_turn}
-use Rattle.reclaim_worker.specs.Moves.{IsBlockTurn, IsTryTurn, after_track, after_try, turn_of, turn_of_track}
-use Rattle.reclaim_worker.specs.Rests.{DriverSays}
-use Rattle.reclaim_worker.specs.Scans.{IsScanned}
-use Rattle.reclaim_worker.specs.Standing.{AreInFrames, IsForm, StandsFor, is_sealing}
-use Rattle.reclaim_worker.specs.Tried.{count_from, is_kept_by}
-use Rattle.reclaim_worker.specs.Turning.{IsFormTurn, TurnSays, WithPage}
+use Rattle.reclaim_worker.specs.inner.Answers.{IsTurn, bits_of, by_reclaimer, track_turn, try_turn}
+use Rattle.reclaim_worker.specs.inner.Moves.{IsBlockTurn, IsTryTurn, after_track, after_try, turn_of, turn_of_track}
+use Rattle.reclaim_worker.specs.inner.Rests.{DriverSays}
+use Rattle.reclaim_worker.specs.inner.Scans.{IsScanned}
+use Rattle.reclaim_worker.specs.inner.Standing.{AreInFrames, IsForm, StandsFor, is_sealing}
+use Rattle.reclaim_worker.specs.inner.Tried.{count_from, is_kept_by}
+use Rattle.reclaim_worker.specs.inner.Turning.{IsFormTurn, TurnSays, WithPage}
 use Rattle.table_notes.proofs.EntryLaws.{IsEntryOf, entry_by}
-use Rattle.turn_tables.specs.Entries.{EntersApart}
-use Rattle.driver_rules.specs.Stops.{frame_started, is_bus}
+use Rattle.turn_tables.specs.inner.Entries.{EntersApart}
+use Rattle.driver_rules.specs.Stops.{is_bus}
+use Rattle.driver_rules.specs.inner.Stops.{frame_started}
 
 -- ---- what a turn leaves, by its phase
 

@@ -2,33 +2,35 @@
 use Rattle.std.specs.Prelude.{IfSome}
 use Rattle.std.proofs.Common.{◌≡◌, ℕ, Bool, List, [], ◌∷◌, Option, Some, None, subst}
 use Rattle.sgx_rules.specs.declared.entries.Entry.{Entry}
-use Rattle.sgx_rules.specs.Rules.{Along, AtEachPlace, EvictRule, KeepsRules, NoPageTwice, NoneStale, RefusalRule}
+use Rattle.sgx_rules.specs.Rules.{Along, AtEachPlace, EvictRule, NoPageTwice, NoneStale, RefusalRule}
+use Rattle.sgx_rules.specs.inner.Rules.{KeepsRules}
 use Rattle.io_edges.specs.declared.plans.PlanLine.{PlanLine}
 use Rattle.job_grammar.specs.Jobs.{JobView}
 use Rattle.turn_rules.specs.Machines.{machine_of}
 use Rattle.seal_record.specs.Records.{Made}
 use Rattle.backing_store.specs.Calls.{Call}
-use Rattle.paging_laws.specs.Histories.{StandsWithAllRules}
-use Rattle.paging_laws.specs.State.{State}
-use Rattle.paging_machine.specs.Parts.{Parts, state_of}
+use Rattle.paging_laws.specs.inner.Histories.{StandsWithAllRules}
+use Rattle.paging_laws.specs.inner.State.{State}
+use Rattle.paging_machine.specs.inner.Parts.{Parts, state_of}
 use Rattle.driver_rules.specs.Ages.{AgeRule, KickRule}
 use Rattle.driver_rules.specs.Scripts.{ScriptRule}
 use Rattle.driver_tables.specs.declared.driver.Driver.{Driver}
 use Rattle.run_history.specs.declared.rules.Rule.TheVariants as rules
 use Rattle.run_history.specs.Given.{UnforgedRun}
-use Rattle.run_history.specs.Histories.{AtEntry, Before, GoesOn, Says}
+use Rattle.run_history.specs.Histories.{AtEntry, Before, Says}
+use Rattle.run_history.specs.inner.Histories.{GoesOn}
 use Rattle.run_history.specs.Stored.{PutsAreFlat, StoreTrue}
-use Rattle.book_laws.specs.Stores.{TellsStore}
+use Rattle.book_laws.specs.inner.Stores.{TellsStore}
 use Rattle.turn_tables.proofs.EndLaws.{run_ended}
-use Rattle.run_book.specs.Books.{KeepsBytes}
+use Rattle.run_book.specs.inner.Books.{KeepsBytes}
 use Rattle.run_turns.specs.declared.course.Course.{Course}
-use Rattle.run_turns.specs.Courses.{past_of}
-use Rattle.run_turns.specs.Kept.{IsKept, view_of}
+use Rattle.run_turns.specs.inner.Courses.{past_of}
+use Rattle.run_turns.specs.inner.Kept.{IsKept, view_of}
 use Rattle.run_turns.proofs.PutLaws.{puts_are_flat}
-use Rattle.run_turns.specs.Views.{HoldsUnforged, Holds, HoldsAnyhow}
+use Rattle.run_turns.specs.inner.Views.{HoldsUnforged, Holds, HoldsAnyhow}
 use Rattle.run_history.specs.Honest.{IsHonest}
 use Rattle.run_book.specs.Lost.{AllCameBack}
-use Rattle.run_book.specs.Books.{KeepsHonest}
+use Rattle.run_book.specs.inner.Books.{KeepsHonest}
 
 -- ---- from a rule along the entries to what is said before each of them
 

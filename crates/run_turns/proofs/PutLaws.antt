@@ -17,18 +17,19 @@ use Rattle.io_edges.specs.declared.plans.PlanLine.{PlanLine}
 use Rattle.job_grammar.specs.Jobs.{JobView}
 use Rattle.turn_rules.specs.Machines.{machine_of}
 use Rattle.seal_record.specs.Cipher.{cipher, sealed}
-use Rattle.seal_record.specs.Sealing.{SealedRule, made_after, made_by, made_with, more_made}
+use Rattle.seal_record.specs.Sealing.{SealedRule, made_with}
+use Rattle.seal_record.specs.inner.Sealing.{made_after, made_by, more_made}
 use Rattle.backing_store.specs.Calls.{Call, Got, Put, Room}
-use Rattle.paging_machine.specs.Parts.{Parts}
+use Rattle.paging_machine.specs.inner.Parts.{Parts}
 use Rattle.driver_tables.specs.declared.driver.Driver.{Driver}
 use Rattle.run_history.specs.Calls.{CallsAre, ComesWith, before}
 use Rattle.run_history.specs.Given.{UnforgedRun, made_in, made_more}
 use Rattle.run_history.specs.Stored.{PutsAreFlat, PutsBytes}
-use Rattle.book_laws.specs.Stores.{TellsStore}
-use Rattle.run_book.specs.Books.{KeepsBytes}
+use Rattle.book_laws.specs.inner.Stores.{TellsStore}
+use Rattle.run_book.specs.inner.Books.{KeepsBytes}
 use Rattle.run_turns.specs.declared.course.Course.{Course}
-use Rattle.run_turns.specs.Courses.{past_of}
-use Rattle.run_turns.specs.Kept.{IsKept}
+use Rattle.run_turns.specs.inner.Courses.{past_of}
+use Rattle.run_turns.specs.inner.Kept.{IsKept}
 
 -- a record of some bytes has their cipher
 has_cipher : (key : List ℕ) (version : ℕ) (plain : List ℕ) (header : Option Header) (rec : Sealed)

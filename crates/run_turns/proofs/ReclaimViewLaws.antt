@@ -13,37 +13,38 @@ use Rattle.sgx_rules.specs.Frames.{Holds, is_page}
 use Rattle.sgx_types.specs.Layouts.{bytes_of}
 use Rattle.sgx_types.specs.Making.{Making}
 use Rattle.sgx_types.proofs.Pages.{same_page-refl}
-use Rattle.sgx_rules.specs.Starts.{BareStart}
+use Rattle.sgx_rules.specs.inner.Starts.{BareStart}
 use Rattle.io_edges.specs.declared.plans.PlanLine.{PlanLine}
 use Rattle.seal_record.specs.declared.seal.SealWork.{SealWork}
 use Rattle.backing_store.specs.Calls.{Call}
-use Rattle.paging_laws.specs.Steps.{SealsPage}
+use Rattle.paging_laws.specs.inner.Steps.{SealsPage}
 use Rattle.paging_laws.proofs.ColumnLaws.{content_is}
 use Rattle.paging_laws.proofs.SlotLaws.{started_as}
-use Rattle.paging_machine.specs.Parts.{state_of}
+use Rattle.paging_machine.specs.inner.Parts.{state_of}
 use Rattle.turn_rules.specs.Machines.{machine_of}
 use Rattle.job_grammar.specs.Jobs.{JobView}
 use Rattle.driver_rules.specs.Dues.{KicksAll}
 use Rattle.driver_rules.specs.Passes.{Form, Third, ToKick, Tries, keepers, pass}
-use Rattle.driver_rules.specs.Reclaims.{all_finished, pass_due, reclaimer_due}
-use Rattle.driver_rules.specs.Stops.{frame_started, is_spent, last_event}
+use Rattle.driver_rules.specs.inner.Reclaims.{all_finished, pass_due, reclaimer_due}
+use Rattle.driver_rules.specs.Stops.{is_spent}
+use Rattle.driver_rules.specs.inner.Stops.{frame_started, last_event}
 use Rattle.run_history.specs.Given.{UnforgedRun}
-use Rattle.run_book.specs.Books.{KeepsBytes}
+use Rattle.run_book.specs.inner.Books.{KeepsBytes}
 use Rattle.run_records.proofs.PassRecords.{header_held}
 use Rattle.reclaim_worker.specs.declared.turns.Phase.{Phase}
 use Rattle.reclaim_worker.specs.declared.turns.Phase.TheVariants as phases
 use Rattle.reclaim_worker.specs.declared.turns.Taken.{Taken}
-use Rattle.reclaim_worker.specs.Standing.{StandsFor, is_kicked, is_sealing, pages_in}
+use Rattle.reclaim_worker.specs.inner.Standing.{StandsFor, is_kicked, is_sealing, pages_in}
 use Rattle.reclaim_worker.specs.declared.turns.Form.TheVariants as code
-use Rattle.reclaim_worker.specs.Stored.{IsToSeal}
+use Rattle.reclaim_worker.specs.inner.Stored.{IsToSeal}
 use Rattle.run_turns.specs.declared.course.Course.{Course}
 use Rattle.run_turns.specs.declared.turn.Turn.{Turn}
 use Rattle.run_turns.specs.declared.turn.Turn.TheVariants as turns
-use Rattle.run_turns.specs.Courses.{IsSame, KeepsCourse, past_of}
-use Rattle.run_turns.specs.Kept.{IsKept, view_of}
-use Rattle.run_turns.specs.Passing.{EndsNone, IsWaiting}
-use Rattle.run_turns.specs.Turns.{IsReclaimerTurn, IsSealed, SealsFor, due_of}
-use Rattle.run_turns.specs.Views.{IsDueNow, IsOutEnd, IsReclaim, SealsPageOut}
+use Rattle.run_turns.specs.inner.Courses.{IsSame, KeepsCourse, past_of}
+use Rattle.run_turns.specs.inner.Kept.{IsKept, view_of}
+use Rattle.run_turns.specs.inner.Passing.{EndsNone, IsWaiting}
+use Rattle.run_turns.specs.inner.Turns.{IsReclaimerTurn, IsSealed, SealsFor, due_of}
+use Rattle.run_turns.specs.inner.Views.{IsDueNow, IsOutEnd, IsReclaim, SealsPageOut}
 use Rattle.run_turns.proofs.StartLaws.{none_started}
 use Rattle.run_turns.proofs.ViewLaws.{grown_seen, plans_told}
 

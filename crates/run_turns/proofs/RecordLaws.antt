@@ -12,8 +12,8 @@ use Rattle.sgx_rules.specs.declared.entries.Event.TheVariants.{Age, Bus, Did, Ki
 use Rattle.sgx_types.specs.declared.names.Cpu.{Cpu}
 use Rattle.sgx_rules.specs.Processors.{is_by}
 use Rattle.turn_rules.specs.Script.{action_of}
-use Rattle.driver_rules.specs.Stops.{frame_started, is_frame, last_event, started}
-use Rattle.table_notes.specs.Plain.{is_plain}
+use Rattle.driver_rules.specs.inner.Stops.{frame_started, is_frame, last_event, started}
+use Rattle.table_notes.specs.inner.Plain.{is_plain}
 
 -- the newest entry stands first
 pub newest : (old new : List Entry) (e : Entry) → new ≡ old ++ e ∷ [] → reverse new ≡ e ∷ reverse old

@@ -7,24 +7,24 @@ use Rattle.sgx_types.specs.Making.{Making}
 use Rattle.job_grammar.specs.Jobs.{JobView}
 use Rattle.backing_store.specs.Calls.{Call}
 use Rattle.turn_rules.specs.Machines.{machine_of}
-use Rattle.paging_laws.specs.Histories.{StandsWithAllRules}
-use Rattle.paging_laws.specs.Shape.{ShapeWithRules}
-use Rattle.paging_laws.specs.State.{State}
-use Rattle.paging_machine.specs.Parts.{Parts, state_of}
-use Rattle.driver_laws.specs.Three.{TcsAreApart}
+use Rattle.paging_laws.specs.inner.Histories.{StandsWithAllRules}
+use Rattle.paging_laws.specs.inner.Shape.{ShapeWithRules}
+use Rattle.paging_laws.specs.inner.State.{State}
+use Rattle.paging_machine.specs.inner.Parts.{Parts, state_of}
+use Rattle.driver_laws.specs.inner.Three.{TcsAreApart}
 use Rattle.driver_rules.specs.Passes.{pass}
 use Rattle.driver_tables.specs.declared.driver.Driver.{Driver}
 use Rattle.reclaim_worker.specs.declared.turns.Phase.{Phase}
-use Rattle.reclaim_worker.specs.Standing.{StandsFor, is_sealing}
-use Rattle.reclaim_worker.specs.Stored.{still_out}
+use Rattle.reclaim_worker.specs.inner.Standing.{StandsFor, is_sealing}
+use Rattle.reclaim_worker.specs.inner.Stored.{still_out}
 use Rattle.run_history.specs.Given.{UnforgedRun, made_in}
-use Rattle.run_book.specs.Books.{KeepsBook}
-use Rattle.table_notes.specs.Arrays.{KeepsArrays}
+use Rattle.run_book.specs.inner.Books.{KeepsBook}
+use Rattle.table_notes.specs.inner.Arrays.{KeepsArrays}
 use Rattle.turn_tables.specs.declared.turns.Turns.{Turns}
-use Rattle.turn_tables.specs.Ending.{EndsAreTold, NoneFails}
+use Rattle.turn_tables.specs.inner.Ending.{EndsAreTold, NoneFails}
 use Rattle.run_turns.specs.declared.course.Course.{Course}
-use Rattle.run_turns.specs.Courses.{Grows, IsSame, KeepsCourse, has_open_load, open_starts, past_of}
-use Rattle.run_turns.specs.Turns.{IsAtRest}
+use Rattle.run_turns.specs.inner.Courses.{Grows, IsSame, KeepsCourse, has_open_load, open_starts, past_of}
+use Rattle.run_turns.specs.inner.Turns.{IsAtRest}
 
 -- what a book keeps of a machine it keeps of another one in the same state
 pub book_of_state : (made : Making) (j : JobView) (past : List Entry) (told : Option (List Call)) (d : Driver) (m m' : Parts) (t : Turns)

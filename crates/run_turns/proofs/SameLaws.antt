@@ -6,22 +6,22 @@ use Rattle.io_edges.specs.declared.plans.PlanLine.{PlanLine}
 use Rattle.job_grammar.specs.Jobs.{JobView}
 use Rattle.backing_store.specs.Calls.{Call}
 use Rattle.turn_rules.specs.Machines.{machine_of}
-use Rattle.paging_machine.specs.Parts.{Parts}
+use Rattle.paging_machine.specs.inner.Parts.{Parts}
 use Rattle.driver_rules.specs.Passes.{pass}
-use Rattle.driver_laws.specs.Three.{TcsAreApart}
+use Rattle.driver_laws.specs.inner.Three.{TcsAreApart}
 use Rattle.driver_tables.specs.declared.driver.Driver.{Driver}
 use Rattle.reclaim_worker.specs.declared.turns.Phase.{Phase}
 use Rattle.reclaim_worker.specs.declared.turns.Taken.{Taken}
-use Rattle.reclaim_worker.specs.Standing.{StandsFor, is_sealing}
-use Rattle.reclaim_worker.specs.Stored.{still_out}
+use Rattle.reclaim_worker.specs.inner.Standing.{StandsFor, is_sealing}
+use Rattle.reclaim_worker.specs.inner.Stored.{still_out}
 use Rattle.turn_tables.specs.declared.turns.Turns.{Turns}
-use Rattle.turn_tables.specs.Ending.{EndsAreTold, NoneFails}
-use Rattle.table_notes.specs.Arrays.{KeepsArrays}
-use Rattle.run_book.specs.Books.{KeepsBook}
+use Rattle.turn_tables.specs.inner.Ending.{EndsAreTold, NoneFails}
+use Rattle.table_notes.specs.inner.Arrays.{KeepsArrays}
+use Rattle.run_book.specs.inner.Books.{KeepsBook}
 use Rattle.run_turns.specs.declared.course.Course.{Course}
-use Rattle.run_turns.specs.Courses.{IsSame, KeepsCourse, has_open_load, open_starts, past_of}
-use Rattle.run_turns.specs.Kept.{view_of}
-use Rattle.run_turns.specs.Views.{BookView}
+use Rattle.run_turns.specs.inner.Courses.{IsSame, KeepsCourse, has_open_load, open_starts, past_of}
+use Rattle.run_turns.specs.inner.Kept.{view_of}
+use Rattle.run_turns.specs.inner.Views.{BookView}
 
 -- a fact of the parts of a course
 by_parts : (c c' : Course) → IsSame c c' → (P : JobView → List Entry → Driver → Parts → Turns → List Taken → Phase → Type 0)

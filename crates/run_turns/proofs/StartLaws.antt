@@ -7,11 +7,12 @@ use Rattle.job_grammar.specs.Jobs.{JobView}
 use Rattle.driver_rules.specs.Ages.{AgeRule}
 use Rattle.driver_rules.specs.Passes.{pass}
 use Rattle.driver_rules.specs.Dues.{Finished}
-use Rattle.driver_rules.specs.Reclaims.{all_finished, due_with, reclaimer_due}
-use Rattle.driver_rules.specs.Stops.{frame_started, is_spent, last_event}
+use Rattle.driver_rules.specs.inner.Reclaims.{all_finished, due_with, reclaimer_due}
+use Rattle.driver_rules.specs.Stops.{is_spent}
+use Rattle.driver_rules.specs.inner.Stops.{frame_started, last_event}
 use Rattle.reclaim_worker.specs.declared.turns.Phase.{Phase}
 use Rattle.reclaim_worker.specs.declared.turns.Taken.{Taken}
-use Rattle.reclaim_worker.specs.Standing.{StandsFor, is_sealing}
+use Rattle.reclaim_worker.specs.inner.Standing.{StandsFor, is_sealing}
 use Rattle.reclaim_worker.proofs.NextLaws.{none_out, started_out}
 
 pub finished_due : (first : ℕ) (j : JobView) (past : List Entry) (taken : List Taken) (phase : Phase) (kicked : Bool)

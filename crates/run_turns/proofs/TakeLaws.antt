@@ -1,29 +1,30 @@
 -- An entry of the reclaimer's turn can be taken in.
-use Rattle.std.proofs.Common.{◌≡◌, ℕ, ◌+◌, ◌*◌, ◌≤◌, if◌then◌else◌, ◌∷◌, List, Option, IfSome, count_by, vec_len, vec_capacity, refl, sym}
+use Rattle.std.proofs.Common.{◌≡◌, ℕ, ◌+◌, ◌*◌, ◌≤◌, if◌then◌else◌, ◌∷◌, List, Option, IfSome, count_by, vec_len, vec_capacity}
+use Rattle.std.proofs.Common.{refl, sym}
 use Rattle.std.proofs.Common.{subst, arith}
 use Rattle.sgx_types.specs.declared.names.Actor.{Actor}
 use Rattle.sgx_rules.specs.declared.entries.Entry.{Entry}
-use Rattle.sgx_rules.specs.Enclaves.{EnclavesAreFlat}
+use Rattle.sgx_rules.specs.inner.Enclaves.{EnclavesAreFlat}
 use Rattle.backing_store.specs.Calls.{Call}
 use Rattle.cached_translations.specs.declared.processor.Mode.TheVariants.{Outside}
 use Rattle.turn_rules.specs.Machines.{machine_of}
-use Rattle.paging_machine.specs.Parts.{Parts}
+use Rattle.paging_machine.specs.inner.Parts.{Parts}
 use Rattle.driver_rules.specs.Ages.{AgeRule}
 use Rattle.driver_rules.specs.Passes.{pass, pass_after, pass_by}
 use Rattle.driver_tables.specs.declared.driver.Driver.{Driver}
-use Rattle.driver_steps.specs.Asked.{IsNextOf}
+use Rattle.driver_steps.specs.inner.Asked.{IsNextOf}
 use Rattle.reclaim_worker.specs.declared.passes.Pass as worker
-use Rattle.reclaim_worker.specs.Standing.{StandsFor, is_sealing}
-use Rattle.reclaim_worker.specs.Stored.{still_out}
-use Rattle.run_book.specs.Books.{AreTold, CarriesBytes}
+use Rattle.reclaim_worker.specs.inner.Standing.{StandsFor, is_sealing}
+use Rattle.reclaim_worker.specs.inner.Stored.{still_out}
+use Rattle.run_book.specs.inner.Books.{AreTold, CarriesBytes}
 use Rattle.run_records.proofs.HonestRecords.{not_lost}
-use Rattle.table_notes.specs.Arrays.{KeepsArrays}
+use Rattle.table_notes.specs.inner.Arrays.{KeepsArrays}
 use Rattle.table_notes.proofs.ArrayLaws.{arrays_in_pass}
-use Rattle.turn_tables.specs.Holding.{mode_of}
-use Rattle.turn_tables.specs.Noting.{with_kick}
+use Rattle.turn_tables.specs.inner.Holding.{mode_of}
+use Rattle.turn_tables.specs.inner.Noting.{with_kick}
 use Rattle.run_turns.specs.declared.course.Course.{Course}
-use Rattle.run_turns.specs.Courses.{KeepsCourse, has_open_load, past_of}
-use Rattle.run_turns.specs.Passing.{IsOwnEntry}
+use Rattle.run_turns.specs.inner.Courses.{KeepsCourse, has_open_load, past_of}
+use Rattle.run_turns.specs.inner.Passing.{IsOwnEntry}
 use Rattle.run_turns.proofs.OwnLaws.{own_ends, own_none}
 use Rattle.run_turns.proofs.PassTurnLaws.{IsTurnEntry}
 

@@ -1,5 +1,6 @@
 -- What a turn of a course is in the book.
-use Rattle.std.proofs.Common.{◌≡◌, ℕ, Bool, false, List, Option, Some, None, Result, Ok, Err, IfOk, IfSome, OnSome, is_some, OnErr}
+use Rattle.std.proofs.Common.{◌≡◌, ℕ, Bool, false, List, Option, Some, None, Result, Ok, Err, IfOk, IfSome, OnSome, is_some}
+use Rattle.std.proofs.Common.{OnErr}
 use Rattle.std.proofs.Common.{refl, sym, ap, subst, ◌∙◌}
 use Rattle.std.proofs.lemmas.Bool.{false≢true}
 use Rattle.sgx_types.specs.declared.names.Actor.{Actor}
@@ -11,10 +12,10 @@ use Rattle.backing_store.specs.Calls.{Call}
 use Rattle.run_turns.specs.declared.course.Course.{Course}
 use Rattle.run_turns.specs.declared.turn.Turn.{Turn}
 use Rattle.run_turns.specs.declared.turn.Turn.TheVariants as turns
-use Rattle.run_turns.specs.Courses.{Grows, IsSame, KeepsCourse, past_of}
-use Rattle.run_turns.specs.Kept.{IsKept, view_of}
-use Rattle.run_turns.specs.Turns.{CanTurn, IsBuilderTurn}
-use Rattle.run_turns.specs.Views.{HasGrown, IsBuild}
+use Rattle.run_turns.specs.inner.Courses.{Grows, IsSame, KeepsCourse, past_of}
+use Rattle.run_turns.specs.inner.Kept.{IsKept, view_of}
+use Rattle.run_turns.specs.inner.Turns.{CanTurn, IsBuilderTurn}
+use Rattle.run_turns.specs.inner.Views.{HasGrown, IsBuild}
 use Rattle.run_turns.proofs.SameLaws.{same_keeps, same_view}
 use Rattle.run_turns.proofs.ReportLaws.{builder_stopped}
 

@@ -1,7 +1,1 @@
-pub mod Courses
-pub mod Recording
-pub mod Kicking
-pub mod Turns
-pub mod Passing
-pub mod Views
-pub mod Kept
+pub mod inner

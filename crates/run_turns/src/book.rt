@@ -1,8 +1,8 @@
 //! The book of a run.
 
 ghost use Rattle.std.specs.Prelude.{◌≡◌, ◌<◌, [], false, true, IfOk, IfSome, OnErr, length, reverse};
-ghost use Rattle.job_grammar.specs.Valid.{IsValid};
-ghost use Rattle.run_turns.specs.Views.{Holds, IsBuild, IsLoadEnd, IsOutEnd, IsReclaim, IsRun};
+ghost use Rattle.job_grammar.specs.inner.Valid.{IsValid};
+ghost use Rattle.run_turns.specs.inner.Views.{Holds, IsBuild, IsLoadEnd, IsOutEnd, IsReclaim, IsRun};
 
 use crate::course::Course;
 use crate::turn::Turn;
@@ -26,11 +26,11 @@ pub struct Book<B: Backing> {
 }
 
 impl<B: Backing> Model for Book<B> {
-    ghost use Rattle.run_turns.specs.Views.{BookView};
+    ghost use Rattle.run_turns.specs.inner.Views.{BookView};
 
     ghost Value = { BookView };
 
-    ghost use Rattle.run_turns.specs.Kept.{IsKept, view_of};
+    ghost use Rattle.run_turns.specs.inner.Kept.{IsKept, view_of};
 
     ghost view = { λ b. view_of b.course.value (B.told b.store) (B.plans b.store) b.noted };
 

@@ -1,10 +1,10 @@
 //! Instructions that move no page out or back, and the turns of the builder.
 
 ghost use Rattle.std.specs.Prelude.{◌≡◌, IfOk, OnErr, false};
-ghost use Rattle.driver_rules.specs.Stops.{started};
+ghost use Rattle.driver_rules.specs.inner.Stops.{started};
 ghost use Rattle.run_turns.specs.declared.turn.Turn.TheVariants as turns;
-ghost use Rattle.run_turns.specs.Courses.{Grows, IsSame, past_of};
-ghost use Rattle.run_turns.specs.Turns.{CanInstruct, CanTurn, IsBuilderTurn};
+ghost use Rattle.run_turns.specs.inner.Courses.{Grows, IsSame, past_of};
+ghost use Rattle.run_turns.specs.inner.Turns.{CanInstruct, CanTurn, IsBuilderTurn};
 
 use crate::course::Course;
 use crate::turn::Turn;

@@ -2,7 +2,7 @@
 
 ghost use Rattle.std.specs.Prelude.{◌≡◌, ℕ, [], List, Option, IfOk, IfSome};
 ghost use Rattle.backing_store.specs.Calls.{Call};
-ghost use Rattle.run_turns.specs.Courses.{KeepsCourse};
+ghost use Rattle.run_turns.specs.inner.Courses.{KeepsCourse};
 
 use crate::building::ROOM;
 use driver_tables::driver::Driver;

@@ -1,13 +1,13 @@
 //! The turns of a processor.
 
 ghost use Rattle.std.specs.Prelude.{◌≡◌, ◌<◌, false, true, IfOk, OnErr, Some, is_some, length};
-ghost use Rattle.driver_calls.specs.Comes.{bus_of};
-ghost use Rattle.driver_laws.specs.Agrees.{loaded_by};
+ghost use Rattle.driver_calls.specs.inner.Comes.{bus_of};
+ghost use Rattle.driver_laws.specs.inner.Agrees.{loaded_by};
 ghost use Rattle.driver_rules.specs.Places.{place};
 ghost use Rattle.driver_rules.specs.Stops.{is_spent};
 ghost use Rattle.driver_rules.specs.Turns.{cpu_due, fetches, last_of};
-ghost use Rattle.run_turns.specs.Courses.{IsSame, KeepsCourse, past_of};
-ghost use Rattle.run_turns.specs.Turns.{CanTurn, IsCpuTurn, IsOpened};
+ghost use Rattle.run_turns.specs.inner.Courses.{IsSame, KeepsCourse, past_of};
+ghost use Rattle.run_turns.specs.inner.Turns.{CanTurn, IsCpuTurn, IsOpened};
 
 use crate::building::ROOM;
 use crate::course::Course;

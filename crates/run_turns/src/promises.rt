@@ -4,8 +4,8 @@ ghost use Rattle.std.specs.Prelude.{ℕ, Bool, List, Option};
 ghost use Rattle.backing_store.specs.Calls.{Call};
 ghost use Rattle.io_edges.specs.declared.plans.PlanLine.{PlanLine};
 ghost use Rattle.run_turns.specs.declared.course.Course.{Course};
-ghost use Rattle.run_turns.specs.Kept.{IsKept, view_of};
-ghost use Rattle.run_turns.specs.Views.{Holds};
+ghost use Rattle.run_turns.specs.inner.Kept.{IsKept, view_of};
+ghost use Rattle.run_turns.specs.inner.Views.{Holds};
 
 /// What a course keeps gives all that is so of every book: whatever the store gave, the rules that no page's bytes decide and the store's
 /// calls; and where no record was forged, all eleven rules, and that each record that was put has the flat bytes of its page.

@@ -2,13 +2,14 @@
 
 ghost use Rattle.std.specs.Prelude.{◌≡◌, ◌+◌, ◌≤◌, ◌∷◌, [], true, false, IfOk, OnErr, is_some, length, vec_len};
 ghost use Rattle.std.specs.Prelude.{vec_capacity};
-ghost use Rattle.driver_rules.specs.Reclaims.{all_finished};
+ghost use Rattle.driver_rules.specs.inner.Reclaims.{all_finished};
 ghost use Rattle.driver_rules.specs.Stops.{is_spent};
-ghost use Rattle.reclaim_worker.specs.Standing.{is_sealing};
-ghost use Rattle.run_turns.specs.Courses.{Grows, IsSame, KeepsCourse, past_of};
-ghost use Rattle.run_turns.specs.Kicking.{CanKick, CanKickOne, HasKicked};
-ghost use Rattle.run_turns.specs.Passing.{CanFollow, CanTakeOwn, EndsNone, IsFollowed, IsSealOf, IsWaiting, is_building, is_left};
-ghost use Rattle.run_turns.specs.Turns.{CanTurn, EndsOut, IsReclaimerTurn, IsSealed};
+ghost use Rattle.reclaim_worker.specs.inner.Standing.{is_sealing};
+ghost use Rattle.run_turns.specs.inner.Courses.{Grows, IsSame, KeepsCourse, past_of};
+ghost use Rattle.run_turns.specs.inner.Kicking.{CanKick, CanKickOne, HasKicked};
+ghost use Rattle.run_turns.specs.inner.Passing.{CanFollow, CanTakeOwn, EndsNone, IsFollowed, IsSealOf, IsWaiting, is_building};
+ghost use Rattle.run_turns.specs.inner.Passing.{is_left};
+ghost use Rattle.run_turns.specs.inner.Turns.{CanTurn, EndsOut, IsReclaimerTurn, IsSealed};
 ghost use Rattle.sgx_types.specs.declared.names.Actor.TheVariants as actors;
 
 use crate::building::ROOM;

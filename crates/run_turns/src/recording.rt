@@ -1,11 +1,11 @@
 //! What is done with each entry.
 
 ghost use Rattle.std.specs.Prelude.{◌≡◌, ◌++◌, ◌∷◌, [], vec_capacity};
-ghost use Rattle.reclaim_worker.specs.Standing.{is_sealing};
-ghost use Rattle.reclaim_worker.specs.Stored.{still_out};
-ghost use Rattle.run_book.specs.Books.{with_own};
-ghost use Rattle.run_turns.specs.Recording.{CanRecord, CanTake, IsRecorded, IsTaken};
-ghost use Rattle.turn_tables.specs.Noting.{IsNoted};
+ghost use Rattle.reclaim_worker.specs.inner.Standing.{is_sealing};
+ghost use Rattle.reclaim_worker.specs.inner.Stored.{still_out};
+ghost use Rattle.run_book.specs.inner.Books.{with_own};
+ghost use Rattle.run_turns.specs.inner.Recording.{CanRecord, CanTake, IsRecorded, IsTaken};
+ghost use Rattle.turn_tables.specs.inner.Noting.{IsNoted};
 
 use crate::course::Course;
 use cached_translations::processor::Mode;

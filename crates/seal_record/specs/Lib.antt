@@ -1,4 +1,4 @@
 pub mod Cipher
 pub mod Records
-pub mod Row
 pub mod Sealing
+pub mod inner

@@ -1,5 +1,5 @@
 -- The records that write-outs give, by the entries and flat memory, and the rule Sealed.
-use Rattle.std.specs.Prelude.{ℕ, ◌≡◌, List, [], ◌∷◌, ◌++◌, Option, Some, None, option_map}
+use Rattle.std.specs.Prelude.{ℕ, ◌≡◌, List, Option, Some, option_map}
 use Rattle.sgx_rules.specs.declared.entries.Action.TheVariants.{Ewb}
 use Rattle.sgx_rules.specs.declared.entries.Answer.{Answer}
 use Rattle.sgx_rules.specs.declared.entries.Answer.TheVariants as answers
@@ -20,19 +20,6 @@ record_in key version m g = option_map (λ header. sealed key version header (by
 -- a record that was given out, with its version
 abbrev pub made_with : ℕ → Sealed → Made
 made_with version rec = record { version = version; header = rec.header; cipher = rec.cipher; tag = rec.tag }
-
-abbrev pub more_made : ℕ → Option Sealed → List Made → List Made
-more_made version None before = before
-more_made version (Some rec) before = before ++ made_with version rec ∷ []
-
-abbrev pub made_after : List ℕ → Event → FlatMemory → List Made → List Made
-made_after key (Did (Ewb f) (answers.Moved page version tag)) m before = more_made version (record_in key version m page) before
-made_after key _ m before = before
-
--- the records of the done write-outs, in order: each is of the page's bytes there
-abbrev pub made_by : List ℕ → List Entry → List Made
-made_by key [] = []
-made_by key (e ∷ past) = made_after key e.event (flat past) (made_by key past)
 
 -- a write-out tells the tag of the page's bytes
 pub record IsSealed (key : List ℕ) (m : FlatMemory) (page : Page) (version : ℕ) (tag : List ℕ) : Type 0 where

@@ -5,7 +5,7 @@ use Rattle.std.specs.Int.{is_power_of_two}
 use Rattle.std.specs.Int.RustNames.{count_ones}
 use Rattle.std.proofs.lemmas.Bool.{and_parts, eqb-true, leb-true}
 use Rattle.std.proofs.lemmas.Nat.{leading_top, ones_cat, zero_from_ones, div_below, row_fits, pow_pos, pow-add, div-add-mod'}
-use Rattle.secs_state.specs.Secs.{SecsState, IsSecs, page_count}
+use Rattle.secs_state.specs.inner.Secs.{SecsState, IsSecs, page_count}
 
 one_of_one : count_ones 1 ≡ 1
 unfolding count_ones

@@ -5,8 +5,8 @@ use Rattle.std.proofs.lemmas.Bool.{cases_lt, cases_eq, cond_both, cond-true, con
 use Rattle.std.proofs.lemmas.List.{get_or-set_same, get_or-set_other, get_or_past}
 use Rattle.sgx_types.specs.declared.names.Kind.{Kind}
 use Rattle.sgx_types.specs.declared.names.Perm.{Perm}
-use Rattle.secs_state.specs.Secs.{SecsState, IsSecs, page_count, added_at, is_busy_at, with_page, with_busy}
-use Rattle.secs_state.specs.Table.{enclave_at, with_enclave}
+use Rattle.secs_state.specs.inner.Secs.{SecsState, IsSecs, page_count, added_at, is_busy_at, with_page, with_busy}
+use Rattle.secs_state.specs.inner.Table.{enclave_at, with_enclave}
 
 -- a write to a list, read at each place
 get_or-set_if : {A : Type 0} (xs : List A) (i n : ℕ) (a d : A) → i < length xs → get_or (set xs i a) n d ≡ cond (i == n) a (get_or xs n d)

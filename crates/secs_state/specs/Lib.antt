@@ -1,5 +1,1 @@
-pub mod Secs
-pub mod Kept
-pub mod Table
-pub mod Lending
-pub mod Sights
+pub mod inner

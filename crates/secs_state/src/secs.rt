@@ -3,7 +3,8 @@
 ghost use Rattle.std.specs.Prelude.{◌≡◌, ◌≢◌, ◌+◌, ◌-◌, ◌*◌, ◌<◌, ◌^◌, true, false, None, IfOk, IsSome};
 ghost use Rattle.std.specs.Prelude.{OnSome};
 ghost use Rattle.sgx_types.specs.Lawful.{is_lawful};
-ghost use Rattle.secs_state.specs.Secs.{IsSecs, page_count, created, added_at, is_busy_at, with_init, with_page, with_busy, with_children};
+ghost use Rattle.secs_state.specs.inner.Secs.{IsSecs, page_count, created, added_at, is_busy_at, with_init, with_page, with_busy};
+ghost use Rattle.secs_state.specs.inner.Secs.{with_children};
 
 use sgx_types::names::{Kind, Memory, PAGE_BYTES, Perm};
 use std::alloc::Global;
@@ -24,11 +25,11 @@ pub struct Secs {
 }
 
 impl Model for Secs {
-    ghost use Rattle.secs_state.specs.Secs.{SecsState};
+    ghost use Rattle.secs_state.specs.inner.Secs.{SecsState};
 
     ghost Value = { SecsState };
 
-    ghost use Rattle.secs_state.specs.Kept.{secs_of, IsKept};
+    ghost use Rattle.secs_state.specs.inner.Kept.{secs_of, IsKept};
 
     ghost view = { secs_of };
 

@@ -3,8 +3,8 @@
 ghost use Rattle.std.specs.Prelude.{◌≡◌, ◌≤◌, length, None, OnSome};
 ghost use Rattle.std.specs.Option.{option_copied, option_copied_mut};
 ghost use Rattle.std.specs.Borrow.{sem};
-ghost use Rattle.secs_state.specs.Table.{empty_table, enclave_at, with_enclave};
-ghost use Rattle.secs_state.specs.Lending.{LendsEnclave};
+ghost use Rattle.secs_state.specs.inner.Table.{empty_table, enclave_at, with_enclave};
+ghost use Rattle.secs_state.specs.inner.Lending.{LendsEnclave};
 
 use crate::secs::Secs;
 use std::marker::Model;
@@ -25,7 +25,7 @@ pub struct SecsTable {
 
 impl Model for SecsTable {
     ghost use Rattle.std.specs.Prelude.{List, [], ◌∷◌, Option};
-    ghost use Rattle.secs_state.specs.Secs.{SecsState};
+    ghost use Rattle.secs_state.specs.inner.Secs.{SecsState};
 
     ghost Value = { List (Option SecsState) };
 

@@ -5,8 +5,10 @@ use Rattle.std.proofs.lemmas.Bool.{cond_both, eq-eqb, false≢true}
 use Rattle.sgx_rules.specs.declared.entries.Entry.{Entry}
 use Rattle.sgx_types.specs.declared.names.SlotAt.{SlotAt}
 use Rattle.sgx_types.specs.Pages.{same_slot}
-use Rattle.sgx_rules.specs.Slots.{IsIdle, is_slot_busy, names_slot, open_slot, slot_of}
-use Rattle.sgx_rules.specs.Starts.{BareStart, Start, bare_start, open_start, without_place}
+use Rattle.sgx_rules.specs.Slots.{is_slot_busy, names_slot, open_slot, slot_of}
+use Rattle.sgx_rules.specs.inner.Slots.{IsIdle}
+use Rattle.sgx_rules.specs.Starts.{Start, open_start}
+use Rattle.sgx_rules.specs.inner.Starts.{BareStart, bare_start, without_place}
 use Rattle.sgx_types.proofs.CountLaws.{any_below-found, any_below-none, any_below-some}
 use Rattle.sgx_types.proofs.Pages.{same_slots}
 

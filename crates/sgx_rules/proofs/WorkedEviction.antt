@@ -19,7 +19,8 @@ use Rattle.sgx_types.specs.declared.names.SlotAt.{SlotAt}
 use Rattle.sgx_types.specs.Counts.{any_below, count_below}
 use Rattle.sgx_types.specs.Pages.{page_at}
 use Rattle.sgx_rules.specs.Frames.{Free, IsVa, IsLoading, Holds, content, is_sealing}
-use Rattle.sgx_rules.specs.Epochs.{epoch, older_at, newer_at, block_epoch}
+use Rattle.sgx_rules.specs.Epochs.{epoch, older_at}
+use Rattle.sgx_rules.specs.inner.Epochs.{newer_at, block_epoch}
 use Rattle.sgx_rules.specs.Eviction.{is_drained, kept_back}
 use Rattle.sgx_rules.specs.Slots.{version_in, is_slot_busy, next_version}
 use Rattle.sgx_rules.specs.Starts.{open_start}

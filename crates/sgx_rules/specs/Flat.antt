@@ -9,7 +9,8 @@ use Rattle.sgx_rules.specs.declared.entries.Event.TheVariants.{Did}
 use Rattle.sgx_types.specs.declared.names.Actor.{Actor}
 use Rattle.sgx_types.specs.declared.names.Actor.TheVariants as actors
 use Rattle.sgx_rules.specs.declared.entries.Action.{Action}
-use Rattle.sgx_rules.specs.declared.entries.Action.TheVariants.{Create, Add, Extend, Init, Enter, Resume, Exit, Aex, Load, Store, Xadd, Set}
+use Rattle.sgx_rules.specs.declared.entries.Action.TheVariants.{Create, Add, Extend, Init, Enter, Resume, Exit, Aex, Load, Store}
+use Rattle.sgx_rules.specs.declared.entries.Action.TheVariants.{Xadd, Set}
 use Rattle.sgx_rules.specs.declared.entries.Action.TheVariants.{Plus, Pf, OutLoad, OutStore}
 use Rattle.sgx_rules.specs.declared.entries.Answer.{Answer}
 use Rattle.sgx_rules.specs.declared.entries.Answer.TheVariants as answers
@@ -24,8 +25,10 @@ use Rattle.sgx_types.specs.Pages.{same_page, page_at}
 use Rattle.sgx_rules.specs.Frames.{Content, Free, Holds}
 use Rattle.sgx_types.specs.Layouts.{bytes_of}
 use Rattle.sgx_types.specs.Sealed.{header_of}
-use Rattle.sgx_rules.specs.Table.{Case, allowed, first_of_row, FrameSight, EnclaveSight, EnterSight, TcsSight, fault_of, create_row}
-use Rattle.sgx_rules.specs.Table.{add_row, extend_row, init_row, enter_row, resume_row, exit_row, aex_row, load_row, store_row, xadd_row}
+use Rattle.sgx_rules.specs.Table.{Case, allowed, first_of_row, FrameSight, EnclaveSight, EnterSight, TcsSight, fault_of}
+use Rattle.sgx_rules.specs.Table.{create_row}
+use Rattle.sgx_rules.specs.Table.{add_row, extend_row, init_row, enter_row, resume_row, exit_row, aex_row, load_row, store_row}
+use Rattle.sgx_rules.specs.Table.{xadd_row}
 use Rattle.sgx_rules.specs.Table.{set_row, plus_row, pf_row, outload_row, outstore_row}
 
 -- ---- the memory

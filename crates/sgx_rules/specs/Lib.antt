@@ -1,4 +1,3 @@
-pub mod Refusal
 pub mod Frames
 pub mod Processors
 pub mod Table
@@ -8,8 +7,7 @@ pub mod Rules
 pub mod Epochs
 pub mod Eviction
 pub mod Slots
-pub mod ByEpochs
 pub mod Starts
-pub mod Enclaves
 pub mod Ends
 pub mod Fresh
+pub mod inner

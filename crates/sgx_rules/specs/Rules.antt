@@ -8,8 +8,10 @@ use Rattle.sgx_rules.specs.declared.entries.Event.TheVariants.{Did, Refused, Age
 use Rattle.sgx_types.specs.declared.names.Actor.{Actor}
 use Rattle.sgx_types.specs.declared.names.Actor.TheVariants as actors
 use Rattle.sgx_rules.specs.declared.entries.Action.{Action}
-use Rattle.sgx_rules.specs.declared.entries.Action.TheVariants.{Epa, Create, Add, Extend, Init, Enter, Resume, Exit, Aex, Fill, Load, Store}
-use Rattle.sgx_rules.specs.declared.entries.Action.TheVariants.{Xadd, Set, Plus, Pf, OutLoad, OutStore, Block, Track, EwbStart, Ewb}
+use Rattle.sgx_rules.specs.declared.entries.Action.TheVariants.{Epa, Create, Add, Extend, Init, Enter, Resume, Exit, Aex, Fill}
+use Rattle.sgx_rules.specs.declared.entries.Action.TheVariants.{Load, Store}
+use Rattle.sgx_rules.specs.declared.entries.Action.TheVariants.{Xadd, Set, Plus, Pf, OutLoad, OutStore, Block, Track, EwbStart}
+use Rattle.sgx_rules.specs.declared.entries.Action.TheVariants.{Ewb}
 use Rattle.sgx_rules.specs.declared.entries.Action.TheVariants.{EldStart, Eld}
 use Rattle.sgx_rules.specs.declared.entries.Answer.{Answer}
 use Rattle.sgx_rules.specs.declared.entries.Answer.TheVariants as answers
@@ -25,7 +27,7 @@ use Rattle.sgx_rules.specs.Processors.{Stay, stay, BareTranslation, holds_number
 use Rattle.sgx_rules.specs.Table.{first_of_row}
 use Rattle.sgx_rules.specs.Eviction.{is_drained}
 use Rattle.sgx_rules.specs.Slots.{next_version, version_in}
-use Rattle.sgx_rules.specs.Starts.{Start, open_start, is_load_of}
+use Rattle.sgx_rules.specs.Starts.{Start, open_start}
 use Rattle.sgx_rules.specs.Flat.{FlatMemory, flat, accepts, flat_answer, is_visible}
 use Rattle.sgx_rules.specs.Sights.{row_at}
 
@@ -224,22 +226,3 @@ RisingRule first past e = by_event e.event
     by_event : Event → Type 0
     by_event (Did (EwbStart f slot) answer) = answer ≡ answers.Version (next_version first past)
     by_event _ = Unit {0}
-
--- ---- what a driver keeps so that no page stands in two frames
-
--- an ELDU that starts loads a page that no frame holds and that no other loads
-abbrev pub LoadsAwayRule : List Entry → Entry → Type 0
-LoadsAwayRule past e = by_event e.event
-  where
-    by_event : Event → Type 0
-    by_event (Did (EldStart f page slot) answer) =
-        (n : ℕ) → (is_page (content past n) page ≡ false) × (is_load_of (open_start past n) page ≡ false)
-    by_event _ = Unit {0}
-
--- ---- the rules of the machine together
-
-pub record KeepsRules (k : Making) (past : List Entry) : Type 0 where
-  pub refusal : Along (RefusalRule k) past
-  pub flat : Along FlatRule past
-  pub fits : Fits k.frames past
-  pub stale : Stale past

@@ -5,8 +5,10 @@ use Rattle.sgx_rules.specs.declared.entries.Entry.{Entry}
 use Rattle.sgx_types.specs.declared.names.Actor.{Actor}
 use Rattle.sgx_types.specs.declared.names.Actor.TheVariants as actors
 use Rattle.sgx_rules.specs.declared.entries.Action.{Action}
-use Rattle.sgx_rules.specs.declared.entries.Action.TheVariants.{Epa, Create, Add, Extend, Init, Enter, Resume, Exit, Aex, Fill, Load, Store}
-use Rattle.sgx_rules.specs.declared.entries.Action.TheVariants.{Xadd, Set, Plus, Pf, OutLoad, OutStore, Block, Track, EwbStart, Ewb}
+use Rattle.sgx_rules.specs.declared.entries.Action.TheVariants.{Epa, Create, Add, Extend, Init, Enter, Resume, Exit, Aex, Fill}
+use Rattle.sgx_rules.specs.declared.entries.Action.TheVariants.{Load, Store}
+use Rattle.sgx_rules.specs.declared.entries.Action.TheVariants.{Xadd, Set, Plus, Pf, OutLoad, OutStore, Block, Track, EwbStart}
+use Rattle.sgx_rules.specs.declared.entries.Action.TheVariants.{Ewb}
 use Rattle.sgx_rules.specs.declared.entries.Action.TheVariants.{EldStart, Eld}
 use Rattle.sgx_types.specs.declared.names.Kind.{Kind}
 use Rattle.sgx_types.specs.declared.names.Perm.{Perm}
@@ -19,9 +21,12 @@ use Rattle.sgx_rules.specs.Frames.{content, enclave_in, is_sealing, is_blocked}
 use Rattle.sgx_types.specs.Making.{Making}
 use Rattle.sgx_rules.specs.Processors.{Seat, Stay, stay, holds_number, translations}
 use Rattle.sgx_rules.specs.Slots.{is_slot_busy, next_version, version_in}
-use Rattle.sgx_rules.specs.Table.{Case, allowed, FrameSight, EnterSight, TrackSight, SlotSight, DrainSight, is_ready, epa_row, create_row}
-use Rattle.sgx_rules.specs.Table.{add_row, extend_row, init_row, enter_row, resume_row, exit_row, aex_row, fill_row, load_row, store_row}
-use Rattle.sgx_rules.specs.Table.{xadd_row, set_row, plus_row, pf_row, outload_row, outstore_row, block_row, track_row, ewbstart_row}
+use Rattle.sgx_rules.specs.Table.{Case, allowed, FrameSight, EnterSight, TrackSight, SlotSight, DrainSight, is_ready, epa_row}
+use Rattle.sgx_rules.specs.Table.{create_row}
+use Rattle.sgx_rules.specs.Table.{add_row, extend_row, init_row, enter_row, resume_row, exit_row, aex_row, fill_row, load_row}
+use Rattle.sgx_rules.specs.Table.{store_row}
+use Rattle.sgx_rules.specs.Table.{xadd_row, set_row, plus_row, pf_row, outload_row, outstore_row, block_row, track_row}
+use Rattle.sgx_rules.specs.Table.{ewbstart_row}
 use Rattle.sgx_rules.specs.Table.{eldstart_row}
 use Rattle.sgx_rules.specs.Flat.{FlatMemory, FlatPage, flat, added_as, enclave_sight, fields_in}
 

@@ -1,5 +1,5 @@
 -- The slots of version array pages by the entries before a place: which open starts name them, and which version each holds.
-use Rattle.std.specs.Prelude.{ℕ, ◌≡◌, ◌+◌, Bool, true, false, if◌then◌else◌, List, [], ◌∷◌}
+use Rattle.std.specs.Prelude.{ℕ, ◌+◌, Bool, true, false, if◌then◌else◌, List, [], ◌∷◌}
 use Rattle.std.specs.Prelude.{Option, Some, None}
 use Rattle.sgx_rules.specs.declared.entries.Entry.{Entry}
 use Rattle.sgx_rules.specs.declared.entries.Event.{Event}
@@ -27,10 +27,6 @@ names_slot (Some slot) s = same_slot slot s
 -- an open start of one of so many frames names the slot
 abbrev pub is_slot_busy : ℕ → List Entry → SlotAt → Bool
 is_slot_busy frames past s = any_below (λ n. names_slot (open_slot past n) s) frames
-
--- no open start names the slot
-abbrev pub IsIdle : List Entry → SlotAt → Type 0
-IsIdle past s = (n : ℕ) → names_slot (open_slot past n) s ≡ false
 
 abbrev pub version_after : Event → (ℕ → Option SlotAt) → SlotAt → ℕ → ℕ
 version_after (Did (Ewb f) (Moved page version tag)) opened s before = if names_slot (opened f.0) s then version else before

@@ -1,6 +1,6 @@
 -- The starts of EWB and ELDU that have not ended, by the entries before a place.
-use Rattle.std.specs.Prelude.{ℕ, ◌≡◌, ◌==◌, Bool, true, false, if◌then◌else◌, List, [], ◌∷◌, length, Option, Some}
-use Rattle.std.specs.Prelude.{None, option_map}
+use Rattle.std.specs.Prelude.{ℕ, ◌==◌, Bool, false, if◌then◌else◌, List, [], ◌∷◌, length, Option, Some}
+use Rattle.std.specs.Prelude.{None}
 use Rattle.sgx_types.specs.declared.names.Actor.{Actor}
 use Rattle.sgx_rules.specs.declared.entries.Answer.{Answer}
 use Rattle.sgx_rules.specs.declared.entries.Answer.TheVariants.{Version}
@@ -11,7 +11,6 @@ use Rattle.sgx_rules.specs.declared.entries.Action.TheVariants.{EwbStart, Ewb, E
 use Rattle.sgx_types.specs.declared.names.Page.{Page}
 use Rattle.sgx_types.specs.declared.names.SlotAt.{SlotAt}
 use Rattle.sgx_types.specs.Pages.{same_page}
-use Rattle.sgx_rules.specs.Frames.{content, is_page}
 
 -- the slot that a start named, the version that an EWB drew or an ELDU found in the slot, the page that an ELDU loads (an EWB takes
 -- the page in its frame), the place of the entry that started it, which is the number of entries before that one, and its actor
@@ -21,18 +20,6 @@ pub record Start : Type 0 where
   pub loads : Option Page
   pub place : ℕ
   pub actor : Actor
-
--- a start without its place and its actor, which a machine does not note
-pub record BareStart : Type 0 where
-  pub slot : SlotAt
-  pub version : ℕ
-  pub loads : Option Page
-
-abbrev pub without_place : Start → BareStart
-without_place x = record { slot = x.slot; version = x.version; loads = x.loads }
-
-abbrev pub bare_start : Option Start → Option BareStart
-bare_start o = option_map without_place o
 
 -- the version that a start answers
 abbrev pub version_told : Answer → ℕ
@@ -65,8 +52,3 @@ loads_page (Some page) g = same_page page g
 abbrev pub is_load_of : Option Start → Page → Bool
 is_load_of None g = false
 is_load_of (Some start) g = loads_page start.loads g
-
--- no frame holds a page that is being loaded, and no page is loaded twice
-pub record LoadsAreApart (past : List Entry) : Type 0 where
-  pub frames : (m n : ℕ) (g : Page) → is_load_of (open_start past m) g ≡ true → is_page (content past n) g ≡ false
-  pub loads : (m n : ℕ) (g : Page) → is_load_of (open_start past m) g ≡ true → is_load_of (open_start past n) g ≡ true → m ≡ n

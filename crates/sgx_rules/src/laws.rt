@@ -2,7 +2,7 @@
 
 ghost use Rattle.std.specs.Prelude.{ℕ, List};
 ghost use Rattle.sgx_rules.specs.declared.entries.Entry.{Entry};
-ghost use Rattle.sgx_rules.specs.ByEpochs.{EpochsTellPlaces};
+ghost use Rattle.sgx_rules.specs.inner.ByEpochs.{EpochsTellPlaces};
 
 /// When a blocked page may go out is defined by places in the trace: each processor that was inside at the first track
 /// behind the block has left. A processor of this kind keeps no trace: it notes the enclave's epoch at each entry and each

@@ -1,7 +1,7 @@
 //! Why an instruction was refused.
 
 ghost use Rattle.std.specs.Prelude.{◌≡◌};
-ghost use Rattle.sgx_rules.specs.Refusal.{code_of};
+ghost use Rattle.sgx_rules.specs.inner.Refusal.{code_of};
 
 /// Why an instruction was refused. The names follow the error codes of Intel SDM volume 3D where it has one; the
 /// others, and the order in which an instruction's conditions are asked, are this project's own.

@@ -3,12 +3,14 @@ use Rattle.std.proofs.Common.{◌≡◌, ℕ, ◌+◌, ◌-◌, ◌^◌, ◌<◌
 use Rattle.std.proofs.Common.{refl, ap, sym, ◌∙◌, arith, ⊎_elim}
 use Rattle.std.specs.Int.{w64, to_le_bytes, from_le_bytes}
 use Rattle.std.proofs.lemmas.Bool.{cases_lt}
-use Rattle.std.proofs.lemmas.List.{take-append-drop, get_or-take, get_or-drop, get_or_past, length-take, length-drop, append_assoc}
+use Rattle.std.proofs.lemmas.List.{take-append-drop, get_or-take, get_or-drop, get_or_past, length-take, length-drop}
+use Rattle.std.proofs.lemmas.List.{append_assoc}
 use Rattle.std.proofs.lemmas.List.{drop-drop, take_at, drop_at, take_rest}
 use Rattle.std.proofs.lemmas.Nat.{le_bytes_8, from_le_bytes-to_le_bytes_8}
-use Rattle.sgx_types.specs.Layouts.{long_at}
+use Rattle.sgx_types.specs.inner.Layouts.{long_at}
 use Rattle.sgx_types.proofs.Chunks.{two_pieces}
-use Rattle.sgx_types.specs.Sealed.{Sealed, IsRecord, record_bytes}
+use Rattle.sgx_types.specs.Sealed.{Sealed}
+use Rattle.sgx_types.specs.inner.Sealed.{IsRecord, record_bytes}
 
 -- a record by its parts
 abbrev pub sealed_of : ℕ → ℕ → ℕ → List ℕ → List ℕ → Sealed

@@ -5,3 +5,4 @@ pub mod Digests
 pub mod Sealed
 pub mod Counts
 pub mod Making
+pub mod inner

@@ -1,12 +1,10 @@
 -- A sealed record as contracts see it, and its bytes; numbers have their low byte first.
-use Rattle.std.specs.Prelude.{ℕ, ◌≡◌, ◌+◌, ◌*◌, ◌<◌, ◌^◌, ◌==◌, if◌then◌else◌, List, ◌++◌, length}
+use Rattle.std.specs.Prelude.{ℕ, ◌+◌, ◌*◌, List, ◌++◌}
 use Rattle.std.specs.Int.{w64, to_le_bytes}
 use Rattle.sgx_types.specs.declared.names.Page.{Page}
 use Rattle.sgx_types.specs.declared.names.Kind.{Kind}
 use Rattle.sgx_types.specs.declared.names.Perm.{Perm}
 use Rattle.sgx_types.specs.declared.record.Header.{Header}
-use Rattle.sgx_types.specs.declared.record.RecordFault.{RecordFault}
-use Rattle.sgx_types.specs.declared.record.RecordFault.TheVariants.{BadLength, Memory}
 use Rattle.sgx_types.specs.Layouts.{flags_of}
 
 -- a header, the cipher bytes and the tag
@@ -22,19 +20,3 @@ header_bytes header = to_le_bytes w64 header.enclave ++ to_le_bytes w64 header.a
 -- the header of a page of an enclave with this base, added with this kind and permissions
 abbrev pub header_of : ℕ → Page → Kind → Perm → Header
 header_of base page kind perm = record { enclave = page.enclave; address = base + 4096 * page.number; flags = flags_of kind perm }
-
--- the bytes of a record: the header, the cipher and the tag
-abbrev pub record_bytes : Sealed → List ℕ
-record_bytes rec = header_bytes rec.header ++ rec.cipher ++ rec.tag
-
--- the sizes of a record: its three numbers have 64 bits, its cipher has 4096 bytes and its tag 32
-pub record IsRecord (rec : Sealed) : Type 0 where
-  pub enclave : rec.header.enclave < 2 ^ 64
-  pub address : rec.header.address < 2 ^ 64
-  pub flags : rec.header.flags < 2 ^ 64
-  pub cipher : length rec.cipher ≡ 4096
-  pub tag : length rec.tag ≡ 32
-
--- why bytes give no record: there are not 4152 of them, and else only for want of memory
-abbrev pub fault_of : List ℕ → RecordFault
-fault_of bytes = if length bytes == 4152 then Memory else BadLength (length bytes)

@@ -1,7 +1,8 @@
 //! The layouts of the manual that this machine reads: SECINFO and a TCS page.
 
 ghost use Rattle.std.specs.Prelude.{◌≡◌, ◌+◌, ◌*◌, ◌≤◌, length};
-ghost use Rattle.sgx_types.specs.Layouts.{flags_of, int_at, long_at, number_of, secinfo_in, tcs_in};
+ghost use Rattle.sgx_types.specs.Layouts.{flags_of, number_of};
+ghost use Rattle.sgx_types.specs.inner.Layouts.{int_at, long_at, secinfo_in, tcs_in};
 
 use crate::names::{Kind, Perm};
 

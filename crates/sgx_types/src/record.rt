@@ -2,7 +2,8 @@
 
 ghost use Rattle.std.specs.Prelude.{◌≡◌, OnOk, IfOk, IfErr, length};
 ghost use Rattle.sgx_types.specs.declared.record.RecordFault.TheVariants as faults;
-ghost use Rattle.sgx_types.specs.Sealed.{Sealed, IsRecord, fault_of, record_bytes};
+ghost use Rattle.sgx_types.specs.Sealed.{Sealed};
+ghost use Rattle.sgx_types.specs.inner.Sealed.{IsRecord, fault_of, record_bytes};
 
 use crate::layouts::long_at;
 use crate::names::Memory;

@@ -29,46 +29,47 @@ use Rattle.sgx_rules.specs.Frames.{Content, Free, added, content, free_from, is_
 use Rattle.sgx_rules.specs.Table.{epa_row, first_of_row, is_loading, is_valid}
 use Rattle.epcm_entry.specs.declared.entry_view.EntryView.{EntryView}
 use Rattle.epcm_entry.specs.declared.entry_view.EntryView.TheVariants as views
-use Rattle.epcm_entry.specs.EntryView.{goes_out}
-use Rattle.epcm_entry.specs.Epc.{entry_at}
-use Rattle.epcm_entry.specs.Sights.{held}
-use Rattle.version_array.specs.Keeper.{Keeper, new_keeper}
+use Rattle.epcm_entry.specs.inner.EntryView.{goes_out}
+use Rattle.epcm_entry.specs.inner.Epc.{entry_at}
+use Rattle.epcm_entry.specs.inner.Sights.{held}
+use Rattle.version_array.specs.inner.Keeper.{Keeper, new_keeper}
 use Rattle.job_grammar.specs.Jobs.{JobView, va_pages}
 use Rattle.turn_rules.specs.declared.steps.BuildStep.{BuildStep}
 use Rattle.turn_rules.specs.declared.steps.BuildStep.TheVariants as builds
 use Rattle.turn_rules.specs.Script.{action_of, build_of, built, frame_at, is_builder, step_action, with_frame}
-use Rattle.active_list.specs.Places.{IsPlaced}
-use Rattle.paging_laws.specs.Columns.{HasColumns}
-use Rattle.paging_laws.specs.State.{row_of, sight}
-use Rattle.paging_laws.specs.Steps.{did_by, refused_by}
+use Rattle.active_list.specs.inner.Places.{IsPlaced}
+use Rattle.paging_laws.specs.inner.Columns.{HasColumns}
+use Rattle.paging_laws.specs.inner.State.{row_of, sight}
+use Rattle.paging_laws.specs.inner.Steps.{did_by, refused_by}
 use Rattle.paging_laws.proofs.ColumnLaws.{content_is}
-use Rattle.paging_machine.specs.Parts.{Parts, state_of}
+use Rattle.paging_machine.specs.inner.Parts.{Parts, state_of}
 use Rattle.driver_rules.specs.Dues.{IsNext, Stopped, makes_or}
 use Rattle.driver_rules.specs.Ages.{AgeRule, InPass, head_of}
-use Rattle.driver_rules.specs.Passes.{Between, Blocking, First, Form, Kicks, Pass, Scan, Sealing, Second, Third, ToKick, ToTrack, Tries}
+use Rattle.driver_rules.specs.Passes.{Between, Blocking, First, Form, Kicks, Pass, Scan, Sealing, Second, Third, ToKick, ToTrack}
+use Rattle.driver_rules.specs.Passes.{Tries}
 use Rattle.driver_rules.specs.Passes.{pass}
 use Rattle.driver_rules.specs.Places.{active, place}
 use Rattle.driver_rules.specs.Scripts.{ScriptRule}
 use Rattle.driver_rules.specs.Stops.{is_spent}
 use Rattle.driver_rules.specs.Turns.{builder_due, step_turn}
 use Rattle.driver_rules.specs.declared.waits.Why.TheVariants as waits
-use Rattle.driver_laws.specs.Agrees.{ShowsSlots, has_pages, is_add}
-use Rattle.driver_laws.specs.Counted.{AddsAreBuilt}
-use Rattle.driver_laws.specs.Keeps.{KeeperMoves, is_epa_refused, is_va_step}
+use Rattle.driver_laws.specs.inner.Agrees.{ShowsSlots, has_pages, is_add}
+use Rattle.driver_laws.specs.inner.Counted.{AddsAreBuilt}
+use Rattle.driver_laws.specs.inner.Keeps.{KeeperMoves, is_epa_refused, is_va_step}
 use Rattle.driver_laws.proofs.ArrayLaws.{arrays_first, stays_arrays}
-use Rattle.driver_laws.specs.Kinds.{CanMove}
-use Rattle.driver_laws.specs.Sound.{IsSound, is_absent}
-use Rattle.driver_laws.specs.Stages.{HasPages, KeepsPages, Stands}
+use Rattle.driver_laws.specs.inner.Kinds.{CanMove}
+use Rattle.driver_laws.specs.inner.Sound.{IsSound, is_absent}
+use Rattle.driver_laws.specs.inner.Stages.{HasPages, KeepsPages, Stands}
 use Rattle.driver_laws.proofs.HistoryLaws.{least_is_free}
 use Rattle.driver_laws.proofs.SoundLaws.{head_here}
 use Rattle.driver_laws.proofs.StepLaws.{Builds, ByStep, NoStep, arrays_by, builds_or_none}
 use Rattle.driver_laws.proofs.BuiltLaws.{added_has_pages}
-use Rattle.driver_tables.specs.Counts.{page_counts}
-use Rattle.driver_tables.specs.Tables.{IsNew}
+use Rattle.driver_tables.specs.inner.Counts.{page_counts}
+use Rattle.driver_tables.specs.inner.Tables.{IsNew}
 use Rattle.driver_tables.specs.declared.driver.Driver.{Driver}
 use Rattle.driver_tables.proofs.BuildLaws.{add_placed, arrays_before}
-use Rattle.table_notes.specs.Arrays.{KeepsArrays, is_move}
-use Rattle.table_notes.specs.Plain.{is_reclaimer}
+use Rattle.table_notes.specs.inner.Arrays.{KeepsArrays, is_move}
+use Rattle.table_notes.specs.inner.Plain.{is_reclaimer}
 use Rattle.table_notes.proofs.EntryLaws.{ages, is_init}
 
 -- ---- room

@@ -4,7 +4,8 @@ use Rattle.std.proofs.Common.{None, MatchOption, is_some}
 use Rattle.std.proofs.lemmas.Bool.{false≢true}
 use Rattle.sgx_rules.proofs.Rows.{none_holds}
 use Rattle.sgx_rules.specs.declared.entries.Action.{Action}
-use Rattle.sgx_rules.specs.declared.entries.Action.TheVariants.{Epa, Create, Add, Extend, Init, Block, Track, EwbStart, Ewb, EldStart, Eld}
+use Rattle.sgx_rules.specs.declared.entries.Action.TheVariants.{Epa, Create, Add, Extend, Init, Block, Track, EwbStart, Ewb}
+use Rattle.sgx_rules.specs.declared.entries.Action.TheVariants.{EldStart, Eld}
 use Rattle.sgx_types.specs.declared.names.Actor.{Actor}
 use Rattle.sgx_types.specs.declared.names.Actor.TheVariants as actors
 use Rattle.sgx_rules.specs.declared.entries.Answer.{Answer}
@@ -25,18 +26,18 @@ use Rattle.turn_rules.specs.Script.{is_builder, step_action}
 use Rattle.turn_rules.specs.declared.steps.BuildStep.{BuildStep}
 use Rattle.turn_rules.specs.declared.steps.BuildStep.TheVariants as builds
 use Rattle.measure_log.specs.Rule.{IsExpected, IsOther}
-use Rattle.paging_laws.specs.Columns.{HasColumns}
-use Rattle.paging_laws.specs.State.{State, after_init, row_of, sight}
-use Rattle.paging_laws.specs.Steps.{IsDone, IsStep, answer_of, did_by, refused_by}
+use Rattle.paging_laws.specs.inner.Columns.{HasColumns}
+use Rattle.paging_laws.specs.inner.State.{State, after_init, row_of, sight}
+use Rattle.paging_laws.specs.inner.Steps.{IsDone, IsStep, answer_of, did_by, refused_by}
 use Rattle.paging_laws.proofs.BuildLaws.{adds}
 use Rattle.paging_laws.proofs.ColumnLaws.{added_is, content_is}
 use Rattle.driver_rules.specs.Ages.{AgeRule}
 use Rattle.driver_rules.specs.Places.{Absent, Place, place}
 use Rattle.driver_rules.specs.Scripts.{ScriptRule}
-use Rattle.driver_laws.specs.Kinds.{CanMove}
-use Rattle.driver_laws.specs.Sound.{is_absent}
+use Rattle.driver_laws.specs.inner.Kinds.{CanMove}
+use Rattle.driver_laws.specs.inner.Sound.{is_absent}
 use Rattle.driver_laws.proofs.StepLaws.{Builds, ByStep, NoStep, builds_by, builds_or_none}
-use Rattle.table_notes.specs.Plain.{is_plain, is_reclaimer}
+use Rattle.table_notes.specs.inner.Plain.{is_plain, is_reclaimer}
 
 -- ---- done or refused
 

@@ -20,27 +20,27 @@ use Rattle.sgx_types.specs.Making.{Making}
 use Rattle.sgx_rules.specs.Table.{first_of_row, is_va}
 use Rattle.cached_translations.specs.declared.processor.Mode.{Mode}
 use Rattle.job_grammar.specs.Jobs.{JobView}
-use Rattle.active_list.specs.Places.{IsPlaced}
-use Rattle.paging_laws.specs.State.{row_of}
-use Rattle.paging_laws.specs.Steps.{did_by}
-use Rattle.paging_machine.specs.Parts.{Parts, cpu_at, state_of}
+use Rattle.active_list.specs.inner.Places.{IsPlaced}
+use Rattle.paging_laws.specs.inner.State.{row_of}
+use Rattle.paging_laws.specs.inner.Steps.{did_by}
+use Rattle.paging_machine.specs.inner.Parts.{Parts, cpu_at, state_of}
 use Rattle.driver_rules.specs.Places.{active}
 use Rattle.driver_rules.specs.Scripts.{ScriptRule}
-use Rattle.driver_laws.specs.Sound.{once_here}
+use Rattle.driver_laws.specs.inner.Sound.{once_here}
 use Rattle.driver_laws.proofs.StepLaws.{builds_by}
 use Rattle.driver_tables.specs.declared.driver.Driver.{Driver}
 use Rattle.driver_tables.proofs.ListLaws.{not_listed}
-use Rattle.driver_steps.specs.Agrees.{Agrees}
+use Rattle.driver_steps.specs.inner.Agrees.{Agrees}
 use Rattle.turn_tables.specs.declared.turns.Turns.{Turns}
-use Rattle.turn_tables.specs.Asked.{last_save_of, next_save_of}
-use Rattle.turn_tables.specs.Due.{IsOrderly}
-use Rattle.turn_tables.specs.Holding.{mode_of, page_inside_of}
-use Rattle.turn_tables.specs.Shown.{ShowsTurns}
-use Rattle.turn_tables.specs.TcsTurns.{tcs_at}
-use Rattle.table_notes.specs.Arrays.{KeepsArrays}
-use Rattle.table_notes.specs.Noted.{CanNoteTables}
-use Rattle.table_notes.specs.Noting.{Fits, FitsBoth, FitsEvent, offset_inside_of}
-use Rattle.table_notes.specs.Plain.{is_reclaimer}
+use Rattle.turn_tables.specs.inner.Asked.{last_save_of, next_save_of}
+use Rattle.turn_tables.specs.inner.Due.{IsOrderly}
+use Rattle.turn_tables.specs.inner.Holding.{mode_of, page_inside_of}
+use Rattle.turn_tables.specs.inner.Shown.{ShowsTurns}
+use Rattle.turn_tables.specs.inner.TcsTurns.{tcs_at}
+use Rattle.table_notes.specs.inner.Arrays.{KeepsArrays}
+use Rattle.table_notes.specs.inner.Noted.{CanNoteTables}
+use Rattle.table_notes.specs.inner.Noting.{Fits, FitsBoth, FitsEvent, offset_inside_of}
+use Rattle.table_notes.specs.inner.Plain.{is_reclaimer}
 use Rattle.table_notes.proofs.ArrayLaws.{added_placed, array_room}
 use Rattle.table_notes.proofs.EntryLaws.{IsEntryOf, builder_builds, did_moves, entry_by}
 use Rattle.table_notes.proofs.NameLaws.{There, names_done}

@@ -27,42 +27,43 @@ use Rattle.job_grammar.specs.Jobs.{JobView, va_pages}
 use Rattle.backing_store.specs.Calls.{Call}
 use Rattle.active_list.specs.declared.page_states.PageState.{PageState}
 use Rattle.active_list.specs.declared.page_states.PageState.TheVariants as states
-use Rattle.active_list.specs.Keeping.{kept_at, record_kept}
-use Rattle.active_list.specs.Places.{IsPlaced}
-use Rattle.active_list.specs.States.{state_of as page_state}
+use Rattle.active_list.specs.inner.Keeping.{kept_at, record_kept}
+use Rattle.active_list.specs.inner.Places.{IsPlaced}
+use Rattle.active_list.specs.inner.States.{state_of as page_state}
 use Rattle.active_list.proofs.StateLaws.{state_of-with_state}
 use Rattle.sgx_types.proofs.Pages.{same_pages}
-use Rattle.version_array.specs.Keeper.{Keeper, count_out}
-use Rattle.paging_laws.specs.State.{row_of}
-use Rattle.paging_laws.specs.Steps.{did_by, refused_by}
-use Rattle.paging_machine.specs.Parts.{Parts, cpu_at, state_of}
+use Rattle.version_array.specs.inner.Keeper.{Keeper, count_out}
+use Rattle.paging_laws.specs.inner.State.{row_of}
+use Rattle.paging_laws.specs.inner.Steps.{did_by, refused_by}
+use Rattle.paging_machine.specs.inner.Parts.{Parts, cpu_at, state_of}
 use Rattle.driver_rules.specs.Places.{Absent, place}
 use Rattle.driver_rules.specs.Scripts.{ScriptRule}
 use Rattle.driver_rules.specs.Turns.{Fails, Last, Loads, Other, WasEnded, last_by, last_of}
-use Rattle.driver_laws.specs.Agrees.{loaded_by}
-use Rattle.driver_laws.specs.Counted.{CountMoves}
-use Rattle.driver_laws.specs.Keeps.{KeeperMoves}
-use Rattle.driver_laws.specs.Kinds.{CanMove, is_quiet}
-use Rattle.driver_laws.specs.Loads.{EndsOwn, load_ended}
+use Rattle.driver_laws.specs.inner.Agrees.{loaded_by}
+use Rattle.driver_laws.specs.inner.Counted.{CountMoves}
+use Rattle.driver_laws.specs.inner.Keeps.{KeeperMoves}
+use Rattle.driver_laws.specs.inner.Kinds.{CanMove, is_quiet}
+use Rattle.driver_laws.specs.inner.Loads.{EndsOwn, load_ended}
 use Rattle.driver_laws.proofs.AgreeLaws.{is_slotless}
 use Rattle.driver_laws.proofs.EndLaws.{their_rule}
 use Rattle.driver_laws.proofs.MarkLaws.{is_markless, is_use}
 use Rattle.driver_laws.proofs.StepLaws.{builds_by}
 use Rattle.driver_tables.specs.declared.driver.Driver.{Driver}
-use Rattle.driver_tables.specs.Tables.{ShowsTables, place_in}
-use Rattle.driver_tables.proofs.OtherShowLaws.{shows_added, shows_array, shows_builders, shows_created, shows_others, shows_use, shows_uses}
-use Rattle.driver_steps.specs.Agrees.{Agrees}
-use Rattle.book_laws.specs.Stores.{StoreMoves, is_lost_state, lost_by}
+use Rattle.driver_tables.specs.inner.Tables.{ShowsTables, place_in}
+use Rattle.driver_tables.proofs.OtherShowLaws.{shows_added, shows_array, shows_builders, shows_created, shows_others, shows_use}
+use Rattle.driver_tables.proofs.OtherShowLaws.{shows_uses}
+use Rattle.driver_steps.specs.inner.Agrees.{Agrees}
+use Rattle.book_laws.specs.inner.Stores.{StoreMoves, is_lost_state, lost_by}
 use Rattle.turn_tables.specs.declared.turns.Turns.{Turns}
-use Rattle.turn_tables.specs.Asked.{last_save_of, next_save_of}
-use Rattle.turn_tables.specs.Due.{IsOrderly}
-use Rattle.turn_tables.specs.Holding.{mode_of, page_inside_of}
-use Rattle.turn_tables.specs.Shown.{ShowsTurns}
-use Rattle.turn_tables.specs.TcsTurns.{tcs_at}
-use Rattle.table_notes.specs.Arrays.{KeepsArrays}
-use Rattle.table_notes.specs.Noted.{AreNoted, CanNoteTables}
-use Rattle.table_notes.specs.Noting.{Does, DoesEvent, HasArray, offset_inside_of, touching, with_page}
-use Rattle.table_notes.specs.Plain.{is_plain, is_reclaimer}
+use Rattle.turn_tables.specs.inner.Asked.{last_save_of, next_save_of}
+use Rattle.turn_tables.specs.inner.Due.{IsOrderly}
+use Rattle.turn_tables.specs.inner.Holding.{mode_of, page_inside_of}
+use Rattle.turn_tables.specs.inner.Shown.{ShowsTurns}
+use Rattle.turn_tables.specs.inner.TcsTurns.{tcs_at}
+use Rattle.table_notes.specs.inner.Arrays.{KeepsArrays}
+use Rattle.table_notes.specs.inner.Noted.{AreNoted, CanNoteTables}
+use Rattle.table_notes.specs.inner.Noting.{Does, DoesEvent, HasArray, offset_inside_of, touching, with_page}
+use Rattle.table_notes.specs.inner.Plain.{is_plain, is_reclaimer}
 use Rattle.table_notes.proofs.ArrayLaws.{added_placed, array_first, arrays_go_on, arrays_made, none_refused_array}
 use Rattle.table_notes.proofs.EntryLaws.{IsEntryOf, builder_builds, did_moves, entry_by, is_init}
 use Rattle.table_notes.proofs.NameLaws.{names_done}

@@ -11,17 +11,17 @@ use Rattle.sgx_rules.specs.Processors.{stay}
 use Rattle.job_grammar.specs.declared.jobs.PageLine.{PageLine}
 use Rattle.job_grammar.specs.declared.jobs.PageLine.TheVariants as lines
 use Rattle.job_grammar.specs.Jobs.{JobView, lines_at, tcs_line}
-use Rattle.job_grammar.specs.Valid.{IsValid}
+use Rattle.job_grammar.specs.inner.Valid.{IsValid}
 use Rattle.turn_rules.specs.Script.{is_seated_at, saved}
-use Rattle.active_list.specs.Places.{IsPlaced}
+use Rattle.active_list.specs.inner.Places.{IsPlaced}
 use Rattle.driver_rules.specs.Needs.{last_save, next_save, save_to_enter, save_to_resume}
-use Rattle.driver_tables.specs.Counts.{page_counts}
+use Rattle.driver_tables.specs.inner.Counts.{page_counts}
 use Rattle.driver_tables.proofs.CountLaws.{few_places}
 use Rattle.turn_tables.specs.declared.turns.Turns.{Turns}
-use Rattle.turn_tables.specs.Asked.{last_save_of, next_save_of}
-use Rattle.turn_tables.specs.Due.{IsOrderly, IsWithin, in_use}
-use Rattle.turn_tables.specs.Shown.{ShowsTurns}
-use Rattle.turn_tables.specs.TcsTurns.{tcs_at, tcs_by}
+use Rattle.turn_tables.specs.inner.Asked.{last_save_of, next_save_of}
+use Rattle.turn_tables.specs.inner.Due.{IsOrderly, IsWithin, in_use}
+use Rattle.turn_tables.specs.inner.Shown.{ShowsTurns}
+use Rattle.turn_tables.specs.inner.TcsTurns.{tcs_at, tcs_by}
 
 -- ---- numbers
 

@@ -18,31 +18,32 @@ use Rattle.sgx_rules.specs.Frames.{content, is_page}
 use Rattle.sgx_types.specs.Making.{Making}
 use Rattle.sgx_rules.specs.Processors.{Seat, Stay, stay}
 use Rattle.sgx_rules.specs.Sights.{seat_of}
-use Rattle.sgx_rules.specs.Table.{FrameSight, access_row, allows_read, allows_update, allows_write, fill_row, first_of_row, is_reg, is_tcs}
+use Rattle.sgx_rules.specs.Table.{FrameSight, access_row, allows_read, allows_update, allows_write, fill_row, first_of_row}
+use Rattle.sgx_rules.specs.Table.{is_reg, is_tcs}
 use Rattle.sgx_rules.specs.Table.{when}
 use Rattle.cached_translations.specs.declared.processor.Mode.{Mode}
 use Rattle.cached_translations.specs.declared.processor.Mode.TheVariants.{Inside, Outside}
-use Rattle.cached_translations.specs.Modes.{enclave_inside}
+use Rattle.cached_translations.specs.inner.Modes.{enclave_inside}
 use Rattle.job_grammar.specs.Jobs.{JobView}
-use Rattle.active_list.specs.Places.{IsPlaced}
-use Rattle.paging_laws.specs.Columns.{seat_of_stay}
-use Rattle.paging_laws.specs.State.{State, enter_sight, row_of, seat_enclave, translation}
+use Rattle.active_list.specs.inner.Places.{IsPlaced}
+use Rattle.paging_laws.specs.inner.Columns.{seat_of_stay}
+use Rattle.paging_laws.specs.inner.State.{State, enter_sight, row_of, seat_enclave, translation}
 use Rattle.paging_laws.proofs.AccessLaws.{outside_refused}
 use Rattle.paging_laws.proofs.ColumnLaws.{inside_is}
 use Rattle.paging_laws.proofs.Contents.{tcs_no_reg}
 use Rattle.paging_laws.proofs.EntryLaws.{enters as enters_by_row}
-use Rattle.paging_machine.specs.Parts.{Parts, cpu_at, seat_of_mode, state_of}
+use Rattle.paging_machine.specs.inner.Parts.{Parts, cpu_at, seat_of_mode, state_of}
 use Rattle.driver_rules.specs.Places.{frame_here, is_of_stay, is_offset_of_stay, place, uses}
 use Rattle.driver_laws.proofs.PlaceLaws.{here_there, holds_one, stands_there}
 use Rattle.driver_tables.specs.declared.driver.Driver.{Driver}
-use Rattle.driver_steps.specs.Agrees.{Agrees}
+use Rattle.driver_steps.specs.inner.Agrees.{Agrees}
 use Rattle.turn_tables.specs.declared.turns.Turns.{Turns}
-use Rattle.turn_tables.specs.Asked.{last_save_of, next_save_of}
-use Rattle.turn_tables.specs.Due.{IsOrderly}
-use Rattle.turn_tables.specs.Holding.{page_inside_of}
-use Rattle.turn_tables.specs.Shown.{ShowsTurns}
-use Rattle.turn_tables.specs.TcsTurns.{tcs_at}
-use Rattle.table_notes.specs.Noting.{offset_inside_of}
+use Rattle.turn_tables.specs.inner.Asked.{last_save_of, next_save_of}
+use Rattle.turn_tables.specs.inner.Due.{IsOrderly}
+use Rattle.turn_tables.specs.inner.Holding.{page_inside_of}
+use Rattle.turn_tables.specs.inner.Shown.{ShowsTurns}
+use Rattle.turn_tables.specs.inner.TcsTurns.{tcs_at}
+use Rattle.table_notes.specs.inner.Noting.{offset_inside_of}
 use Rattle.table_notes.proofs.NameLaws.{Names, NamesInside, There}
 use Rattle.table_notes.proofs.SaveLaws.{enter_save, placed_low, resume_save}
 

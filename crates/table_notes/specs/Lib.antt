@@ -1,4 +1,1 @@
-pub mod Plain
-pub mod Arrays
-pub mod Noting
-pub mod Noted
+pub mod inner

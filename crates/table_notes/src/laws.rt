@@ -1,22 +1,22 @@
 //! That there is room for the version array pages of the build. A law is the contract of a function without arguments.
 
 ghost use Rattle.std.specs.Prelude.{◌≡◌, ◌∷◌, true, false, [], List};
-ghost use Rattle.driver_laws.specs.Kinds.{CanMove};
-ghost use Rattle.driver_laws.specs.Sound.{IsSound, is_absent};
-ghost use Rattle.driver_laws.specs.Stages.{KeepsPages};
+ghost use Rattle.driver_laws.specs.inner.Kinds.{CanMove};
+ghost use Rattle.driver_laws.specs.inner.Sound.{IsSound, is_absent};
+ghost use Rattle.driver_laws.specs.inner.Stages.{KeepsPages};
 ghost use Rattle.driver_rules.specs.Ages.{AgeRule};
 ghost use Rattle.driver_rules.specs.Passes.{pass};
 ghost use Rattle.driver_rules.specs.Places.{place};
-ghost use Rattle.driver_tables.specs.Tables.{IsNew};
+ghost use Rattle.driver_tables.specs.inner.Tables.{IsNew};
 ghost use Rattle.driver_tables.specs.declared.driver.Driver.{Driver};
 ghost use Rattle.job_grammar.specs.Jobs.{JobView};
 ghost use Rattle.sgx_types.specs.declared.names.Actor.TheVariants as actors;
 ghost use Rattle.sgx_rules.specs.declared.entries.Entry.{Entry};
 ghost use Rattle.sgx_rules.specs.declared.entries.Event.{Event};
 ghost use Rattle.sgx_types.specs.declared.names.Page.{Page};
-ghost use Rattle.table_notes.specs.Arrays.{KeepsArrays, is_move};
+ghost use Rattle.table_notes.specs.inner.Arrays.{KeepsArrays, is_move};
 ghost use Rattle.turn_rules.specs.Script.{is_builder};
-ghost use Rattle.version_array.specs.Keeper.{Keeper};
+ghost use Rattle.version_array.specs.inner.Keeper.{Keeper};
 
 /// The new tables of a job have room for the version array pages of its build, and until the first page is added they keep it: an entry of
 /// another actor than the builder makes none. Once a page was added there is nothing more to keep, whatever the keeper: so it is behind an

@@ -1,10 +1,10 @@
 //! Brings the driver's tables to an instruction's entry.
 
 ghost use Rattle.std.specs.Prelude.{◌≡◌, IfSome};
-ghost use Rattle.active_list.specs.Places.{IsPlaced};
-ghost use Rattle.table_notes.specs.Noted.{AreNoted, CanNoteTables};
-ghost use Rattle.table_notes.specs.Noting.{Does, DoesEvent, Fits, FitsEvent, offset_inside_of, touching};
-ghost use Rattle.turn_tables.specs.Holding.{page_inside_of};
+ghost use Rattle.active_list.specs.inner.Places.{IsPlaced};
+ghost use Rattle.table_notes.specs.inner.Noted.{AreNoted, CanNoteTables};
+ghost use Rattle.table_notes.specs.inner.Noting.{Does, DoesEvent, Fits, FitsEvent, offset_inside_of, touching};
+ghost use Rattle.turn_tables.specs.inner.Holding.{page_inside_of};
 
 use cached_translations::processor::Mode;
 use driver_tables::driver::Driver;

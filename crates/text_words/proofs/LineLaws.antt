@@ -4,7 +4,8 @@ use Rattle.std.proofs.Common.{ap, ◌∙◌}
 use Rattle.std.specs.List.{join_with_byte}
 use Rattle.std.proofs.lemmas.List.{append_assoc, map_more}
 use Rattle.text_words.specs.declared.words.Word.{Word}
-use Rattle.text_words.specs.Words.{Words, line_text, with_words, word_text}
+use Rattle.text_words.specs.Words.{Words, line_text}
+use Rattle.text_words.specs.inner.Words.{with_words, word_text}
 
 pub with_words_append : (text : List ℕ) (words others : Words)
     → with_words (with_words text words) others ≡ with_words text (words ++ others)

@@ -1,7 +1,7 @@
 -- The room of words, one more at a time.
 use Rattle.std.proofs.Common.{◌≡◌, ℕ, zero, suc, ◌+◌, ◌<◌, ◌≤◌, List, [], ◌∷◌, length, take, get_or, arith}
 use Rattle.text_words.specs.declared.words.Word.{Word}
-use Rattle.text_words.specs.Room.{word_room, words_room}
+use Rattle.text_words.specs.inner.Room.{word_room, words_room}
 
 pub words_room_more : (words : List Word) (i : ℕ) (d : Word) → i < length words
     → words_room (take (i + 1) words) ≡ words_room (take i words) + 1 + word_room (get_or words i d)

@@ -14,7 +14,8 @@ use Rattle.hex.specs.Hex.{IsBytes, encode_with, encode_lower, hex_digit_value, l
 use Rattle.hex.proofs.HexLemmas.{IsDigits-lower_digits, decode_sized-encode_lower, length-encode_with}
 use Rattle.text_words.specs.Words.{hexadecimal, letter}
 use Rattle.sgx_types.specs.Digests.{IsDigest}
-use Rattle.text_words.specs.Reading.{IsLetter, digest_of, letter_of, small_of}
+use Rattle.text_words.specs.Reading.{digest_of, letter_of}
+use Rattle.text_words.specs.inner.Reading.{IsLetter, small_of}
 use Rattle.text_words.proofs.Numerals.{number_of-decimal}
 use Rattle.text_words.proofs.Splits.{is_word}
 

@@ -1,5 +1,5 @@
 -- Reading a word, in any spelling of its number.
-use Rattle.std.specs.Prelude.{ℕ, ◌-◌, ◌^◌, ◌≤◌, ◌&&◌, Bool, if◌then◌else◌, List, [], ◌∷◌}
+use Rattle.std.specs.Prelude.{ℕ, ◌-◌, ◌^◌, ◌&&◌, Bool, if◌then◌else◌, List, [], ◌∷◌}
 use Rattle.std.specs.Prelude.{Option, Some, None, option_and_then, length, take, drop, nat_lt, nat_le, codes, bytes_eq}
 use Rattle.std.specs.List.{list_all}
 use Rattle.std.specs.Result.{result_ok}
@@ -27,18 +27,6 @@ numeral_of radix digits =
 -- decimal digits, or `0x` and hexadecimal digits
 unfoldable pub number_of : List ℕ → Option ℕ
 number_of word = if bytes_eq (take 2 word) (codes "0x") then numeral_of 16 (drop 2 word) else numeral_of 10 word
-
--- a number below 2 ^ 32
-unfoldable pub small_of : List ℕ → Option ℕ
-small_of word = do
-  n ← number_of word
-  if nat_lt n (2 ^ 32) then Some n else None
-
--- ---- other words
-
--- A to H
-abbrev pub IsLetter : ℕ → Type 0
-IsLetter enclave = (1 ≤ enclave) × (enclave ≤ 8)
 
 -- A is enclave 1, H is enclave 8
 unfoldable pub letter_of : List ℕ → Option ℕ

@@ -4,8 +4,6 @@ use Rattle.std.specs.List.{join_with_byte}
 use Rattle.std.specs.Fmt.{digits, decimal}
 use Rattle.hex.specs.Hex.{encode_lower}
 use Rattle.sgx_types.specs.declared.names.Perm.{Perm}
-use Rattle.text_words.specs.declared.words.Word.{Word}
-use Rattle.text_words.specs.declared.words.Word.TheVariants as words
 
 -- the words of a line
 abbrev pub Words : Type 0
@@ -47,17 +45,3 @@ perm_word p = r_word p.r ++ w_word p.w ++ x_word p.x
     x_word : Bool → List ℕ
     x_word true = codes "x"
     x_word false = []
-
--- ---- what a printer writes
-
-abbrev pub word_text : Word → List ℕ
-word_text (words.Name name) = name.now
-word_text (words.Decimal number) = decimal number
-word_text (words.Hexadecimal number) = hexadecimal number
-word_text (words.Enclave enclave) = enclave_word enclave
-word_text (words.Digest bytes) = digest_word bytes
-
--- a text, and words behind it with a space before each
-abbrev pub with_words : List ℕ → Words → List ℕ
-with_words text [] = text
-with_words text (word ∷ others) = with_words (text ++ 32 ∷ word) others

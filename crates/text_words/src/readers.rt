@@ -2,7 +2,8 @@
 
 ghost use Rattle.std.specs.Prelude.{◌≡◌, ◌≤◌, ◌^◌, ◌<◌, SomeIff};
 ghost use Rattle.std.specs.Str.Parse.{IsNumeral, digits_value};
-ghost use Rattle.text_words.specs.Reading.{digest_of, letter_of, number_of, small_of};
+ghost use Rattle.text_words.specs.Reading.{digest_of, letter_of, number_of};
+ghost use Rattle.text_words.specs.inner.Reading.{small_of};
 
 use hex::FromHex;
 
@@ -37,7 +38,7 @@ pub fn number(word: &[u8]) -> Option<u64>
 }
 
 /// A number below 2^32.
-#[tactic(auto, unfolding(crate::specs::Reading::small_of))]
+#[tactic(auto, unfolding(crate::specs::inner::Reading::small_of))]
 pub fn small(word: &[u8]) -> Option<u32>
     ensures { result ≡ small_of word.now }
 {

@@ -2,8 +2,9 @@
 
 ghost use Rattle.std.specs.Prelude.{◌≡◌, ◌+◌, ◌≤◌, ◌<◌, [], ◌∷◌, ◌++◌, false, length, map, OnErr, OnOk};
 ghost use Rattle.std.specs.Fmt.{decimal, digits, digit_glyph};
-ghost use Rattle.text_words.specs.Words.{digest_word, enclave_word, hexadecimal, line_text, with_words, word_text};
-ghost use Rattle.text_words.specs.Room.{HasRoom, LacksRoom, UsesRoom, word_room, words_room};
+ghost use Rattle.text_words.specs.Words.{digest_word, enclave_word, hexadecimal, line_text};
+ghost use Rattle.text_words.specs.inner.Words.{with_words, word_text};
+ghost use Rattle.text_words.specs.inner.Room.{HasRoom, LacksRoom, UsesRoom, word_room, words_room};
 
 use sgx_types::names::{Frame, Memory};
 

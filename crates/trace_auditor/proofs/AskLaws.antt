@@ -5,8 +5,10 @@ use Rattle.std.specs.Prelude.{Result, slice_get}
 use Rattle.std.proofs.lemmas.Bool.{false≢true}
 use Rattle.std.proofs.lemmas.Option.{none-some, same_Some}
 use Rattle.sgx_rules.specs.declared.entries.Action.{Action}
-use Rattle.sgx_rules.specs.declared.entries.Action.TheVariants.{Epa, Create, Add, Extend, Init, Enter, Resume, Exit, Aex, Fill, Load, Store}
-use Rattle.sgx_rules.specs.declared.entries.Action.TheVariants.{Xadd, Set, Plus, Pf, OutLoad, OutStore, Block, Track, EwbStart, Ewb}
+use Rattle.sgx_rules.specs.declared.entries.Action.TheVariants.{Epa, Create, Add, Extend, Init, Enter, Resume, Exit, Aex, Fill}
+use Rattle.sgx_rules.specs.declared.entries.Action.TheVariants.{Load, Store}
+use Rattle.sgx_rules.specs.declared.entries.Action.TheVariants.{Xadd, Set, Plus, Pf, OutLoad, OutStore, Block, Track, EwbStart}
+use Rattle.sgx_rules.specs.declared.entries.Action.TheVariants.{Ewb}
 use Rattle.sgx_rules.specs.declared.entries.Action.TheVariants.{EldStart, Eld}
 use Rattle.sgx_types.specs.declared.names.Actor.{Actor}
 use Rattle.sgx_types.specs.declared.names.Actor.TheVariants as actors
@@ -19,22 +21,23 @@ use Rattle.sgx_types.specs.declared.names.Memory.{Memory}
 use Rattle.sgx_types.specs.declared.names.Page.{Page}
 use Rattle.sgx_rules.specs.Ends.{IsBack, IsNotBack}
 use Rattle.sgx_rules.specs.Rules.{RefusalRule}
-use Rattle.sgx_rules.specs.Starts.{Start, open_start, BareStart, bare_start, without_place}
+use Rattle.sgx_rules.specs.Starts.{Start, open_start}
+use Rattle.sgx_rules.specs.inner.Starts.{BareStart, bare_start, without_place}
 use Rattle.sgx_rules.proofs.Busy.{bare_of}
-use Rattle.seal_record.specs.Sealing.{made_by}
+use Rattle.seal_record.specs.inner.Sealing.{made_by}
 use Rattle.seal_record.specs.declared.unseal.UnsealedWork.{UnsealedWork}
 use Rattle.job_grammar.specs.Jobs.{JobView}
 use Rattle.turn_rules.specs.declared.steps.BuildStep.{BuildStep}
 use Rattle.turn_rules.specs.declared.steps.BuildStep.TheVariants as builds
 use Rattle.turn_rules.specs.Machines.{machine_of}
 use Rattle.turn_rules.specs.Script.{action_of, build_of, built, with_frame}
-use Rattle.paging_laws.specs.Histories.{StandsWithAllRules}
-use Rattle.paging_laws.specs.Notes.{IsNote}
-use Rattle.paging_laws.specs.State.{State}
-use Rattle.paging_laws.specs.Steps.{CanApply, IsStep, is_of_cpus}
+use Rattle.paging_laws.specs.inner.Histories.{StandsWithAllRules}
+use Rattle.paging_laws.specs.inner.Notes.{IsNote}
+use Rattle.paging_laws.specs.inner.State.{State}
+use Rattle.paging_laws.specs.inner.Steps.{CanApply, IsStep, is_of_cpus}
 use Rattle.paging_laws.proofs.ColumnLaws.{start_is}
 use Rattle.paging_machine.specs.declared.starts.Start as starts
-use Rattle.paging_machine.specs.Parts.{Parts, start_of, state_of}
+use Rattle.paging_machine.specs.inner.Parts.{Parts, start_of, state_of}
 use Rattle.driver_rules.specs.Dues.{Due, Finished, IsNext, Makes, Stopped, Waits, makes_or}
 use Rattle.driver_rules.specs.Scripts.{IsActors, ScriptRule}
 use Rattle.driver_rules.specs.Stops.{is_spent}
@@ -43,18 +46,19 @@ use Rattle.driver_rules.specs.declared.waits.Why.TheVariants as waits
 use Rattle.run_history.specs.declared.rules.Rule.{Rule}
 use Rattle.run_history.specs.declared.rules.Rule.TheVariants as rules
 use Rattle.run_history.specs.Histories.{FailsHere}
-use Rattle.table_notes.specs.Plain.{is_plain}
-use Rattle.turn_tables.specs.Entries.{EntersApart}
+use Rattle.table_notes.specs.inner.Plain.{is_plain}
+use Rattle.turn_tables.specs.inner.Entries.{EntersApart}
 use Rattle.turn_tables.proofs.OrderLaws.{enters_apart}
 use Rattle.audit_rules.proofs.OrderLaws.{refusal_fails}
-use Rattle.audit_machine.specs.Asked.{Breaks, GoesOnWith, HasLeft, IsDoneBack, IsOwnRecord, Takes, TakesBack}
+use Rattle.audit_machine.specs.inner.Asked.{Breaks, GoesOnWith, HasLeft, IsDoneBack, IsOwnRecord, Takes, TakesBack}
 use Rattle.audit_machine.specs.declared.coming.Back.TheVariants as backs
-use Rattle.audit_records.specs.Kept.{HasOwnRecord, KeepsRecords, Records, is_ewb, records_of, with_record, without_record}
+use Rattle.audit_records.specs.inner.Kept.{HasOwnRecord, KeepsRecords, Records, is_ewb, records_of, with_record, without_record}
 use Rattle.audit_records.proofs.OwnLaws.{own_is_kept}
-use Rattle.audit_records.proofs.StayLaws.{goes_on, no_action, not_ewb, own_records, record_again, record_back, record_left, records_stay}
+use Rattle.audit_records.proofs.StayLaws.{goes_on, no_action, not_ewb, own_records, record_again, record_back, record_left}
+use Rattle.audit_records.proofs.StayLaws.{records_stay}
 use Rattle.trace_auditor.specs.declared.auditing.Auditing.{Auditing}
-use Rattle.trace_auditor.specs.Asking.{is_commit, is_cpu, page_loaded, page_moved}
-use Rattle.trace_auditor.specs.Audits.{CanAsk, IsAnswered, IsAsked, IsTaken}
+use Rattle.trace_auditor.specs.inner.Asking.{is_commit, is_cpu, page_loaded, page_moved}
+use Rattle.trace_auditor.specs.inner.Audits.{CanAsk, IsAnswered, IsAsked, IsTaken}
 
 -- two names of one instruction
 same-action : (event : Event) (a b : Action) → action_of event ≡ Some a → action_of event ≡ Some b → a ≡ b

@@ -7,36 +7,36 @@ use Rattle.job_grammar.specs.declared.jobs.Marks.{Marks}
 use Rattle.job_grammar.specs.Jobs.{JobView}
 use Rattle.turn_rules.specs.Machines.{machine_of}
 use Rattle.paging_machine.specs.declared.starts.Start as starts
-use Rattle.epcm_entry.specs.Epc.{is_free_frame}
+use Rattle.epcm_entry.specs.inner.Epc.{is_free_frame}
 use Rattle.driver_rules.specs.Passes.{free_count}
 use Rattle.driver_rules.specs.Scripts.{ScriptRule}
-use Rattle.driver_laws.specs.Kinds.{CanMove}
-use Rattle.driver_laws.specs.Three.{IsApart}
+use Rattle.driver_laws.specs.inner.Kinds.{CanMove}
+use Rattle.driver_laws.specs.inner.Three.{IsApart}
 use Rattle.driver_laws.proofs.OwnLaws.{script_own}
 use Rattle.driver_tables.specs.declared.driver.Driver.{Driver}
-use Rattle.driver_steps.specs.Agrees.{Agrees}
-use Rattle.active_list.specs.Active.{ActiveList}
+use Rattle.driver_steps.specs.inner.Agrees.{Agrees}
+use Rattle.active_list.specs.inner.Active.{ActiveList}
 use Rattle.run_history.proofs.HistoryLaws.{three}
 use Rattle.turn_tables.specs.declared.turns.Turns.{Turns}
-use Rattle.turn_tables.specs.Entries.{CanNote}
-use Rattle.turn_tables.specs.Holding.{CanHold, KeepsHolds}
-use Rattle.turn_tables.specs.Noting.{AreFew, IsAmong}
-use Rattle.turn_tables.specs.Shown.{ShowsTurns}
+use Rattle.turn_tables.specs.inner.Entries.{CanNote}
+use Rattle.turn_tables.specs.inner.Holding.{CanHold, KeepsHolds}
+use Rattle.turn_tables.specs.inner.Noting.{AreFew, IsAmong}
+use Rattle.turn_tables.specs.inner.Shown.{ShowsTurns}
 use Rattle.turn_tables.proofs.FirstLaws.{counts_few}
 use Rattle.turn_tables.proofs.OrderLaws.{orderly_more}
-use Rattle.run_book.specs.Books.{with_own}
+use Rattle.run_book.specs.inner.Books.{with_own}
 use Rattle.run_book.proofs.BookLaws.{shows_with}
 use Rattle.run_steps.proofs.EntryLaws.{free_told, is_among, stood_so}
-use Rattle.audit_laws.specs.Shown.{ShowsTrace}
+use Rattle.audit_laws.specs.inner.Shown.{ShowsTrace}
 use Rattle.audit_laws.proofs.AgreeLaws.{agrees_by_rules, ends_told, lawful_can, lawful_counted}
-use Rattle.audit_pass.specs.Noted.{decided, gone_by}
-use Rattle.audit_pass.specs.Standing.{StandsAt}
-use Rattle.audit_pass.specs.Viewed.{TraceView}
+use Rattle.audit_pass.specs.inner.Noted.{decided, gone_by}
+use Rattle.audit_pass.specs.inner.Standing.{StandsAt}
+use Rattle.audit_pass.specs.inner.Viewed.{TraceView}
 use Rattle.audit_pass.proofs.NoteLaws.{entry_goes}
-use Rattle.audit_tables.specs.Followed as followed
-use Rattle.audit_tables.specs.Followed.{IsFollowed}
+use Rattle.audit_tables.specs.inner.Followed as followed
+use Rattle.audit_tables.specs.inner.Followed.{IsFollowed}
 use Rattle.trace_auditor.specs.declared.auditing.Auditing.{Auditing}
-use Rattle.trace_auditor.specs.Audits.{CanFollow, KeepsAudit}
+use Rattle.trace_auditor.specs.inner.Audits.{CanFollow, KeepsAudit}
 
 module _ (j : JobView) (a : Auditing) (before : Mode) (start : Option starts.Start) (e : Entry) (can : CanFollow j a before start e) where
   abbrev past : List Entry

@@ -7,38 +7,39 @@ use Rattle.sgx_types.specs.declared.names.Frame.{Frame}
 use Rattle.sgx_types.specs.Making.{Making}
 use Rattle.sgx_rules.specs.Rules.{Along}
 use Rattle.cached_translations.specs.declared.processor.Mode.{Mode}
-use Rattle.seal_record.specs.Sealing.{made_by}
+use Rattle.seal_record.specs.inner.Sealing.{made_by}
 use Rattle.job_grammar.specs.Jobs.{JobView}
 use Rattle.turn_rules.specs.Machines.{machine_of}
 use Rattle.paging_laws.proofs.ColumnLaws.{start_is}
 use Rattle.paging_machine.specs.declared.starts.Start as starts
-use Rattle.paging_machine.specs.Parts.{Parts, start_of, state_of}
+use Rattle.paging_machine.specs.inner.Parts.{Parts, start_of, state_of}
 use Rattle.driver_rules.specs.Ages.{AgeRule, KickRule}
-use Rattle.driver_rules.specs.Decided.{is_ended, keeps_age, keeps_kick, keeps_script}
+use Rattle.driver_rules.specs.inner.Decided.{is_ended, keeps_age, keeps_kick, keeps_script}
 use Rattle.driver_rules.specs.Scripts.{ScriptRule}
 use Rattle.driver_rules.proofs.DecidedLaws.{age_tells, kick_tells, script_tells}
-use Rattle.driver_steps.specs.Agrees.{Agrees}
+use Rattle.driver_steps.specs.inner.Agrees.{Agrees}
 use Rattle.driver_tables.specs.declared.driver.Driver.{Driver}
-use Rattle.driver_tables.specs.Held.{ShowsHolds}
+use Rattle.driver_tables.specs.inner.Held.{ShowsHolds}
 use Rattle.run_history.specs.declared.rules.Rule.{Rule}
 use Rattle.run_history.specs.declared.rules.Rule.TheVariants as rules
-use Rattle.run_history.specs.Histories.{Before, FailsHere, GoesOn, Says}
+use Rattle.run_history.specs.Histories.{Before, FailsHere, Says}
+use Rattle.run_history.specs.inner.Histories.{GoesOn}
 use Rattle.run_steps.proofs.EntryLaws.{is_among}
-use Rattle.turn_tables.specs.Due.{IsOrderly, IsReady}
-use Rattle.turn_tables.specs.Ending.{EndsAreTold}
-use Rattle.turn_tables.specs.Holding.{mode_of}
-use Rattle.turn_tables.specs.Noting.{IsAmong}
-use Rattle.turn_tables.specs.Shown.{ShowsTurns}
-use Rattle.audit_rules.specs.Rivals.{KeepsMachines}
+use Rattle.turn_tables.specs.inner.Due.{IsOrderly, IsReady}
+use Rattle.turn_tables.specs.inner.Ending.{EndsAreTold}
+use Rattle.turn_tables.specs.inner.Holding.{mode_of}
+use Rattle.turn_tables.specs.inner.Noting.{IsAmong}
+use Rattle.turn_tables.specs.inner.Shown.{ShowsTurns}
+use Rattle.audit_rules.specs.inner.Rivals.{KeepsMachines}
 use Rattle.audit_rules.proofs.OrderLaws.{age_fails, kick_fails}
 use Rattle.audit_laws.proofs.AgreeLaws.{agrees_by_rules}
 use Rattle.audit_machine.proofs.KeptLaws.{last_kept}
-use Rattle.audit_pass.specs.Noted.{gone_by}
-use Rattle.audit_pass.specs.Standing.{StandsAt}
-use Rattle.audit_pass.specs.Viewed.{TraceView}
-use Rattle.audit_tables.specs.Followed.{frame_ended}
+use Rattle.audit_pass.specs.inner.Noted.{gone_by}
+use Rattle.audit_pass.specs.inner.Standing.{StandsAt}
+use Rattle.audit_pass.specs.inner.Viewed.{TraceView}
+use Rattle.audit_tables.specs.inner.Followed.{frame_ended}
 use Rattle.trace_auditor.specs.declared.auditing.Auditing.{Auditing}
-use Rattle.trace_auditor.specs.Audits.{CanAsk, CanFollow, IsAnswered, IsAsked, IsAuditing, IsJudged, KeepsAudit}
+use Rattle.trace_auditor.specs.inner.Audits.{CanAsk, CanFollow, IsAnswered, IsAsked, IsAuditing, IsJudged, KeepsAudit}
 use Rattle.trace_auditor.proofs.RuleLaws.{goes_on_more, script_fails}
 
 -- each entry is its actor's next

@@ -5,13 +5,13 @@ use Rattle.std.proofs.lemmas.Bool.{false≢true}
 use Rattle.std.proofs.lemmas.List.{take_all, reverse-append, take_more, take-append-drop, length-take, length-reverse}
 use Rattle.sgx_rules.specs.declared.entries.Entry.{Entry}
 use Rattle.job_grammar.specs.Jobs.{JobView}
-use Rattle.driver_rules.specs.Decided.{is_ended}
+use Rattle.driver_rules.specs.inner.Decided.{is_ended}
 use Rattle.driver_rules.proofs.DecidedLaws.{ended_tells}
 use Rattle.run_history.specs.declared.rules.Rule.{Rule}
 use Rattle.run_history.specs.declared.rules.Rule.TheVariants as rules
 use Rattle.run_history.specs.Histories.{FailsFirst, History}
 use Rattle.trace_auditor.specs.declared.auditing.Auditing.{Auditing}
-use Rattle.trace_auditor.specs.Audits.{IsAuditing, IsJudged, KeepsAudit}
+use Rattle.trace_auditor.specs.inner.Audits.{IsAuditing, IsJudged, KeepsAudit}
 use Rattle.trace_auditor.proofs.RuleLaws.{ended_history, fails_at, not_ended}
 
 -- so many entries, the newest first

@@ -3,20 +3,20 @@ use Rattle.std.proofs.Common.{sym, subst, ◌∙◌, []}
 use Rattle.std.proofs.lemmas.Bool.{false≢true}
 use Rattle.sgx_types.specs.Making.{Making}
 use Rattle.job_grammar.specs.Jobs.{JobView, va_pages}
-use Rattle.paging_laws.specs.Histories.{StandsWithAllRules}
-use Rattle.paging_machine.specs.Parts.{state_of}
-use Rattle.driver_laws.specs.Counted.{CountsSlots}
-use Rattle.driver_tables.specs.Tables.{IsNew}
-use Rattle.run_history.specs.Histories.{GoesOn}
-use Rattle.turn_tables.specs.Holding.{KeepsHolds}
-use Rattle.turn_tables.specs.Shown.{ShowsTurns}
+use Rattle.paging_laws.specs.inner.Histories.{StandsWithAllRules}
+use Rattle.paging_machine.specs.inner.Parts.{state_of}
+use Rattle.driver_laws.specs.inner.Counted.{CountsSlots}
+use Rattle.driver_tables.specs.inner.Tables.{IsNew}
+use Rattle.run_history.specs.inner.Histories.{GoesOn}
+use Rattle.turn_tables.specs.inner.Holding.{KeepsHolds}
+use Rattle.turn_tables.specs.inner.Shown.{ShowsTurns}
 use Rattle.run_steps.proofs.FreshLaws.{IsFresh, fresh_cpus, fresh_making}
 use Rattle.run_steps.proofs.TcsLaws.{tcs_apart}
-use Rattle.audit_pass.specs.Standing.{StandsAt}
+use Rattle.audit_pass.specs.inner.Standing.{StandsAt}
 use Rattle.audit_records.proofs.StayLaws.{none_out}
-use Rattle.audit_records.specs.Kept.{records_of}
+use Rattle.audit_records.specs.inner.Kept.{records_of}
 use Rattle.trace_auditor.specs.declared.auditing.Auditing.{Auditing}
-use Rattle.trace_auditor.specs.Audits.{KeepsAudit}
+use Rattle.trace_auditor.specs.inner.Audits.{KeepsAudit}
 use Rattle.driver_tables.proofs.FirstLaws.{shows_first}
 use Rattle.driver_laws.proofs.CountLaws.{first_counts}
 use Rattle.turn_tables.proofs.FirstLaws.{holds_first}

@@ -1,19 +1,21 @@
 -- What an auditor's answers are by the rules.
 use Rattle.std.proofs.Common.{◌≡◌, ℕ, refl, List, ◌∷◌, ◌++◌, Option, Some, None, length, arith}
 use Rattle.sgx_rules.specs.declared.entries.Entry.{Entry}
-use Rattle.sgx_rules.specs.Rules.{KeepsRules, NoPageTwice, NoneStale}
+use Rattle.sgx_rules.specs.Rules.{NoPageTwice, NoneStale}
+use Rattle.sgx_rules.specs.inner.Rules.{KeepsRules}
 use Rattle.seal_record.specs.Records.{Made}
 use Rattle.job_grammar.specs.Jobs.{JobView}
 use Rattle.turn_rules.specs.Machines.{machine_of}
 use Rattle.driver_rules.specs.Ages.{AgeRule, KickRule}
 use Rattle.driver_rules.specs.Scripts.{IsEnded, ScriptRule}
-use Rattle.paging_laws.specs.Histories.{StandsWithAllRules}
-use Rattle.paging_laws.specs.State.{State}
+use Rattle.paging_laws.specs.inner.Histories.{StandsWithAllRules}
+use Rattle.paging_laws.specs.inner.State.{State}
 use Rattle.paging_laws.proofs.TestLaws.{last_place}
 use Rattle.run_history.specs.declared.rules.Rule.{Rule}
 use Rattle.run_history.specs.declared.rules.Rule.TheVariants as rules
-use Rattle.run_history.specs.Histories.{Before, FailsFirst, FailsHere, GoesOn, History, Says}
-use Rattle.audit_rules.specs.Rivals.{KeepsMachines}
+use Rattle.run_history.specs.Histories.{Before, FailsFirst, FailsHere, History, Says}
+use Rattle.run_history.specs.inner.Histories.{GoesOn}
+use Rattle.audit_rules.specs.inner.Rivals.{KeepsMachines}
 use Rattle.audit_machine.proofs.KeptLaws.{last_kept, own_rules}
 
 -- ---- one entry

@@ -1,3 +1,2 @@
-pub mod Asking
 pub mod Judged
-pub mod Audits
+pub mod inner

@@ -2,10 +2,10 @@
 
 ghost use Rattle.std.specs.Prelude.{◌≡◌, false, IfOk, Some};
 ghost use Rattle.sgx_rules.specs.declared.entries.Action.TheVariants as actions;
-ghost use Rattle.paging_laws.specs.Steps.{is_of_cpus};
+ghost use Rattle.paging_laws.specs.inner.Steps.{is_of_cpus};
 ghost use Rattle.turn_rules.specs.Script.{action_of};
-ghost use Rattle.trace_auditor.specs.Asking.{is_commit, is_cpu, page_loaded, page_moved};
-ghost use Rattle.trace_auditor.specs.Audits.{CanAsk, IsAnswered};
+ghost use Rattle.trace_auditor.specs.inner.Asking.{is_commit, is_cpu, page_loaded, page_moved};
+ghost use Rattle.trace_auditor.specs.inner.Audits.{CanAsk, IsAnswered};
 
 use crate::auditing::Auditing;
 use audit_machine::asking::ask;

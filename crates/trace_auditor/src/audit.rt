@@ -1,7 +1,7 @@
 //! The audit of a whole trace.
 
 ghost use Rattle.std.specs.Prelude.{[], ◌≡◌, ◌<◌, ◌^◌, IfOk, length, reverse};
-ghost use Rattle.trace_auditor.specs.Audits.{KeepsAudit};
+ghost use Rattle.trace_auditor.specs.inner.Audits.{KeepsAudit};
 ghost use Rattle.trace_auditor.specs.Judged.{Judges};
 
 use crate::auditing::Auditing;

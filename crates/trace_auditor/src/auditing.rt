@@ -1,7 +1,7 @@
 //! What an auditor keeps.
 
 ghost use Rattle.std.specs.Prelude.{[], IfOk};
-ghost use Rattle.trace_auditor.specs.Audits.{KeepsAudit};
+ghost use Rattle.trace_auditor.specs.inner.Audits.{KeepsAudit};
 
 use audit_pass::trace_pass::TracePass;
 use audit_records::old_records::OldRecords;

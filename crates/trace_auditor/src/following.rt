@@ -1,7 +1,7 @@
 //! An entry that keeps each rule is told to the tables.
 
 ghost use Rattle.std.specs.Prelude.{◌∷◌};
-ghost use Rattle.trace_auditor.specs.Audits.{CanFollow, KeepsAudit};
+ghost use Rattle.trace_auditor.specs.inner.Audits.{CanFollow, KeepsAudit};
 
 use crate::auditing::Auditing;
 use audit_tables::following::follow;

@@ -2,10 +2,10 @@
 
 ghost use Rattle.std.specs.Prelude.{◌≡◌, IfOk, Some};
 ghost use Rattle.sgx_types.specs.declared.names.Frame.{Frame};
-ghost use Rattle.paging_machine.specs.Parts.{start_of, state_of};
-ghost use Rattle.driver_rules.specs.Decided.{is_ended};
-ghost use Rattle.audit_tables.specs.Followed.{frame_ended};
-ghost use Rattle.trace_auditor.specs.Audits.{IsAuditing, IsJudged};
+ghost use Rattle.paging_machine.specs.inner.Parts.{start_of, state_of};
+ghost use Rattle.driver_rules.specs.inner.Decided.{is_ended};
+ghost use Rattle.audit_tables.specs.inner.Followed.{frame_ended};
+ghost use Rattle.trace_auditor.specs.inner.Audits.{IsAuditing, IsJudged};
 
 use crate::auditing::Auditing;
 use audit_dues::ending::is_ended;

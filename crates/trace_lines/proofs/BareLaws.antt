@@ -4,7 +4,7 @@ use Rattle.std.proofs.Common.{rules, if◌then◌else◌}
 use Rattle.std.specs.List.{AllByRecursion}
 use Rattle.sgx_rules.specs.declared.refusals.Refusal.{Refusal}
 use Rattle.trace_text.specs.Readable.{FitsRefusal}
-use Rattle.trace_words.specs.Names.{bare_of, bare_word, bares}
+use Rattle.trace_words.specs.inner.Names.{bare_of, bare_word, bares}
 
 found-fits : (p : Refusal → Bool) (refusals : List Refusal) → AllByRecursion FitsRefusal refusals → IfSome (find p refusals) FitsRefusal
 found-fits p [] all = tt

@@ -19,9 +19,10 @@ use Rattle.text_words.specs.Words.{Words}
 use Rattle.text_words.proofs.Splits.{AreWords, IsApart, join-apart, split-join}
 use Rattle.text_words.proofs.WordLaws.{decimal-is_word, digest-is_word, hexadecimal-is_word}
 use Rattle.trace_text.specs.TraceText.{action_words, actor_word, answer_words, event_words, init_words, refusal_words, spelling}
-use Rattle.trace_text.specs.Readable.{FitsAction, FitsAnswer, FitsEvent, FitsInit, FitsRefusal, IsCssa, IsHash, IsMoved, IsPf, IsPlain}
+use Rattle.trace_text.specs.Readable.{FitsAction, FitsAnswer, FitsEvent, FitsInit, FitsRefusal, IsCssa, IsHash, IsMoved, IsPf}
+use Rattle.trace_text.specs.Readable.{IsPlain}
 use Rattle.trace_text.specs.Readable.{IsReadable, IsValue, IsVersion}
-use Rattle.trace_lines.specs.Reading.{entry_of, words_of}
+use Rattle.trace_lines.specs.inner.Reading.{entry_of, words_of}
 use Rattle.trace_words.proofs.WordReads.{access-is_word, actor-is_word, byte-is_word, cause-is_word, cpu-is_word, enclave-is_word}
 use Rattle.trace_words.proofs.WordReads.{expect-is_word, fault-is_word, kind-is_word, look-is_word, perm-is_word, short-is_word}
 use Rattle.trace_words.proofs.WordReads.{small-is_word, stop-is_word}

@@ -15,15 +15,21 @@ use Rattle.text_words.specs.Words.{Words}
 use Rattle.text_words.proofs.Numerals.{number_of-decimal, number_of-hexadecimal}
 use Rattle.text_words.proofs.WordLaws.{digest_of-encode_lower, small_of-decimal}
 use Rattle.trace_text.specs.TraceText.{action_words, actor_word, answer_words, event_words, init_words, refusal_words}
-use Rattle.trace_words.specs.Names.{bare_of, row_of}
-use Rattle.trace_text.specs.Readable.{FitsAction, FitsAnswer, FitsEvent, FitsInit, FitsRefusal, IsCssa, IsHash, IsMoved, IsPf, IsPlain}
+use Rattle.trace_words.specs.inner.Names.{bare_of, row_of}
+use Rattle.trace_text.specs.Readable.{FitsAction, FitsAnswer, FitsEvent, FitsInit, FitsRefusal, IsCssa, IsHash, IsMoved, IsPf}
+use Rattle.trace_text.specs.Readable.{IsPlain}
 use Rattle.trace_text.specs.Readable.{IsReadable, IsValue, IsVersion}
-use Rattle.trace_lines.specs.Reading.{add_row, aex_row, block_row, create_row, eld_row, eldstart_row, enter_row, epa_row, ewb_row}
-use Rattle.trace_lines.specs.Reading.{ewbstart_row, extend_row, fill_row, init_row, load_row, outload_row, outstore_row, pf_row, plus_row}
-use Rattle.trace_lines.specs.Reading.{resume_row, set_row, store_row, track_row, xadd_row, action_of, age_of, answer_of, bus_of, cssa_of}
-use Rattle.trace_lines.specs.Reading.{done_of, entry_of, event_of, hash_of, kick_of, moved_of, one_of, page_init, pf_of, plain_of}
-use Rattle.trace_lines.specs.Reading.{refusal_of, refused_of, three_of, two_of, value_of, version_of}
-use Rattle.trace_words.proofs.WordReads.{access-read, actor-read, byte-read, cause-read, cpu-read, enclave-read, expect-read, fault-read}
+use Rattle.trace_lines.specs.inner.Reading.{add_row, aex_row, block_row, create_row, eld_row, eldstart_row, enter_row, epa_row}
+use Rattle.trace_lines.specs.inner.Reading.{ewb_row}
+use Rattle.trace_lines.specs.inner.Reading.{ewbstart_row, extend_row, fill_row, init_row, load_row, outload_row, outstore_row}
+use Rattle.trace_lines.specs.inner.Reading.{pf_row, plus_row}
+use Rattle.trace_lines.specs.inner.Reading.{resume_row, set_row, store_row, track_row, xadd_row, action_of, age_of, answer_of}
+use Rattle.trace_lines.specs.inner.Reading.{bus_of, cssa_of}
+use Rattle.trace_lines.specs.inner.Reading.{done_of, entry_of, event_of, hash_of, kick_of, moved_of, one_of, page_init, pf_of}
+use Rattle.trace_lines.specs.inner.Reading.{plain_of}
+use Rattle.trace_lines.specs.inner.Reading.{refusal_of, refused_of, three_of, two_of, value_of, version_of}
+use Rattle.trace_words.proofs.WordReads.{access-read, actor-read, byte-read, cause-read, cpu-read, enclave-read, expect-read}
+use Rattle.trace_words.proofs.WordReads.{fault-read}
 use Rattle.trace_words.proofs.WordReads.{frame-read, kind-read, look-read, perm-read, short-read, stop-read}
 
 init-read : (init : PageInit) (rest : Words) → FitsInit init → page_init (init_words init ++ rest) ≡ Some (init, rest)

@@ -2,7 +2,8 @@
 
 ghost use Rattle.std.specs.Prelude.{◌≡◌, IfSome};
 ghost use Rattle.trace_text.specs.Readable.{FitsAnswer, IsCssa, IsHash, IsMoved, IsPf, IsPlain, IsValue, IsVersion};
-ghost use Rattle.trace_lines.specs.Reading.{answer_of, cssa_of, hash_of, moved_of, pf_of, plain_of, texts, value_of, version_of};
+ghost use Rattle.trace_lines.specs.inner.Reading.{answer_of, cssa_of, hash_of, moved_of, pf_of, plain_of, texts, value_of};
+ghost use Rattle.trace_lines.specs.inner.Reading.{version_of};
 
 use sgx_rules::entries::{Action, Answer};
 use sgx_types::names::Page;
@@ -10,7 +11,7 @@ use text_words::readers::{number, small};
 use trace_words::names::fault;
 use trace_words::words::{enclave, tag};
 
-#[tactic(auto, unfolding(crate::specs::Reading::plain_of))]
+#[tactic(auto, unfolding(crate::specs::inner::Reading::plain_of))]
 fn plain(words: &[&[u8]]) -> Option<Answer>
     ensures read { result ≡ plain_of (texts words.now) }
     ensures fits { IfSome result IsPlain }
@@ -21,7 +22,7 @@ fn plain(words: &[&[u8]]) -> Option<Answer>
     Some(Answer::Plain)
 }
 
-#[tactic(auto, unfolding(crate::specs::Reading::cssa_of))]
+#[tactic(auto, unfolding(crate::specs::inner::Reading::cssa_of))]
 fn cssa(words: &[&[u8]]) -> Option<Answer>
     ensures read { result ≡ cssa_of (texts words.now) }
     ensures fits { IfSome result IsCssa }
@@ -32,7 +33,7 @@ fn cssa(words: &[&[u8]]) -> Option<Answer>
     Some(Answer::Cssa(small(word)?))
 }
 
-#[tactic(auto, unfolding(crate::specs::Reading::value_of))]
+#[tactic(auto, unfolding(crate::specs::inner::Reading::value_of))]
 fn value(words: &[&[u8]]) -> Option<Answer>
     ensures read { result ≡ value_of (texts words.now) }
     ensures fits { IfSome result IsValue }
@@ -43,7 +44,7 @@ fn value(words: &[&[u8]]) -> Option<Answer>
     Some(Answer::Value(number(word)?))
 }
 
-#[tactic(auto, unfolding(crate::specs::Reading::hash_of))]
+#[tactic(auto, unfolding(crate::specs::inner::Reading::hash_of))]
 fn hash(words: &[&[u8]]) -> Option<Answer>
     ensures read { result ≡ hash_of (texts words.now) }
     ensures fits { IfSome result IsHash }
@@ -54,7 +55,7 @@ fn hash(words: &[&[u8]]) -> Option<Answer>
     Some(Answer::Hash(tag(word)?))
 }
 
-#[tactic(auto, unfolding(crate::specs::Reading::version_of))]
+#[tactic(auto, unfolding(crate::specs::inner::Reading::version_of))]
 fn version(words: &[&[u8]]) -> Option<Answer>
     ensures read { result ≡ version_of (texts words.now) }
     ensures fits { IfSome result IsVersion }
@@ -65,7 +66,7 @@ fn version(words: &[&[u8]]) -> Option<Answer>
     Some(Answer::Version(number(word)?))
 }
 
-#[tactic(auto, unfolding(crate::specs::Reading::pf_of))]
+#[tactic(auto, unfolding(crate::specs::inner::Reading::pf_of))]
 fn pf(words: &[&[u8]]) -> Option<Answer>
     ensures read { result ≡ pf_of (texts words.now) }
     ensures fits { IfSome result IsPf }
@@ -76,7 +77,7 @@ fn pf(words: &[&[u8]]) -> Option<Answer>
     Some(Answer::Pf(fault(word)?))
 }
 
-#[tactic(auto, unfolding(crate::specs::Reading::moved_of))]
+#[tactic(auto, unfolding(crate::specs::inner::Reading::moved_of))]
 fn moved(words: &[&[u8]]) -> Option<Answer>
     ensures read { result ≡ moved_of (texts words.now) }
     ensures fits { IfSome result IsMoved }

@@ -2,7 +2,8 @@
 
 ghost use Rattle.std.specs.Prelude.{◌≡◌, IfOk, IfSome};
 ghost use Rattle.trace_text.specs.Readable.{FitsEvent, IsReadable, may_make};
-ghost use Rattle.trace_lines.specs.Reading.{age_of, bus_of, done_of, entry_of, event_of, kick_of, refused_of, texts, words_of};
+ghost use Rattle.trace_lines.specs.inner.Reading.{age_of, bus_of, done_of, entry_of, event_of, kick_of, refused_of, texts};
+ghost use Rattle.trace_lines.specs.inner.Reading.{words_of};
 
 use crate::answers::answer;
 use crate::instructions::action;
@@ -14,7 +15,7 @@ use text_words::readers::small;
 use trace_words::names::{look, stop};
 use trace_words::words::{actor, cpu, enclave};
 
-#[tactic(auto, unfolding(crate::specs::Reading::refused_of))]
+#[tactic(auto, unfolding(crate::specs::inner::Reading::refused_of))]
 fn refused(words: &[&[u8]]) -> Option<Event>
     ensures read { result ≡ refused_of (texts words.now) }
     ensures fits { IfSome result FitsEvent }
@@ -24,7 +25,7 @@ fn refused(words: &[&[u8]]) -> Option<Event>
     Some(Event::Refused { action, why })
 }
 
-#[tactic(auto, unfolding(crate::specs::Reading::done_of))]
+#[tactic(auto, unfolding(crate::specs::inner::Reading::done_of))]
 fn done(words: &[&[u8]]) -> Option<Event>
     ensures read { result ≡ done_of (texts words.now) }
     ensures fits { IfSome result FitsEvent }
@@ -34,7 +35,7 @@ fn done(words: &[&[u8]]) -> Option<Event>
     Some(Event::Did { action, answer })
 }
 
-#[tactic(auto, unfolding(crate::specs::Reading::age_of))]
+#[tactic(auto, unfolding(crate::specs::inner::Reading::age_of))]
 fn age(words: &[&[u8]]) -> Option<Event>
     ensures read { result ≡ age_of (texts words.now) }
     ensures fits { IfSome result FitsEvent }
@@ -50,7 +51,7 @@ fn age(words: &[&[u8]]) -> Option<Event>
     Some(Event::Age { page, look })
 }
 
-#[tactic(auto, unfolding(crate::specs::Reading::kick_of))]
+#[tactic(auto, unfolding(crate::specs::inner::Reading::kick_of))]
 fn kick(words: &[&[u8]]) -> Option<Event>
     ensures read { result ≡ kick_of (texts words.now) }
     ensures fits { IfSome result FitsEvent }
@@ -61,7 +62,7 @@ fn kick(words: &[&[u8]]) -> Option<Event>
     Some(Event::Kick { cpu: cpu(word)? })
 }
 
-#[tactic(auto, unfolding(crate::specs::Reading::bus_of))]
+#[tactic(auto, unfolding(crate::specs::inner::Reading::bus_of))]
 fn bus(words: &[&[u8]]) -> Option<Event>
     ensures read { result ≡ bus_of (texts words.now) }
     ensures fits { IfSome result FitsEvent }
@@ -77,7 +78,7 @@ fn bus(words: &[&[u8]]) -> Option<Event>
     Some(Event::Bus { page, why })
 }
 
-#[tactic(auto, unfolding(crate::specs::Reading::event_of))]
+#[tactic(auto, unfolding(crate::specs::inner::Reading::event_of))]
 fn event(words: &[&[u8]]) -> Option<Event>
     ensures read { result ≡ event_of (texts words.now) }
     ensures fits { IfSome result FitsEvent }
@@ -106,7 +107,7 @@ fn is_own(actor: Actor, event: Event) -> bool
 }
 
 /// The entry that words tell, in any spelling of their numbers.
-#[tactic(auto, unfolding(crate::specs::Reading::entry_of))]
+#[tactic(auto, unfolding(crate::specs::inner::Reading::entry_of))]
 fn entry(words: &[&[u8]]) -> Option<Entry>
     ensures read { result ≡ entry_of (texts words.now) }
     ensures fits { IfSome result IsReadable }
@@ -124,7 +125,7 @@ fn entry(words: &[&[u8]]) -> Option<Entry>
 }
 
 /// The words of a line. No entry has more than 15, so that more than 16 need not be looked at.
-#[tactic(auto, unfolding(crate::specs::Reading::words_of))]
+#[tactic(auto, unfolding(crate::specs::inner::Reading::words_of))]
 fn line_words(alloc: Global, line: &[u8]) -> Result<Vec<&[u8]>, AllocError>
     ensures { IfOk result (λ words. texts words.items ≡ words_of line.now) }
 {

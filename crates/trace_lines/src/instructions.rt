@@ -2,10 +2,13 @@
 
 ghost use Rattle.std.specs.Prelude.{◌≡◌, IfSome, option_map};
 ghost use Rattle.trace_text.specs.Readable.{FitsAction, FitsInit};
-ghost use Rattle.trace_lines.specs.Reading.{add_row, aex_row, block_row, create_row, eld_row, eldstart_row, enter_row, epa_row, ewb_row};
-ghost use Rattle.trace_lines.specs.Reading.{ewbstart_row, extend_row, fill_row, init_row, load_row, outload_row, outstore_row, pf_row};
-ghost use Rattle.trace_lines.specs.Reading.{plus_row, resume_row, set_row, store_row, track_row, xadd_row, action_of, by_row, front_of};
-ghost use Rattle.trace_lines.specs.Reading.{page_init, texts};
+ghost use Rattle.trace_lines.specs.inner.Reading.{add_row, aex_row, block_row, create_row, eld_row, eldstart_row, enter_row};
+ghost use Rattle.trace_lines.specs.inner.Reading.{epa_row, ewb_row};
+ghost use Rattle.trace_lines.specs.inner.Reading.{ewbstart_row, extend_row, fill_row, init_row, load_row, outload_row};
+ghost use Rattle.trace_lines.specs.inner.Reading.{outstore_row, pf_row};
+ghost use Rattle.trace_lines.specs.inner.Reading.{plus_row, resume_row, set_row, store_row, track_row, xadd_row, action_of};
+ghost use Rattle.trace_lines.specs.inner.Reading.{by_row, front_of};
+ghost use Rattle.trace_lines.specs.inner.Reading.{page_init, texts};
 
 use sgx_rules::entries::Action;
 use sgx_types::lawful::PageInit;
@@ -15,7 +18,7 @@ use trace_words::names::{Row, access, cause, instruction, kind, perm};
 use trace_words::words::{byte, enclave, expect, frame, short};
 
 /// With what a page is added.
-#[tactic(auto, unfolding(crate::specs::Reading::page_init))]
+#[tactic(auto, unfolding(crate::specs::inner::Reading::page_init))]
 fn init<'a>(words: &'a [&'a [u8]]) -> Option<(PageInit, &'a [&'a [u8]])>
     ensures read { option_map front_of result ≡ page_init (texts words.now) }
     ensures fits { IfSome result (λ front. FitsInit front.0) }
@@ -44,7 +47,7 @@ fn init<'a>(words: &'a [&'a [u8]]) -> Option<(PageInit, &'a [&'a [u8]])>
     }
 }
 
-#[tactic(auto, unfolding(crate::specs::Reading::epa_row))]
+#[tactic(auto, unfolding(crate::specs::inner::Reading::epa_row))]
 fn read_epa<'a>(words: &'a [&'a [u8]]) -> Option<(Action, &'a [&'a [u8]])>
     ensures read { option_map front_of result ≡ epa_row (texts words.now) }
     ensures fits { IfSome result (λ front. FitsAction front.0) }
@@ -58,7 +61,7 @@ fn read_epa<'a>(words: &'a [&'a [u8]]) -> Option<(Action, &'a [&'a [u8]])>
     Some((action, rest))
 }
 
-#[tactic(auto, unfolding(crate::specs::Reading::create_row))]
+#[tactic(auto, unfolding(crate::specs::inner::Reading::create_row))]
 fn read_create<'a>(words: &'a [&'a [u8]]) -> Option<(Action, &'a [&'a [u8]])>
     ensures read { option_map front_of result ≡ create_row (texts words.now) }
     ensures fits { IfSome result (λ front. FitsAction front.0) }
@@ -75,7 +78,7 @@ fn read_create<'a>(words: &'a [&'a [u8]]) -> Option<(Action, &'a [&'a [u8]])>
     Some((action, rest))
 }
 
-#[tactic(auto, unfolding(crate::specs::Reading::add_row))]
+#[tactic(auto, unfolding(crate::specs::inner::Reading::add_row))]
 fn read_add<'a>(words: &'a [&'a [u8]]) -> Option<(Action, &'a [&'a [u8]])>
     ensures read { option_map front_of result ≡ add_row (texts words.now) }
     ensures fits { IfSome result (λ front. FitsAction front.0) }
@@ -108,7 +111,7 @@ fn read_add<'a>(words: &'a [&'a [u8]]) -> Option<(Action, &'a [&'a [u8]])>
     Some((action, rest))
 }
 
-#[tactic(auto, unfolding(crate::specs::Reading::extend_row))]
+#[tactic(auto, unfolding(crate::specs::inner::Reading::extend_row))]
 fn read_extend<'a>(words: &'a [&'a [u8]]) -> Option<(Action, &'a [&'a [u8]])>
     ensures read { option_map front_of result ≡ extend_row (texts words.now) }
     ensures fits { IfSome result (λ front. FitsAction front.0) }
@@ -123,7 +126,7 @@ fn read_extend<'a>(words: &'a [&'a [u8]]) -> Option<(Action, &'a [&'a [u8]])>
     Some((action, rest))
 }
 
-#[tactic(auto, unfolding(crate::specs::Reading::init_row))]
+#[tactic(auto, unfolding(crate::specs::inner::Reading::init_row))]
 fn read_init<'a>(words: &'a [&'a [u8]]) -> Option<(Action, &'a [&'a [u8]])>
     ensures read { option_map front_of result ≡ init_row (texts words.now) }
     ensures fits { IfSome result (λ front. FitsAction front.0) }
@@ -138,7 +141,7 @@ fn read_init<'a>(words: &'a [&'a [u8]]) -> Option<(Action, &'a [&'a [u8]])>
     Some((action, rest))
 }
 
-#[tactic(auto, unfolding(crate::specs::Reading::enter_row))]
+#[tactic(auto, unfolding(crate::specs::inner::Reading::enter_row))]
 fn read_enter<'a>(words: &'a [&'a [u8]]) -> Option<(Action, &'a [&'a [u8]])>
     ensures read { option_map front_of result ≡ enter_row (texts words.now) }
     ensures fits { IfSome result (λ front. FitsAction front.0) }
@@ -162,7 +165,7 @@ fn read_enter<'a>(words: &'a [&'a [u8]]) -> Option<(Action, &'a [&'a [u8]])>
     Some((action, rest))
 }
 
-#[tactic(auto, unfolding(crate::specs::Reading::resume_row))]
+#[tactic(auto, unfolding(crate::specs::inner::Reading::resume_row))]
 fn read_resume<'a>(words: &'a [&'a [u8]]) -> Option<(Action, &'a [&'a [u8]])>
     ensures read { option_map front_of result ≡ resume_row (texts words.now) }
     ensures fits { IfSome result (λ front. FitsAction front.0) }
@@ -186,7 +189,7 @@ fn read_resume<'a>(words: &'a [&'a [u8]]) -> Option<(Action, &'a [&'a [u8]])>
     Some((action, rest))
 }
 
-#[tactic(auto, unfolding(crate::specs::Reading::aex_row))]
+#[tactic(auto, unfolding(crate::specs::inner::Reading::aex_row))]
 fn read_aex<'a>(words: &'a [&'a [u8]]) -> Option<(Action, &'a [&'a [u8]])>
     ensures read { option_map front_of result ≡ aex_row (texts words.now) }
     ensures fits { IfSome result (λ front. FitsAction front.0) }
@@ -200,7 +203,7 @@ fn read_aex<'a>(words: &'a [&'a [u8]]) -> Option<(Action, &'a [&'a [u8]])>
     Some((action, rest))
 }
 
-#[tactic(auto, unfolding(crate::specs::Reading::fill_row))]
+#[tactic(auto, unfolding(crate::specs::inner::Reading::fill_row))]
 fn read_fill<'a>(words: &'a [&'a [u8]]) -> Option<(Action, &'a [&'a [u8]])>
     ensures read { option_map front_of result ≡ fill_row (texts words.now) }
     ensures fits { IfSome result (λ front. FitsAction front.0) }
@@ -215,7 +218,7 @@ fn read_fill<'a>(words: &'a [&'a [u8]]) -> Option<(Action, &'a [&'a [u8]])>
     Some((action, rest))
 }
 
-#[tactic(auto, unfolding(crate::specs::Reading::load_row))]
+#[tactic(auto, unfolding(crate::specs::inner::Reading::load_row))]
 fn read_load<'a>(words: &'a [&'a [u8]]) -> Option<(Action, &'a [&'a [u8]])>
     ensures read { option_map front_of result ≡ load_row (texts words.now) }
     ensures fits { IfSome result (λ front. FitsAction front.0) }
@@ -229,7 +232,7 @@ fn read_load<'a>(words: &'a [&'a [u8]]) -> Option<(Action, &'a [&'a [u8]])>
     Some((action, rest))
 }
 
-#[tactic(auto, unfolding(crate::specs::Reading::store_row))]
+#[tactic(auto, unfolding(crate::specs::inner::Reading::store_row))]
 fn read_store<'a>(words: &'a [&'a [u8]]) -> Option<(Action, &'a [&'a [u8]])>
     ensures read { option_map front_of result ≡ store_row (texts words.now) }
     ensures fits { IfSome result (λ front. FitsAction front.0) }
@@ -244,7 +247,7 @@ fn read_store<'a>(words: &'a [&'a [u8]]) -> Option<(Action, &'a [&'a [u8]])>
     Some((action, rest))
 }
 
-#[tactic(auto, unfolding(crate::specs::Reading::xadd_row))]
+#[tactic(auto, unfolding(crate::specs::inner::Reading::xadd_row))]
 fn read_xadd<'a>(words: &'a [&'a [u8]]) -> Option<(Action, &'a [&'a [u8]])>
     ensures read { option_map front_of result ≡ xadd_row (texts words.now) }
     ensures fits { IfSome result (λ front. FitsAction front.0) }
@@ -259,7 +262,7 @@ fn read_xadd<'a>(words: &'a [&'a [u8]]) -> Option<(Action, &'a [&'a [u8]])>
     Some((action, rest))
 }
 
-#[tactic(auto, unfolding(crate::specs::Reading::set_row))]
+#[tactic(auto, unfolding(crate::specs::inner::Reading::set_row))]
 fn read_set<'a>(words: &'a [&'a [u8]]) -> Option<(Action, &'a [&'a [u8]])>
     ensures read { option_map front_of result ≡ set_row (texts words.now) }
     ensures fits { IfSome result (λ front. FitsAction front.0) }
@@ -273,7 +276,7 @@ fn read_set<'a>(words: &'a [&'a [u8]]) -> Option<(Action, &'a [&'a [u8]])>
     Some((action, rest))
 }
 
-#[tactic(auto, unfolding(crate::specs::Reading::plus_row))]
+#[tactic(auto, unfolding(crate::specs::inner::Reading::plus_row))]
 fn read_plus<'a>(words: &'a [&'a [u8]]) -> Option<(Action, &'a [&'a [u8]])>
     ensures read { option_map front_of result ≡ plus_row (texts words.now) }
     ensures fits { IfSome result (λ front. FitsAction front.0) }
@@ -287,7 +290,7 @@ fn read_plus<'a>(words: &'a [&'a [u8]]) -> Option<(Action, &'a [&'a [u8]])>
     Some((action, rest))
 }
 
-#[tactic(auto, unfolding(crate::specs::Reading::pf_row))]
+#[tactic(auto, unfolding(crate::specs::inner::Reading::pf_row))]
 fn read_pf<'a>(words: &'a [&'a [u8]]) -> Option<(Action, &'a [&'a [u8]])>
     ensures read { option_map front_of result ≡ pf_row (texts words.now) }
     ensures fits { IfSome result (λ front. FitsAction front.0) }
@@ -302,7 +305,7 @@ fn read_pf<'a>(words: &'a [&'a [u8]]) -> Option<(Action, &'a [&'a [u8]])>
     Some((action, rest))
 }
 
-#[tactic(auto, unfolding(crate::specs::Reading::outload_row))]
+#[tactic(auto, unfolding(crate::specs::inner::Reading::outload_row))]
 fn read_outload<'a>(words: &'a [&'a [u8]]) -> Option<(Action, &'a [&'a [u8]])>
     ensures read { option_map front_of result ≡ outload_row (texts words.now) }
     ensures fits { IfSome result (λ front. FitsAction front.0) }
@@ -317,7 +320,7 @@ fn read_outload<'a>(words: &'a [&'a [u8]]) -> Option<(Action, &'a [&'a [u8]])>
     Some((action, rest))
 }
 
-#[tactic(auto, unfolding(crate::specs::Reading::outstore_row))]
+#[tactic(auto, unfolding(crate::specs::inner::Reading::outstore_row))]
 fn read_outstore<'a>(words: &'a [&'a [u8]]) -> Option<(Action, &'a [&'a [u8]])>
     ensures read { option_map front_of result ≡ outstore_row (texts words.now) }
     ensures fits { IfSome result (λ front. FitsAction front.0) }
@@ -333,7 +336,7 @@ fn read_outstore<'a>(words: &'a [&'a [u8]]) -> Option<(Action, &'a [&'a [u8]])>
     Some((action, rest))
 }
 
-#[tactic(auto, unfolding(crate::specs::Reading::block_row))]
+#[tactic(auto, unfolding(crate::specs::inner::Reading::block_row))]
 fn read_block<'a>(words: &'a [&'a [u8]]) -> Option<(Action, &'a [&'a [u8]])>
     ensures read { option_map front_of result ≡ block_row (texts words.now) }
     ensures fits { IfSome result (λ front. FitsAction front.0) }
@@ -347,7 +350,7 @@ fn read_block<'a>(words: &'a [&'a [u8]]) -> Option<(Action, &'a [&'a [u8]])>
     Some((action, rest))
 }
 
-#[tactic(auto, unfolding(crate::specs::Reading::track_row))]
+#[tactic(auto, unfolding(crate::specs::inner::Reading::track_row))]
 fn read_track<'a>(words: &'a [&'a [u8]]) -> Option<(Action, &'a [&'a [u8]])>
     ensures read { option_map front_of result ≡ track_row (texts words.now) }
     ensures fits { IfSome result (λ front. FitsAction front.0) }
@@ -361,7 +364,7 @@ fn read_track<'a>(words: &'a [&'a [u8]]) -> Option<(Action, &'a [&'a [u8]])>
     Some((action, rest))
 }
 
-#[tactic(auto, unfolding(crate::specs::Reading::ewbstart_row))]
+#[tactic(auto, unfolding(crate::specs::inner::Reading::ewbstart_row))]
 fn read_ewbstart<'a>(words: &'a [&'a [u8]]) -> Option<(Action, &'a [&'a [u8]])>
     ensures read { option_map front_of result ≡ ewbstart_row (texts words.now) }
     ensures fits { IfSome result (λ front. FitsAction front.0) }
@@ -379,7 +382,7 @@ fn read_ewbstart<'a>(words: &'a [&'a [u8]]) -> Option<(Action, &'a [&'a [u8]])>
     Some((action, rest))
 }
 
-#[tactic(auto, unfolding(crate::specs::Reading::ewb_row))]
+#[tactic(auto, unfolding(crate::specs::inner::Reading::ewb_row))]
 fn read_ewb<'a>(words: &'a [&'a [u8]]) -> Option<(Action, &'a [&'a [u8]])>
     ensures read { option_map front_of result ≡ ewb_row (texts words.now) }
     ensures fits { IfSome result (λ front. FitsAction front.0) }
@@ -393,7 +396,7 @@ fn read_ewb<'a>(words: &'a [&'a [u8]]) -> Option<(Action, &'a [&'a [u8]])>
     Some((action, rest))
 }
 
-#[tactic(auto, unfolding(crate::specs::Reading::eldstart_row))]
+#[tactic(auto, unfolding(crate::specs::inner::Reading::eldstart_row))]
 fn read_eldstart<'a>(words: &'a [&'a [u8]]) -> Option<(Action, &'a [&'a [u8]])>
     ensures read { option_map front_of result ≡ eldstart_row (texts words.now) }
     ensures fits { IfSome result (λ front. FitsAction front.0) }
@@ -423,7 +426,7 @@ fn read_eldstart<'a>(words: &'a [&'a [u8]]) -> Option<(Action, &'a [&'a [u8]])>
     Some((action, rest))
 }
 
-#[tactic(auto, unfolding(crate::specs::Reading::eld_row))]
+#[tactic(auto, unfolding(crate::specs::inner::Reading::eld_row))]
 fn read_eld<'a>(words: &'a [&'a [u8]]) -> Option<(Action, &'a [&'a [u8]])>
     ensures read { option_map front_of result ≡ eld_row (texts words.now) }
     ensures fits { IfSome result (λ front. FitsAction front.0) }
@@ -470,7 +473,7 @@ fn by_row<'a>(row: Row, words: &'a [&'a [u8]]) -> Option<(Action, &'a [&'a [u8]]
 }
 
 /// An instruction by its name and its operands.
-#[tactic(auto, unfolding(crate::specs::Reading::action_of))]
+#[tactic(auto, unfolding(crate::specs::inner::Reading::action_of))]
 pub(crate) fn action<'a>(words: &'a [&'a [u8]]) -> Option<(Action, &'a [&'a [u8]])>
     ensures read { option_map front_of result ≡ action_of (texts words.now) }
     ensures fits { IfSome result (λ front. FitsAction front.0) }

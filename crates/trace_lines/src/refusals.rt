@@ -2,14 +2,14 @@
 
 ghost use Rattle.std.specs.Prelude.{◌≡◌, IfSome};
 ghost use Rattle.trace_text.specs.Readable.{FitsRefusal};
-ghost use Rattle.trace_lines.specs.Reading.{one_of, refusal_of, texts, three_of, two_of};
+ghost use Rattle.trace_lines.specs.inner.Reading.{one_of, refusal_of, texts, three_of, two_of};
 
 use sgx_rules::refusals::Refusal;
 use text_words::readers::{number, small};
 use trace_words::names::bare;
 use trace_words::words::tag;
 
-#[tactic(auto, unfolding(crate::specs::Reading::one_of))]
+#[tactic(auto, unfolding(crate::specs::inner::Reading::one_of))]
 fn with_one(name: &[u8], field: &[u8]) -> Option<Refusal>
     ensures read { result ≡ one_of name.now field.now }
     ensures fits { IfSome result FitsRefusal }
@@ -26,7 +26,7 @@ fn with_one(name: &[u8], field: &[u8]) -> Option<Refusal>
     }
 }
 
-#[tactic(auto, unfolding(crate::specs::Reading::two_of))]
+#[tactic(auto, unfolding(crate::specs::inner::Reading::two_of))]
 fn with_two(name: &[u8], first: &[u8], second: &[u8]) -> Option<Refusal>
     ensures read { result ≡ two_of name.now first.now second.now }
     ensures fits { IfSome result FitsRefusal }
@@ -44,7 +44,7 @@ fn with_two(name: &[u8], first: &[u8], second: &[u8]) -> Option<Refusal>
     }
 }
 
-#[tactic(auto, unfolding(crate::specs::Reading::three_of))]
+#[tactic(auto, unfolding(crate::specs::inner::Reading::three_of))]
 fn with_three(name: &[u8], enclave: &[u8], address: &[u8], flags: &[u8]) -> Option<Refusal>
     ensures read { result ≡ three_of name.now enclave.now address.now flags.now }
     ensures fits { IfSome result FitsRefusal }
@@ -60,7 +60,7 @@ fn with_three(name: &[u8], enclave: &[u8], address: &[u8], flags: &[u8]) -> Opti
 }
 
 /// A refusal's name and its fields.
-#[tactic(auto, using(crate::proofs::BareLaws::bare_fits), unfolding(crate::specs::Reading::refusal_of))]
+#[tactic(auto, using(crate::proofs::BareLaws::bare_fits), unfolding(crate::specs::inner::Reading::refusal_of))]
 pub(crate) fn refusal(words: &[&[u8]]) -> Option<Refusal>
     ensures read { result ≡ refusal_of (texts words.now) }
     ensures fits { IfSome result FitsRefusal }

@@ -6,7 +6,7 @@ use Rattle.std.proofs.lemmas.List.{take-append-le}
 use Rattle.std.proofs.Math.Seq.{take-append-add}
 use Rattle.io_edges.specs.Sinks.{followed_by, GivesPart}
 use Rattle.io_edges.proofs.Given.{followed_by-followed_by}
-use Rattle.trace_pieces.specs.Held.{IsHeld}
+use Rattle.trace_pieces.specs.inner.Held.{IsHeld}
 
 -- more of what is held was given
 pub held_then : (first then now : Option (List ℕ)) (before held text : List ℕ) → IsHeld first then before text

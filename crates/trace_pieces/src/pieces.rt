@@ -2,9 +2,9 @@
 
 ghost use Rattle.std.specs.Prelude.{◌≡◌, ◌+◌, ◌≤◌, ◌++◌, [], reverse, vec_capacity, vec_len, IsErr, IsErrOf, OnErr};
 ghost use Rattle.std.specs.Prelude.{OnOk};
-ghost use Rattle.io_edges.specs.Faults.{HasCause};
+ghost use Rattle.io_edges.specs.inner.Faults.{HasCause};
 ghost use Rattle.io_edges.specs.Sinks.{followed_by, GivesPart};
-ghost use Rattle.trace_pieces.specs.Held.{IsHeld};
+ghost use Rattle.trace_pieces.specs.inner.Held.{IsHeld};
 ghost use Rattle.trace_text.specs.TraceText.{entry_text, last_line, trace_of};
 
 use crate::ungiven::Ungiven;

@@ -3,7 +3,8 @@ use Rattle.std.proofs.Common.{◌≡◌, ℕ, zero, suc, ◌+◌, ◌<◌, ◌�
 use Rattle.std.proofs.Common.{eqb, List, [], ◌∷◌, ◌++◌, length, map, take, drop, decimal, refl, sym, ap, ◌∙◌, arith}
 use Rattle.std.proofs.Common.{append_assoc}
 use Rattle.std.specs.Fmt.{digits, digits_onto, digit_glyph}
-use Rattle.std.proofs.lemmas.List.{append-nil, append_cancel_left, length-append, take-append-le, take-append-drop, length-take, take_all}
+use Rattle.std.proofs.lemmas.List.{append-nil, append_cancel_left, length-append, take-append-le, take-append-drop, length-take}
+use Rattle.std.proofs.lemmas.List.{take_all}
 use Rattle.std.proofs.lemmas.List.Elements.{All-nil, All-cons, All-append, All-from_recursion}
 use Rattle.std.proofs.lemmas.Bool.Decides.{nat_tests}
 use Rattle.sgx_rules.specs.declared.entries.Entry.{Entry}
@@ -15,8 +16,9 @@ use Rattle.trace_reader.specs.declared.lines.Lines.{Lines}
 use Rattle.trace_reader.specs.declared.lines.Stage.{Stage}
 use Rattle.trace_reader.specs.declared.lines.Stage.TheVariants.{First, Entries, Ended}
 use Rattle.trace_reader.specs.Faults.{IsBegun, IsFirstFault, text_of, whole_lines}
-use Rattle.trace_reader.specs.Lines.{CannotFollow, HasNoFeed, IsKept, IsRefused, first_line, joined, last_line, lines_at, taken}
-use Rattle.trace_reader.specs.Lines.{trace_lines}
+use Rattle.trace_reader.specs.inner.Lines.{CannotFollow, HasNoFeed, IsKept, IsRefused, first_line, joined, last_line, lines_at}
+use Rattle.trace_reader.specs.inner.Lines.{taken}
+use Rattle.trace_reader.specs.inner.Lines.{trace_lines}
 use Rattle.trace_reader.proofs.TextLaws.{AreApart, text-joined, whole-all, whole-joined, whole-line, whole-part}
 use Rattle.trace_reader.proofs.FollowLaws.{not_whole, same_entries}
 

@@ -2,9 +2,10 @@
 use Rattle.std.proofs.Common.{◌≡◌, ℕ, ◌++◌, List, Option, Some, None, Ok, Err, length, refl, sym, ap, ◌∙◌, subst}
 use Rattle.std.proofs.lemmas.Option.{same_Some}
 use Rattle.trace_reader.specs.declared.refusals.TraceRefusal.TheVariants.{Fault, Memory}
-use Rattle.trace_reader.specs.Faults.{IsBegun, IsFirstFault, Progress, Reading, Faulted, whole_lines}
-use Rattle.trace_reader.specs.Kept.{progress_at}
-use Rattle.trace_reader.specs.Outcomes.{Feeds}
+use Rattle.trace_reader.specs.Faults.{IsBegun, IsFirstFault, whole_lines}
+use Rattle.trace_reader.specs.inner.Faults.{Progress, Reading, Faulted}
+use Rattle.trace_reader.specs.inner.Kept.{progress_at}
+use Rattle.trace_reader.specs.inner.Outcomes.{Feeds}
 
 pub feeds_ok : (before : Progress) (fault : Option ℕ) (fed piece grown : List ℕ) → progress_at fault fed ≡ before → fault ≡ None
     → fed ++ piece ≡ grown → IsBegun (fed ++ piece) (length (whole_lines (fed ++ piece)))

@@ -12,7 +12,7 @@ use Rattle.trace_text.specs.TraceText.{actor_word, event_words, spelling}
 use Rattle.trace_lines.proofs.LineReads.{same_entry}
 use Rattle.trace_reader.specs.declared.lines.Stage.{Stage}
 use Rattle.trace_reader.specs.declared.lines.Stage.TheVariants.{First, Entries, Ended}
-use Rattle.trace_reader.specs.Lines.{CannotFollow, first_line, last_line, lines_at, trace_lines}
+use Rattle.trace_reader.specs.inner.Lines.{CannotFollow, first_line, last_line, lines_at, trace_lines}
 
 -- ---- the last line is no entry's: it begins with another byte
 

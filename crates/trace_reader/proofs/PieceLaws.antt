@@ -8,10 +8,11 @@ use Rattle.trace_reader.specs.declared.refusals.TraceRefusal.TheVariants.{Fault,
 use Rattle.trace_reader.specs.declared.lines.Lines.{Lines}
 use Rattle.trace_reader.specs.declared.lines.Stage.{Stage}
 use Rattle.trace_reader.specs.declared.lines.Stage.TheVariants.{First, Entries, Ended}
-use Rattle.trace_reader.specs.Faults.{IsFirstFault, Progress, Reading, text_of}
-use Rattle.trace_reader.specs.Kept.{progress_at}
-use Rattle.trace_reader.specs.Lines.{CannotFollow, HasNoFeed, IsKept, IsRefused, IsTaken, is_last_stage, joined, taken}
-use Rattle.trace_reader.specs.Outcomes.{Feeds, Finishes, Tells}
+use Rattle.trace_reader.specs.Faults.{IsFirstFault, text_of}
+use Rattle.trace_reader.specs.inner.Faults.{Progress, Reading}
+use Rattle.trace_reader.specs.inner.Kept.{progress_at}
+use Rattle.trace_reader.specs.inner.Lines.{CannotFollow, HasNoFeed, IsKept, IsRefused, IsTaken, is_last_stage, joined, taken}
+use Rattle.trace_reader.specs.inner.Outcomes.{Feeds, Finishes, Tells}
 use Rattle.trace_reader.proofs.TextLaws.{one_line}
 use Rattle.trace_reader.proofs.FaultLaws.{end_fault, ended_text, part_fault, refused_fault}
 

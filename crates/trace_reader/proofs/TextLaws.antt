@@ -8,7 +8,7 @@ use Rattle.sgx_rules.specs.declared.entries.Entry.{Entry}
 use Rattle.text_words.proofs.Splits.{IsApart}
 use Rattle.trace_text.specs.TraceText.{entries_text, entry_text, spelling, trace_of}
 use Rattle.trace_reader.specs.Faults.{text_of, whole_lines}
-use Rattle.trace_reader.specs.Lines.{first_line, joined, last_line, trace_lines}
+use Rattle.trace_reader.specs.inner.Lines.{first_line, joined, last_line, trace_lines}
 
 -- no line has a line feed
 abbrev pub AreApart : List (List ℕ) → Type 0

@@ -29,8 +29,3 @@ pub record IsFirstFault (text : List ℕ) (line : ℕ) : Type 0 where
   pub no_trace : (entries : List Entry) → AreReadable entries → text ≡ text_of entries → ⊥
   pub before : (n : ℕ) → n < line → IsBegun text n
   pub none : IsBegun text line → ⊥
-
--- what a reader was fed so far, of which each whole line was one of a trace, or the line of its fault
-pub data Progress : Type 0 where
-  Reading : (fed : List ℕ) → Progress
-  Faulted : (line : ℕ) → Progress

@@ -1,4 +1,2 @@
 pub mod Faults
-pub mod Kept
-pub mod Lines
-pub mod Outcomes
+pub mod inner

@@ -1,7 +1,8 @@
 //! The lines of a trace, taken one after another.
 
 ghost use Rattle.std.specs.Prelude.{◌≡◌, ◌++◌, [], ◌∷◌, false, length, take, IfOk, MatchBool, MatchOption};
-ghost use Rattle.trace_reader.specs.Lines.{CannotFollow, HasNoFeed, IsKept, IsRefused, IsTaken, is_last_stage, joined, last_line, taken};
+ghost use Rattle.trace_reader.specs.inner.Lines.{CannotFollow, HasNoFeed, IsKept, IsRefused, IsTaken, is_last_stage, joined};
+ghost use Rattle.trace_reader.specs.inner.Lines.{last_line, taken};
 ghost use Rattle.trace_reader.specs.Faults.{IsFirstFault, text_of};
 
 use sgx_rules::entries::Entry;

@@ -3,10 +3,11 @@
 ghost use Rattle.std.specs.Prelude.{◌≡◌, ℕ, List, ◌++◌, ◌∷◌, [], length, take, IfOk, MatchBool, MatchOption, OnErr};
 ghost use Rattle.std.specs.Result.{result_map_both};
 ghost use Rattle.sgx_rules.specs.declared.entries.Entry.{Entry};
-ghost use Rattle.trace_reader.specs.Faults.{IsFirstFault, Reading, text_of};
-ghost use Rattle.trace_reader.specs.Lines.{CannotFollow, HasNoFeed, IsKept, IsRefused, IsTaken, joined, taken};
+ghost use Rattle.trace_reader.specs.Faults.{IsFirstFault, text_of};
+ghost use Rattle.trace_reader.specs.inner.Faults.{Reading};
+ghost use Rattle.trace_reader.specs.inner.Lines.{CannotFollow, HasNoFeed, IsKept, IsRefused, IsTaken, joined, taken};
 ghost use Rattle.trace_text.specs.Readable.{AreReadable};
-ghost use Rattle.trace_reader.specs.Outcomes.{Feeds, Finishes, Tells};
+ghost use Rattle.trace_reader.specs.inner.Outcomes.{Feeds, Finishes, Tells};
 
 use crate::lines::{Lines, cut_line};
 use crate::refusals::TraceRefusal;
@@ -25,11 +26,11 @@ pub struct TraceReader {
 }
 
 impl Model for TraceReader {
-    ghost use Rattle.trace_reader.specs.Faults.{Progress};
+    ghost use Rattle.trace_reader.specs.inner.Faults.{Progress};
 
     ghost Value = { Progress };
 
-    ghost use Rattle.trace_reader.specs.Kept.{IsWhole, progress_of};
+    ghost use Rattle.trace_reader.specs.inner.Kept.{IsWhole, progress_of};
 
     ghost view = { progress_of };
 

@@ -2,8 +2,9 @@
 
 ghost use Rattle.std.specs.Prelude.{◌≡◌, ◌+◌, [], ◌∷◌, length};
 ghost use Rattle.std.specs.Fmt.{decimal};
-ghost use Rattle.text_words.specs.Room.{HasRoom, UsesRoom};
-ghost use Rattle.text_words.specs.Words.{enclave_word, hexadecimal, with_words};
+ghost use Rattle.text_words.specs.inner.Room.{HasRoom, UsesRoom};
+ghost use Rattle.text_words.specs.Words.{enclave_word, hexadecimal};
+ghost use Rattle.text_words.specs.inner.Words.{with_words};
 ghost use Rattle.trace_text.specs.TraceText.{action_words, init_words};
 
 use crate::names::{access_name, cause_name, kind_name, perms_name};

@@ -1,10 +1,11 @@
 //! The text of a trace.
 
 ghost use Rattle.std.specs.Prelude.{◌≡◌, ◌++◌, drop, reverse, IfOk};
-ghost use Rattle.trace_text.specs.TraceText.{actor_word, answer_words, entry_text, event_words, first_line, last_line, refusal_words};
+ghost use Rattle.trace_text.specs.TraceText.{actor_word, answer_words, entry_text, event_words, first_line, last_line};
+ghost use Rattle.trace_text.specs.TraceText.{refusal_words};
 ghost use Rattle.trace_text.specs.TraceText.{spelling, trace_of};
-ghost use Rattle.text_words.specs.Room.{HasRoom, UsesRoom};
-ghost use Rattle.text_words.specs.Words.{with_words};
+ghost use Rattle.text_words.specs.inner.Room.{HasRoom, UsesRoom};
+ghost use Rattle.text_words.specs.inner.Words.{with_words};
 
 use crate::actions::write_action;
 use crate::names::{fault_name, look_name, refusal_name, stop_name};

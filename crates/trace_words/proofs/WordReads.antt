@@ -33,11 +33,12 @@ use Rattle.text_words.proofs.Numerals.{number_of-decimal}
 use Rattle.text_words.proofs.Splits.{is_word}
 use Rattle.text_words.proofs.WordLaws.{decimal-is_word, digest-is_word, digest_of-encode_lower, letter-is_word, letter_of-letter}
 use Rattle.text_words.proofs.WordLaws.{small_of-decimal}
-use Rattle.trace_text.specs.TraceText.{access_word, actor_word, cause_word, expect_word, fault_word, kind_word, look_word, perms_word}
+use Rattle.trace_text.specs.TraceText.{access_word, actor_word, cause_word, expect_word, fault_word, kind_word, look_word}
+use Rattle.trace_text.specs.TraceText.{perms_word}
 use Rattle.trace_text.specs.TraceText.{stop_word}
 use Rattle.trace_text.specs.Readable.{FitsActor, FitsExpect}
-use Rattle.trace_words.specs.Names.{access_of, cause_of, fault_of, kind_of, look_of, perm_of, stop_of}
-use Rattle.trace_words.specs.Reading.{actor_of, byte_of, cpu_of, enclave_of, expect_of, frame_of, short_of}
+use Rattle.trace_words.specs.inner.Names.{access_of, cause_of, fault_of, kind_of, look_of, perm_of, stop_of}
+use Rattle.trace_words.specs.inner.Reading.{actor_of, byte_of, cpu_of, enclave_of, expect_of, frame_of, short_of}
 
 -- ---- read again
 

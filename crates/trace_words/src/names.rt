@@ -1,7 +1,8 @@
 //! Names that are read.
 
 ghost use Rattle.std.specs.Prelude.{◌≡◌};
-ghost use Rattle.trace_words.specs.Names.{access_of, bare_of, cause_of, fault_of, kind_of, look_of, perm_of, row_of, stop_of};
+ghost use Rattle.trace_words.specs.inner.Names.{access_of, bare_of, cause_of, fault_of, kind_of, look_of, perm_of, row_of};
+ghost use Rattle.trace_words.specs.inner.Names.{stop_of};
 
 use sgx_rules::entries::{AccessOp, BusWhy, Cause, Look, PfWhy};
 use sgx_rules::refusals::Refusal;
@@ -36,7 +37,7 @@ pub enum Row {
     Eld,
 }
 
-#[tactic(auto, unfolding(crate::specs::Names::row_of))]
+#[tactic(auto, unfolding(crate::specs::inner::Names::row_of))]
 pub fn instruction(word: &[u8]) -> Option<Row>
     ensures { result ≡ row_of word.now }
 {
@@ -69,7 +70,7 @@ pub fn instruction(word: &[u8]) -> Option<Row>
     }
 }
 
-#[tactic(auto, unfolding(crate::specs::Names::kind_of))]
+#[tactic(auto, unfolding(crate::specs::inner::Names::kind_of))]
 pub fn kind(word: &[u8]) -> Option<Kind>
     ensures { result ≡ kind_of word.now }
 {
@@ -82,7 +83,7 @@ pub fn kind(word: &[u8]) -> Option<Kind>
     }
 }
 
-#[tactic(auto, unfolding(crate::specs::Names::perm_of))]
+#[tactic(auto, unfolding(crate::specs::inner::Names::perm_of))]
 pub fn perm(word: &[u8]) -> Option<Perm>
     ensures { result ≡ perm_of word.now }
 {
@@ -100,7 +101,7 @@ pub fn perm(word: &[u8]) -> Option<Perm>
     Some(Perm { r, w, x })
 }
 
-#[tactic(auto, unfolding(crate::specs::Names::cause_of))]
+#[tactic(auto, unfolding(crate::specs::inner::Names::cause_of))]
 pub fn cause(word: &[u8]) -> Option<Cause>
     ensures { result ≡ cause_of word.now }
 {
@@ -113,7 +114,7 @@ pub fn cause(word: &[u8]) -> Option<Cause>
     }
 }
 
-#[tactic(auto, unfolding(crate::specs::Names::access_of))]
+#[tactic(auto, unfolding(crate::specs::inner::Names::access_of))]
 pub fn access(word: &[u8]) -> Option<AccessOp>
     ensures { result ≡ access_of word.now }
 {
@@ -125,7 +126,7 @@ pub fn access(word: &[u8]) -> Option<AccessOp>
     }
 }
 
-#[tactic(auto, unfolding(crate::specs::Names::fault_of))]
+#[tactic(auto, unfolding(crate::specs::inner::Names::fault_of))]
 pub fn fault(word: &[u8]) -> Option<PfWhy>
     ensures { result ≡ fault_of word.now }
 {
@@ -137,7 +138,7 @@ pub fn fault(word: &[u8]) -> Option<PfWhy>
     }
 }
 
-#[tactic(auto, unfolding(crate::specs::Names::look_of))]
+#[tactic(auto, unfolding(crate::specs::inner::Names::look_of))]
 pub fn look(word: &[u8]) -> Option<Look>
     ensures { result ≡ look_of word.now }
 {
@@ -150,7 +151,7 @@ pub fn look(word: &[u8]) -> Option<Look>
     }
 }
 
-#[tactic(auto, unfolding(crate::specs::Names::stop_of))]
+#[tactic(auto, unfolding(crate::specs::inner::Names::stop_of))]
 pub fn stop(word: &[u8]) -> Option<BusWhy>
     ensures { result ≡ stop_of word.now }
 {
@@ -165,7 +166,7 @@ pub fn stop(word: &[u8]) -> Option<BusWhy>
 }
 
 /// A refusal that has no fields.
-#[tactic(auto, unfolding(crate::specs::Names::bare_of))]
+#[tactic(auto, unfolding(crate::specs::inner::Names::bare_of))]
 pub fn bare(word: &[u8]) -> Option<Refusal>
     ensures { result ≡ bare_of word.now }
 {

@@ -4,13 +4,13 @@ ghost use Rattle.std.specs.Prelude.{◌≡◌, IfSome};
 ghost use Rattle.sgx_types.specs.Digests.{IsDigest};
 ghost use Rattle.text_words.specs.Reading.{digest_of};
 ghost use Rattle.trace_text.specs.Readable.{FitsActor, FitsExpect};
-ghost use Rattle.trace_words.specs.Reading.{actor_of, byte_of, cpu_of, enclave_of, expect_of, frame_of, short_of};
+ghost use Rattle.trace_words.specs.inner.Reading.{actor_of, byte_of, cpu_of, enclave_of, expect_of, frame_of, short_of};
 
 use sgx_types::names::{Actor, Cpu, Frame};
 use text_words::readers::{digest, letter, number, small};
 
 /// A number below 2^16.
-#[tactic(auto, unfolding(crate::specs::Reading::short_of))]
+#[tactic(auto, unfolding(crate::specs::inner::Reading::short_of))]
 pub fn short(word: &[u8]) -> Option<u16>
     ensures { result ≡ short_of word.now }
 {
@@ -18,7 +18,7 @@ pub fn short(word: &[u8]) -> Option<u16>
 }
 
 /// A number below 2^8.
-#[tactic(auto, unfolding(crate::specs::Reading::byte_of))]
+#[tactic(auto, unfolding(crate::specs::inner::Reading::byte_of))]
 pub fn byte(word: &[u8]) -> Option<u8>
     ensures { result ≡ byte_of word.now }
 {
@@ -26,7 +26,7 @@ pub fn byte(word: &[u8]) -> Option<u8>
 }
 
 /// An enclave by its letter, or by its digits.
-#[tactic(auto, unfolding(crate::specs::Reading::enclave_of))]
+#[tactic(auto, unfolding(crate::specs::inner::Reading::enclave_of))]
 pub fn enclave(word: &[u8]) -> Option<u16>
     ensures { result ≡ enclave_of word.now }
 {
@@ -36,7 +36,7 @@ pub fn enclave(word: &[u8]) -> Option<u16>
     }
 }
 
-#[tactic(auto, unfolding(crate::specs::Reading::frame_of))]
+#[tactic(auto, unfolding(crate::specs::inner::Reading::frame_of))]
 pub fn frame(word: &[u8]) -> Option<Frame>
     ensures { result ≡ frame_of word.now }
 {
@@ -44,7 +44,7 @@ pub fn frame(word: &[u8]) -> Option<Frame>
 }
 
 /// A processor from 0 to 15.
-#[tactic(auto, unfolding(crate::specs::Reading::cpu_of))]
+#[tactic(auto, unfolding(crate::specs::inner::Reading::cpu_of))]
 pub fn cpu(word: &[u8]) -> Option<Cpu>
     ensures read { result ≡ cpu_of word.now }
     ensures fits { IfSome result (λ cpu. FitsActor (Actor.Cpu cpu)) }
@@ -57,7 +57,7 @@ pub fn cpu(word: &[u8]) -> Option<Cpu>
     }
 }
 
-#[tactic(auto, unfolding(crate::specs::Reading::actor_of))]
+#[tactic(auto, unfolding(crate::specs::inner::Reading::actor_of))]
 pub fn actor(word: &[u8]) -> Option<Actor>
     ensures read { result ≡ actor_of word.now }
     ensures fits { IfSome result FitsActor }
@@ -82,7 +82,7 @@ pub fn tag(word: &[u8]) -> Option<[u8; 32]>
 }
 
 /// A digest that is expected, or a dash.
-#[tactic(auto, unfolding(crate::specs::Reading::expect_of))]
+#[tactic(auto, unfolding(crate::specs::inner::Reading::expect_of))]
 pub fn expect(word: &[u8]) -> Option<Option<[u8; 32]>>
     ensures read { result ≡ expect_of word.now }
     ensures fits { IfSome result FitsExpect }

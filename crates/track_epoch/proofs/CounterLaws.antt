@@ -5,8 +5,8 @@ use Rattle.std.specs.Prelude.{Contains}
 use Rattle.std.proofs.lemmas.Bool.{eq-eqb, ne_eqb}
 use Rattle.std.proofs.lemmas.List.{length-replicate, get_or-replicate}
 use Rattle.std.proofs.lemmas.List.Elements.{Contains-append_cases}
-use Rattle.track_epoch.specs.Counters.{noted_by}
-use Rattle.track_epoch.specs.Tracking.{without}
+use Rattle.track_epoch.specs.inner.Counters.{noted_by}
+use Rattle.track_epoch.specs.inner.Tracking.{without}
 
 -- what is in a list of n times y
 contains_replicate : (n y x : ℕ) → Contains (replicate n y) x → (x ≡ y) × (0 < n)

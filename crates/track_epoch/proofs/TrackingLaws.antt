@@ -9,9 +9,10 @@ use Rattle.std.proofs.lemmas.List.Elements.{All-nil, All-cons, All-head, All-tai
 use Rattle.std.proofs.lemmas.List.Sums.{sum_by_push, sum_by-cons}
 use Rattle.std.proofs.lemmas.List.Sorted.{IsNonDecreasingBy-push}
 use Rattle.sgx_types.specs.declared.names.TheConstants.{LAST_EPOCH, PROCESSORS}
-use Rattle.track_epoch.specs.Counters.{noted_by}
-use Rattle.track_epoch.specs.Tracking.{Tracking, starting_at, entered, without, left, tracked, number_older, number_newer, number_up_to}
-use Rattle.track_epoch.specs.Tracking.{IsDrained, IsRecent, IsTracking}
+use Rattle.track_epoch.specs.inner.Counters.{noted_by}
+use Rattle.track_epoch.specs.inner.Tracking.{Tracking, starting_at, entered, without, left, tracked, number_older, number_newer}
+use Rattle.track_epoch.specs.inner.Tracking.{number_up_to}
+use Rattle.track_epoch.specs.inner.Tracking.{IsDrained, IsRecent, IsTracking}
 
 -- ---- lists with one element fewer
 

@@ -3,8 +3,8 @@ use Rattle.std.proofs.Common.{◌≡◌, ◌≢◌, ℕ, ◌-◌, ◌<◌, ◌�
 use Rattle.std.proofs.Common.{length, set, length-set, refl, ap, ◌⊎◌, inl, inr, arith}
 use Rattle.std.specs.Prelude.{slice_get}
 use Rattle.std.proofs.lemmas.Bool.{eq-eqb, ne_eqb, cases_eq}
-use Rattle.track_epoch.specs.Tracking.{Tracking}
-use Rattle.track_epoch.specs.Tracks.{track_of, with_track}
+use Rattle.track_epoch.specs.inner.Tracking.{Tracking}
+use Rattle.track_epoch.specs.inner.Tracks.{track_of, with_track}
 
 slice_get-set_same : (tracks : List Tracking) (i : ℕ) (t : Tracking) → i < length tracks → slice_get (set tracks i t) i ≡ Some t
 slice_get-set_same [] i t low = absurd (omega arith)

@@ -1,3 +1,1 @@
-pub mod Tracking
-pub mod Counters
-pub mod Tracks
+pub mod inner

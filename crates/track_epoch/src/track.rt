@@ -3,8 +3,9 @@
 ghost use Rattle.std.specs.Prelude.{◌≡◌, ◌==◌, ◌&&◌, ◌+◌, ◌<◌, ◌≤◌, ◌↔◌, if◌then◌else◌, IsTrue};
 ghost use Rattle.std.specs.Prelude.{OnOk, OnErr, Contains, length, nat_lt};
 ghost use Rattle.std.specs.Prelude.{nat_le};
-ghost use Rattle.track_epoch.specs.Tracking.{starting_at, entered, left, tracked, track_answer, number_older, number_newer, number_up_to};
-ghost use Rattle.track_epoch.specs.Tracking.{IsDrained, IsTracking};
+ghost use Rattle.track_epoch.specs.inner.Tracking.{starting_at, entered, left, tracked, track_answer, number_older, number_newer};
+ghost use Rattle.track_epoch.specs.inner.Tracking.{number_up_to};
+ghost use Rattle.track_epoch.specs.inner.Tracking.{IsDrained, IsTracking};
 
 use sgx_rules::refusals::Refusal;
 use sgx_types::names::{LAST_EPOCH, PROCESSORS};
@@ -22,11 +23,11 @@ pub struct Track {
 }
 
 impl Model for Track {
-    ghost use Rattle.track_epoch.specs.Tracking.{Tracking};
+    ghost use Rattle.track_epoch.specs.inner.Tracking.{Tracking};
 
     ghost Value = { Tracking };
 
-    ghost use Rattle.track_epoch.specs.Counters.{tracking_of, IsCounters};
+    ghost use Rattle.track_epoch.specs.inner.Counters.{tracking_of, IsCounters};
 
     ghost view = { tracking_of };
 

@@ -2,8 +2,8 @@
 
 ghost use Rattle.std.specs.Prelude.{◌≡◌, ◌≤◌, length, replicate, Some};
 ghost use Rattle.std.specs.Borrow.{sem};
-ghost use Rattle.track_epoch.specs.Tracking.{starting_at};
-ghost use Rattle.track_epoch.specs.Tracks.{track_of, LendsTrack};
+ghost use Rattle.track_epoch.specs.inner.Tracking.{starting_at};
+ghost use Rattle.track_epoch.specs.inner.Tracks.{track_of, LendsTrack};
 
 use crate::track::Track;
 use sgx_types::names::LAST_EPOCH;
@@ -20,7 +20,7 @@ pub struct Tracks {
 
 impl Model for Tracks {
     ghost use Rattle.std.specs.Prelude.{List};
-    ghost use Rattle.track_epoch.specs.Tracking.{Tracking};
+    ghost use Rattle.track_epoch.specs.inner.Tracking.{Tracking};
 
     ghost Value = { List Tracking };
 

@@ -12,15 +12,16 @@ use Rattle.sgx_types.specs.declared.names.Perm.{Perm}
 use Rattle.job_grammar.specs.declared.jobs.EnclaveJob.{EnclaveJob}
 use Rattle.job_grammar.specs.declared.jobs.PageLine.{PageLine}
 use Rattle.job_grammar.specs.declared.jobs.PageLine.TheVariants as lines
-use Rattle.job_grammar.specs.Jobs.{EnclaveView, JobView, enclave_view, first_page, page_count}
-use Rattle.job_grammar.specs.Valid.{IsValidEnclave, IsValidLine}
+use Rattle.job_grammar.specs.Jobs.{EnclaveView, JobView, first_page, page_count}
+use Rattle.job_grammar.specs.inner.Jobs.{enclave_view}
+use Rattle.job_grammar.specs.inner.Valid.{IsValidEnclave, IsValidLine}
 use Rattle.job_grammar.proofs.EnclaveLaws.{lawful-size}
 use Rattle.turn_rules.specs.declared.steps.BuildStep.{BuildStep}
 use Rattle.turn_rules.specs.declared.steps.BuildStep.TheVariants as builds
 use Rattle.turn_rules.specs.Script.{chunk_steps, enclaves_steps, line_steps, numbers_from, page_steps}
 use Rattle.turn_rules.specs.declared.cursor.BuildCursor.{BuildCursor}
 use Rattle.turn_rules.specs.declared.cursor.PageRun.{PageRun}
-use Rattle.turn_rules.specs.Cursor.{left, run_left}
+use Rattle.turn_rules.specs.inner.Cursor.{left, run_left}
 
 -- ---- the pages of a line
 

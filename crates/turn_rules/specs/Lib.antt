@@ -1,3 +1,3 @@
 pub mod Script
-pub mod Cursor
 pub mod Machines
+pub mod inner

@@ -4,7 +4,7 @@ ghost use Rattle.std.specs.Prelude.{ℕ, ◌≡◌, ◌+◌, ◌≤◌, true, fa
 ghost use Rattle.std.specs.Prelude.{length};
 ghost use Rattle.job_grammar.specs.Jobs.{first_page, page_count};
 ghost use Rattle.turn_rules.specs.Script.{build_of, line_steps};
-ghost use Rattle.turn_rules.specs.Cursor.{IsCursor, IsRun, left, run_left};
+ghost use Rattle.turn_rules.specs.inner.Cursor.{IsCursor, IsRun, left, run_left};
 
 use crate::steps::BuildStep;
 use job_grammar::jobs::{Job, PageLine};

@@ -18,20 +18,21 @@ use Rattle.sgx_rules.specs.Processors.{Seat, Stay, holds_number, stay, translati
 use Rattle.sgx_rules.specs.Table.{is_lawful_access}
 use Rattle.cached_translations.specs.declared.processor.Mode.{Mode}
 use Rattle.cached_translations.specs.declared.processor.Mode.TheVariants.{Inside, Outside}
-use Rattle.cached_translations.specs.Modes.{is_inside}
+use Rattle.cached_translations.specs.inner.Modes.{is_inside}
 use Rattle.job_grammar.specs.declared.jobs.Op.{Op}
 use Rattle.job_grammar.specs.declared.jobs.Op.TheVariants as ops
 use Rattle.job_grammar.specs.declared.jobs.PageLine.{PageLine}
 use Rattle.job_grammar.specs.declared.jobs.PageLine.TheVariants as lines
 use Rattle.job_grammar.specs.Jobs.{JobView, lines_at, tcs_line}
-use Rattle.job_grammar.specs.Valid.{IsValid, IsValidOp}
+use Rattle.job_grammar.specs.inner.Valid.{IsValid, IsValidOp}
 use Rattle.turn_rules.specs.declared.steps.BuildStep.{BuildStep}
 use Rattle.turn_rules.specs.declared.steps.BuildStep.TheVariants as builds
-use Rattle.turn_rules.specs.Cursor.{left}
-use Rattle.turn_rules.specs.Script.{build_of, built, enter_with, frame_at, is_turned_away, resume_with, saved, script_of, step_due}
+use Rattle.turn_rules.specs.inner.Cursor.{left}
+use Rattle.turn_rules.specs.Script.{build_of, built, enter_with, frame_at, is_turned_away, resume_with, saved, script_of}
+use Rattle.turn_rules.specs.Script.{step_due}
 use Rattle.turn_rules.specs.Script.{with_frame as frame_step}
-use Rattle.paging_laws.specs.Columns.{seat_of_stay}
-use Rattle.paging_machine.specs.Parts.{Parts, seat_of_mode, state_of}
+use Rattle.paging_laws.specs.inner.Columns.{seat_of_stay}
+use Rattle.paging_machine.specs.inner.Parts.{Parts, seat_of_mode, state_of}
 use Rattle.driver_rules.specs.declared.waits.Why.TheVariants as waits
 use Rattle.driver_rules.specs.Dues.{Due, Makes, Stopped, makes_or}
 use Rattle.driver_rules.specs.Needs.{access_page, interruption, last_save, listed, needs_after, needs_to_resume, next_op}
@@ -39,10 +40,11 @@ use Rattle.driver_rules.specs.Needs.{next_save, save_to_enter, save_to_resume}
 use Rattle.driver_rules.specs.Places.{frame_here, place}
 use Rattle.driver_rules.specs.Stops.{is_spent}
 use Rattle.driver_rules.specs.Turns.{accesses_by, accesses_inside, builder_due, cpu_due, due_after, early_turn, enters, fills}
-use Rattle.driver_rules.specs.Turns.{first_away, inside_turn, is_kicked, is_last, last_of, op_turn, outside_turn, resumes, save_frame}
+use Rattle.driver_rules.specs.Turns.{first_away, inside_turn, is_kicked, is_last, last_of, op_turn, outside_turn, resumes}
+use Rattle.driver_rules.specs.Turns.{save_frame}
 use Rattle.driver_rules.specs.Turns.{stay_turn, step_turn, turn_due, with_pages}
 use Rattle.driver_tables.specs.declared.driver.Driver.{Driver}
-use Rattle.driver_steps.specs.Agrees.{Agrees}
+use Rattle.driver_steps.specs.inner.Agrees.{Agrees}
 use Rattle.turn_tables.specs.declared.cpu_turns.CpuTurn.{CpuTurn}
 use Rattle.turn_tables.specs.declared.cpu_turns.Interruption as kept
 use Rattle.turn_tables.specs.declared.cpu_turns.Last as lasts
@@ -52,14 +54,17 @@ use Rattle.turn_tables.specs.declared.dues.CpuDue.TheVariants as dues
 use Rattle.turn_tables.specs.declared.steps.CpuStep.{CpuStep}
 use Rattle.turn_tables.specs.declared.steps.CpuStep.TheVariants as steps
 use Rattle.turn_tables.specs.declared.turns.Turns.{Turns}
-use Rattle.turn_tables.specs.Asked.{Looks, access_by, access_in, access_page as access_told, after_by, after_last, builder_by, built_by}
-use Rattle.turn_tables.specs.Asked.{cpu_by, early_by, enters_by, fill_by, inside_by, is_last_by, last_save_of, looks_at, next_save_of}
-use Rattle.turn_tables.specs.Asked.{next_step, op_at, op_by, outside_by, page_of, resumes_by, standing_seen, step_by, turn_by, turned_away}
-use Rattle.turn_tables.specs.Asked.{with_access, with_frame}
-use Rattle.turn_tables.specs.CpuTurns.{interruption_told, last_told, turn_at}
-use Rattle.turn_tables.specs.Due.{IsOrderly, IsWithin, building_in, due_in, made_by}
-use Rattle.turn_tables.specs.Shown.{ShowsCpu, ShowsTurns, last_actor}
-use Rattle.turn_tables.specs.TcsTurns.{tcs_by}
+use Rattle.turn_tables.specs.inner.Asked.{Looks, access_by, access_in, access_page as access_told, after_by, after_last}
+use Rattle.turn_tables.specs.inner.Asked.{builder_by, built_by}
+use Rattle.turn_tables.specs.inner.Asked.{cpu_by, early_by, enters_by, fill_by, inside_by, is_last_by, last_save_of, looks_at}
+use Rattle.turn_tables.specs.inner.Asked.{next_save_of}
+use Rattle.turn_tables.specs.inner.Asked.{next_step, op_at, op_by, outside_by, page_of, resumes_by, standing_seen, step_by}
+use Rattle.turn_tables.specs.inner.Asked.{turn_by, turned_away}
+use Rattle.turn_tables.specs.inner.Asked.{with_access, with_frame}
+use Rattle.turn_tables.specs.inner.CpuTurns.{interruption_told, last_told, turn_at}
+use Rattle.turn_tables.specs.inner.Due.{IsOrderly, IsWithin, building_in, due_in, made_by}
+use Rattle.turn_tables.specs.inner.Shown.{ShowsCpu, ShowsTurns, last_actor}
+use Rattle.turn_tables.specs.inner.TcsTurns.{tcs_by}
 use Rattle.turn_tables.proofs.FrameLaws.{access_due, frames_due, number_of}
 use Rattle.turn_tables.proofs.LineLaws.{IsTcsLine, few_numbers, op_valid, saved_within, tcs_line_is}
 use Rattle.turn_tables.proofs.LookLaws.{IsSeen, free_is, looks_are, standing_is}

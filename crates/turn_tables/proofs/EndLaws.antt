@@ -31,23 +31,28 @@ use Rattle.job_grammar.specs.declared.jobs.Op.{Op}
 use Rattle.job_grammar.specs.declared.jobs.Op.TheVariants as ops
 use Rattle.job_grammar.specs.Jobs.{JobView}
 use Rattle.turn_rules.specs.declared.steps.BuildStep.{BuildStep}
-use Rattle.turn_rules.specs.Script.{action_of, build_of, built, enter_with, frame_at, is_interrupted, is_reply, is_turned_away, replied}
+use Rattle.turn_rules.specs.Script.{action_of, build_of, built, enter_with, frame_at, is_interrupted, is_reply, is_turned_away}
+use Rattle.turn_rules.specs.Script.{replied}
 use Rattle.turn_rules.specs.Script.{resume_with, script_of, step_due}
 use Rattle.driver_rules.specs.declared.waits.Why.{Why}
 use Rattle.driver_rules.specs.declared.waits.Why.TheVariants as waits
 use Rattle.driver_rules.specs.Dues.{Due, Finished, IsNext, Makes, Stopped, makes_or}
-use Rattle.driver_rules.specs.Needs.{Interruption, interruption, needs_after, needs_to_enter, needs_to_resume, next_op, save_to_enter}
+use Rattle.driver_rules.specs.Needs.{Interruption, interruption, needs_after, needs_to_enter, needs_to_resume, next_op}
+use Rattle.driver_rules.specs.Needs.{save_to_enter}
 use Rattle.driver_rules.specs.Needs.{save_to_resume}
 use Rattle.driver_rules.specs.Places.{Absent, Away, Here, Leaving, Loading, Place, frame_here, place}
 use Rattle.driver_rules.specs.Scripts.{IsActors, IsDone, IsEnded, ScriptRule}
 use Rattle.driver_rules.specs.Stops.{has_bus, is_bus, is_spent}
-use Rattle.driver_rules.specs.Turns.{Fails, Last, Loads, Other, WasEnded, accesses_by, builder_due, cpu_due, due_after, early_turn, enters}
-use Rattle.driver_rules.specs.Turns.{fails_with, fetches, fills, first_away, inside_turn, is_built, is_kicked, is_last, last_by, last_of}
-use Rattle.driver_rules.specs.Turns.{load_of, op_turn, outside_turn, resumes, save_frame, stay_turn, step_turn, turn_due, with_pages}
-use Rattle.driver_laws.specs.Loads.{EndsOwn}
+use Rattle.driver_rules.specs.Turns.{Fails, Last, Loads, Other, WasEnded, accesses_by, builder_due, cpu_due, due_after}
+use Rattle.driver_rules.specs.Turns.{early_turn, enters}
+use Rattle.driver_rules.specs.Turns.{fails_with, fetches, fills, first_away, inside_turn, is_built, is_kicked, is_last, last_by}
+use Rattle.driver_rules.specs.Turns.{last_of}
+use Rattle.driver_rules.specs.Turns.{load_of, op_turn, outside_turn, resumes, save_frame, stay_turn, step_turn, turn_due}
+use Rattle.driver_rules.specs.Turns.{with_pages}
+use Rattle.driver_laws.specs.inner.Loads.{EndsOwn}
 use Rattle.driver_laws.proofs.EndLaws.{their_rule}
 use Rattle.driver_laws.proofs.SoundLaws.{entry_of}
-use Rattle.turn_tables.specs.Ending.{EndsAreTold, IsForRecord, NoneFails}
+use Rattle.turn_tables.specs.inner.Ending.{EndsAreTold, IsForRecord, NoneFails}
 
 -- ---- what is never finished
 

@@ -13,17 +13,17 @@ use Rattle.turn_rules.specs.declared.steps.BuildStep.{BuildStep}
 use Rattle.turn_rules.specs.declared.steps.BuildStep.TheVariants as builds
 use Rattle.turn_rules.specs.Script.{enclaves_steps, is_reply_of, leaves_by, replied, saved}
 use Rattle.driver_rules.specs.Holds.{page_extended}
-use Rattle.driver_laws.specs.Sound.{times}
+use Rattle.driver_laws.specs.inner.Sound.{times}
 use Rattle.driver_tables.proofs.FirstLaws.{all_same}
 use Rattle.driver_tables.proofs.HeldLaws.{holds_begin}
 use Rattle.turn_tables.specs.declared.cpu_turns.CpuTurn.{CpuTurn}
 use Rattle.turn_tables.specs.declared.tcs_turns.TcsTurn.{TcsTurn}
 use Rattle.turn_tables.specs.declared.turns.Turns.{Turns}
-use Rattle.turn_tables.specs.CpuTurns.{first_turn, turn_at}
-use Rattle.turn_tables.specs.Holding.{KeepsHolds}
-use Rattle.turn_tables.specs.Noting.{AreFew}
-use Rattle.turn_tables.specs.Shown.{ShowsTurns}
-use Rattle.turn_tables.specs.TcsTurns.{tcs_by}
+use Rattle.turn_tables.specs.inner.CpuTurns.{first_turn, turn_at}
+use Rattle.turn_tables.specs.inner.Holding.{KeepsHolds}
+use Rattle.turn_tables.specs.inner.Noting.{AreFew}
+use Rattle.turn_tables.specs.inner.Shown.{ShowsTurns}
+use Rattle.turn_tables.specs.inner.TcsTurns.{tcs_by}
 use Rattle.turn_tables.proofs.OrderLaws.{saved_step}
 
 -- ---- holds

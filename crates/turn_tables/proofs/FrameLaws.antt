@@ -11,8 +11,8 @@ use Rattle.driver_rules.specs.Needs.{listed}
 use Rattle.driver_rules.specs.Places.{Absent, Away, Here, Leaving, Loading, Place, frame_here, is_here, place}
 use Rattle.driver_rules.specs.Turns.{first_away, save_frame, with_pages}
 use Rattle.turn_tables.specs.declared.dues.CpuDue.{CpuDue}
-use Rattle.turn_tables.specs.Asked.{if_here, with_access, with_frames, with_tcs}
-use Rattle.turn_tables.specs.Due.{due_in}
+use Rattle.turn_tables.specs.inner.Asked.{if_here, with_access, with_frames, with_tcs}
+use Rattle.turn_tables.specs.inner.Due.{due_in}
 
 abbrev pub number_of : Option Frame → Option ℕ
 number_of o = option_map (λ f. f.0) o

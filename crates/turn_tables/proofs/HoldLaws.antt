@@ -26,21 +26,21 @@ use Rattle.cached_translations.specs.declared.processor.Mode.TheVariants.{Inside
 use Rattle.job_grammar.specs.declared.jobs.Op.{Op}
 use Rattle.job_grammar.specs.declared.jobs.Op.TheVariants as ops
 use Rattle.job_grammar.specs.Jobs.{JobView}
-use Rattle.job_grammar.specs.Valid.{IsValid, IsValidOp}
+use Rattle.job_grammar.specs.inner.Valid.{IsValid, IsValidOp}
 use Rattle.turn_rules.specs.Script.{action_of, build_of, built, is_interrupted, is_reply, script_of}
-use Rattle.active_list.specs.Active.{ActiveList, without_holds}
-use Rattle.active_list.specs.Holds.{holds_page, joined, most_of, own_of}
-use Rattle.active_list.specs.Places.{IsPlaced}
-use Rattle.paging_laws.specs.Columns.{seat_of_stay}
-use Rattle.paging_machine.specs.Parts.{seat_of_mode}
+use Rattle.active_list.specs.inner.Active.{ActiveList, without_holds}
+use Rattle.active_list.specs.inner.Holds.{holds_page, joined, most_of, own_of}
+use Rattle.active_list.specs.inner.Places.{IsPlaced}
+use Rattle.paging_laws.specs.inner.Columns.{seat_of_stay}
+use Rattle.paging_machine.specs.inner.Parts.{seat_of_mode}
 use Rattle.driver_rules.specs.Holds.{access_of_stay, builder_holds, front_to, holds, holds_by, is_among, page_extended, page_in}
 use Rattle.driver_rules.specs.Holds.{page_of_stay, up_to}
 use Rattle.driver_rules.specs.Needs.{access_page, interruption, listed, needs, needs_by, next_op, save_to_enter}
 use Rattle.driver_rules.specs.Needs.{save_to_resume}
 use Rattle.driver_rules.specs.Places.{frame_here, place}
 use Rattle.driver_rules.specs.Turns.{save_frame}
-use Rattle.driver_laws.specs.Sound.{IsSound, is_absent, times}
-use Rattle.driver_laws.specs.Three.{three}
+use Rattle.driver_laws.specs.inner.Sound.{IsSound, is_absent, times}
+use Rattle.driver_laws.specs.inner.Three.{three}
 use Rattle.driver_laws.proofs.SoundLaws.{entry_of}
 use Rattle.driver_laws.proofs.ThreeLaws.{three_most}
 use Rattle.driver_laws.proofs.PlaceLaws.{stands_there}
@@ -49,13 +49,15 @@ use Rattle.driver_tables.proofs.BuildLaws.{extended_placed}
 use Rattle.turn_tables.specs.declared.cpu_turns.Interruption as kept
 use Rattle.turn_tables.specs.declared.holding.HeldPages.{HeldPages}
 use Rattle.turn_tables.specs.declared.turns.Turns.{Turns}
-use Rattle.turn_tables.specs.Asked.{Looks, last_save_of, looks_at, next_save_of, op_at}
-use Rattle.turn_tables.specs.CpuTurns.{interruption_told, turn_at}
-use Rattle.turn_tables.specs.Due.{IsOrderly}
-use Rattle.turn_tables.specs.Holding.{CanHold, FitsAll, FitsEntry, FitsHold, FitsNext, FitsOwn, HoldsOnce, KeepsHolds, access_inside_of}
-use Rattle.turn_tables.specs.Holding.{held_after, held_of, holding, holding_all, loads_held, measured_next, needed_of, own_after, own_held}
-use Rattle.turn_tables.specs.Holding.{page_inside_of, pages_of, replies}
-use Rattle.turn_tables.specs.Shown.{ShowsCpu}
+use Rattle.turn_tables.specs.inner.Asked.{Looks, last_save_of, looks_at, next_save_of, op_at}
+use Rattle.turn_tables.specs.inner.CpuTurns.{interruption_told, turn_at}
+use Rattle.turn_tables.specs.inner.Due.{IsOrderly}
+use Rattle.turn_tables.specs.inner.Holding.{CanHold, FitsAll, FitsEntry, FitsHold, FitsNext, FitsOwn, HoldsOnce, KeepsHolds}
+use Rattle.turn_tables.specs.inner.Holding.{access_inside_of}
+use Rattle.turn_tables.specs.inner.Holding.{held_after, held_of, holding, holding_all, loads_held, measured_next, needed_of}
+use Rattle.turn_tables.specs.inner.Holding.{own_after, own_held}
+use Rattle.turn_tables.specs.inner.Holding.{page_inside_of, pages_of, replies}
+use Rattle.turn_tables.specs.inner.Shown.{ShowsCpu}
 use Rattle.turn_tables.proofs.DueLaws.{access_is, enclave_same, enter_save_is, resume_save_is}
 use Rattle.turn_tables.proofs.LineLaws.{op_valid}
 use Rattle.turn_tables.proofs.LookLaws.{IsSeen, looks_are}

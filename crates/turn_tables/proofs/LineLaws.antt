@@ -12,10 +12,10 @@ use Rattle.job_grammar.specs.declared.jobs.Op.{Op}
 use Rattle.job_grammar.specs.declared.jobs.PageLine.{PageLine}
 use Rattle.job_grammar.specs.declared.jobs.PageLine.TheVariants as lines
 use Rattle.job_grammar.specs.Jobs.{EnclaveView, JobView, covers, is_tcs_line, is_tcs_page, lines_at, lines_in, tcs_line}
-use Rattle.job_grammar.specs.Valid.{IsValid, IsValidEnclave, IsValidLine, IsValidOp}
+use Rattle.job_grammar.specs.inner.Valid.{IsValid, IsValidEnclave, IsValidLine, IsValidOp}
 use Rattle.job_grammar.proofs.EnclaveLaws.{lawful-size}
 use Rattle.turn_rules.specs.Script.{is_seated_at, saved, script_of}
-use Rattle.turn_tables.specs.Due.{IsWithin, in_use}
+use Rattle.turn_tables.specs.inner.Due.{IsWithin, in_use}
 
 found_has : {X : Type 0} (test : X → Bool) (P : X → Type 0) (xs : List X) (x : X) → All P xs → find test xs ≡ Some x → P x
 found_has test P [] x all h = cc

@@ -12,23 +12,23 @@ use Rattle.sgx_rules.specs.Processors.{holds_number, stay, translations}
 use Rattle.sgx_rules.specs.Table.{is_lawful_access}
 use Rattle.job_grammar.specs.Jobs.{JobView, lines_at, tcs_line}
 use Rattle.turn_rules.specs.Script.{is_initialised, saved}
-use Rattle.active_list.specs.Places.{IsPlaced}
-use Rattle.active_list.specs.States.{state_of as page_state}
+use Rattle.active_list.specs.inner.Places.{IsPlaced}
+use Rattle.active_list.specs.inner.States.{state_of as page_state}
 use Rattle.active_list.specs.declared.page_states.PageState.{PageState}
 use Rattle.active_list.specs.declared.page_states.PageState.TheVariants as states
-use Rattle.paging_laws.specs.Columns.{CpuColumns, EnclaveColumns, FrameColumns, seat_of_stay}
+use Rattle.paging_laws.specs.inner.Columns.{CpuColumns, EnclaveColumns, FrameColumns, seat_of_stay}
 use Rattle.paging_laws.proofs.TranslationLaws.{holds_number-map}
-use Rattle.paging_machine.specs.Parts.{Parts, cpu_at, seat_of_mode, state_of}
+use Rattle.paging_machine.specs.inner.Parts.{Parts, cpu_at, seat_of_mode, state_of}
 use Rattle.driver_rules.specs.Places.{Absent, Away, Here, Leaving, Loading, Place, frame_here, place}
-use Rattle.driver_laws.specs.Sound.{is_absent}
+use Rattle.driver_laws.specs.inner.Sound.{is_absent}
 use Rattle.driver_tables.specs.declared.driver.Driver.{Driver}
-use Rattle.driver_tables.specs.Tables.{place_in}
-use Rattle.driver_steps.specs.Agrees.{Agrees}
+use Rattle.driver_tables.specs.inner.Tables.{place_in}
+use Rattle.driver_steps.specs.inner.Agrees.{Agrees}
 use Rattle.turn_tables.specs.declared.turns.Turns.{Turns}
-use Rattle.turn_tables.specs.Asked.{CanAsk, Looks, frame_seen, here_if, looks_at, standing_seen, stands_if}
-use Rattle.turn_tables.specs.Due.{IsOrderly, standing}
-use Rattle.turn_tables.specs.Shown.{ShowsTurns}
-use Rattle.turn_tables.specs.TcsTurns.{has_place, tcs_by}
+use Rattle.turn_tables.specs.inner.Asked.{CanAsk, Looks, frame_seen, here_if, looks_at, standing_seen, stands_if}
+use Rattle.turn_tables.specs.inner.Due.{IsOrderly, standing}
+use Rattle.turn_tables.specs.inner.Shown.{ShowsTurns}
+use Rattle.turn_tables.specs.inner.TcsTurns.{has_place, tcs_by}
 use Rattle.turn_tables.proofs.FrameLaws.{number_of}
 
 -- what a processor's turn looks at is so by the entries

@@ -27,21 +27,26 @@ use Rattle.sgx_rules.proofs.Contents.{held_page}
 use Rattle.job_grammar.specs.declared.jobs.Op.{Op}
 use Rattle.job_grammar.specs.declared.jobs.Op.TheVariants as ops
 use Rattle.job_grammar.specs.Jobs.{JobView}
-use Rattle.turn_rules.specs.Script.{action_of, enter_with, frame_at, is_interrupted, is_reply, is_reply_action, is_turned_away, resume_with}
+use Rattle.turn_rules.specs.Script.{action_of, enter_with, frame_at, is_interrupted, is_reply, is_reply_action, is_turned_away}
+use Rattle.turn_rules.specs.Script.{resume_with}
 use Rattle.driver_rules.specs.declared.waits.Why.{Why}
 use Rattle.driver_rules.specs.declared.waits.Why.TheVariants as waits
-use Rattle.driver_rules.specs.Dues.{Due, Ends, Fetches, Finished, IsFetch, IsKickOf, IsLook, IsNext, IsTryOf, KicksAll, LooksAt, Makes}
+use Rattle.driver_rules.specs.Dues.{Due, Ends, Fetches, Finished, IsFetch, IsKickOf, IsLook, IsNext, IsTryOf, KicksAll, LooksAt}
+use Rattle.driver_rules.specs.Dues.{Makes}
 use Rattle.driver_rules.specs.Dues.{Reports, Stopped, TriesOut, Waits, makes_or}
 use Rattle.driver_rules.specs.Holds.{access_of_stay, front_to, holds_by, is_among, page_in, page_of_stay, up_to}
-use Rattle.driver_rules.specs.Needs.{Interruption, access_page, interruption, listed, needs, needs_after, needs_to_enter, needs_to_resume}
+use Rattle.driver_rules.specs.Needs.{Interruption, access_page, interruption, listed, needs, needs_after, needs_to_enter}
+use Rattle.driver_rules.specs.Needs.{needs_to_resume}
 use Rattle.driver_rules.specs.Needs.{next_op, save_to_enter, save_to_resume}
 use Rattle.driver_rules.specs.Places.{Absent, Away, Here, Leaving, Loading, Place, frame_here, is_here, place}
 use Rattle.driver_rules.specs.Stops.{is_spent}
-use Rattle.driver_rules.specs.Turns.{Fails, Last, Loads, Other, WasEnded, accesses_by, cpu_due, due_after, early_turn, enters, fetches}
-use Rattle.driver_rules.specs.Turns.{fills, first_away, inside_turn, is_built, is_kicked, is_last, last_of, op_turn, outside_turn, resumes}
+use Rattle.driver_rules.specs.Turns.{Fails, Last, Loads, Other, WasEnded, accesses_by, cpu_due, due_after, early_turn, enters}
+use Rattle.driver_rules.specs.Turns.{fetches}
+use Rattle.driver_rules.specs.Turns.{fills, first_away, inside_turn, is_built, is_kicked, is_last, last_of, op_turn}
+use Rattle.driver_rules.specs.Turns.{outside_turn, resumes}
 use Rattle.driver_rules.specs.Turns.{save_frame, stay_turn, turn_due, with_pages}
-use Rattle.driver_laws.specs.Sound.{IsSound, is_absent}
-use Rattle.driver_laws.specs.Three.{HoldsThree}
+use Rattle.driver_laws.specs.inner.Sound.{IsSound, is_absent}
+use Rattle.driver_laws.specs.inner.Three.{HoldsThree}
 use Rattle.driver_laws.proofs.PlaceLaws.{here_there, stands_there}
 use Rattle.driver_laws.proofs.SoundLaws.{lawful_there}
 

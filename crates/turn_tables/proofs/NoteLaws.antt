@@ -28,14 +28,14 @@ use Rattle.job_grammar.specs.declared.jobs.PageLine.{PageLine}
 use Rattle.job_grammar.specs.declared.jobs.PageLine.TheVariants as lines
 use Rattle.job_grammar.specs.Jobs.{JobView, lines_at, tcs_line}
 use Rattle.turn_rules.specs.declared.cursor.BuildCursor.{BuildCursor}
-use Rattle.turn_rules.specs.Cursor.{IsCursor, left}
+use Rattle.turn_rules.specs.inner.Cursor.{IsCursor, left}
 use Rattle.turn_rules.specs.Script.{build_of, built, is_initialised, is_interrupted, is_seated_at, replied, saved}
-use Rattle.paging_laws.specs.Columns.{seat_of_stay}
-use Rattle.paging_machine.specs.Parts.{seat_of_mode}
+use Rattle.paging_laws.specs.inner.Columns.{seat_of_stay}
+use Rattle.paging_machine.specs.inner.Parts.{seat_of_mode}
 use Rattle.driver_rules.specs.Needs.{Interruption, interrupted_by, interrupted_in, interruption, interruption_after}
 use Rattle.driver_rules.specs.Stops.{spends}
 use Rattle.driver_rules.specs.Turns.{fails_with, is_kicked, kicked_after, last_by, last_of, load_of}
-use Rattle.driver_laws.specs.Loads.{EndsOwn, LoadsAreTheirs}
+use Rattle.driver_laws.specs.inner.Loads.{EndsOwn, LoadsAreTheirs}
 use Rattle.driver_laws.proofs.EndLaws.{their_rule}
 use Rattle.driver_laws.proofs.SoundLaws.{entry_of}
 use Rattle.turn_tables.specs.declared.cpu_turns.CpuTurn.{CpuTurn}
@@ -44,12 +44,14 @@ use Rattle.turn_tables.specs.declared.cpu_turns.Last as lasts
 use Rattle.turn_tables.specs.declared.cpu_turns.Last.TheVariants as ways
 use Rattle.turn_tables.specs.declared.tcs_turns.TcsTurn.{TcsTurn}
 use Rattle.turn_tables.specs.declared.turns.Turns.{Turns}
-use Rattle.turn_tables.specs.CpuTurns.{first_turn, interruption_told, last_told, turn_at}
-use Rattle.turn_tables.specs.TcsTurns.{changed, one_less, one_more, tcs_at, tcs_by}
-use Rattle.turn_tables.specs.Entries.{CanNote, StoodSo}
-use Rattle.turn_tables.specs.Noting.{IsBuilt, IsNoted, broken_after, broken_by, broken_in, failed_by, inits_after, kicked, last_after}
-use Rattle.turn_tables.specs.Noting.{more_if, page_inside, page_left, page_loaded, saves_after, turn_after, with_kick, with_own}
-use Rattle.turn_tables.specs.Shown.{ShowsCpu, ShowsTurns}
+use Rattle.turn_tables.specs.inner.CpuTurns.{first_turn, interruption_told, last_told, turn_at}
+use Rattle.turn_tables.specs.inner.TcsTurns.{changed, one_less, one_more, tcs_at, tcs_by}
+use Rattle.turn_tables.specs.inner.Entries.{CanNote, StoodSo}
+use Rattle.turn_tables.specs.inner.Noting.{IsBuilt, IsNoted, broken_after, broken_by, broken_in, failed_by, inits_after, kicked}
+use Rattle.turn_tables.specs.inner.Noting.{last_after}
+use Rattle.turn_tables.specs.inner.Noting.{more_if, page_inside, page_left, page_loaded, saves_after, turn_after, with_kick}
+use Rattle.turn_tables.specs.inner.Noting.{with_own}
+use Rattle.turn_tables.specs.inner.Shown.{ShowsCpu, ShowsTurns}
 use Rattle.turn_tables.proofs.TableLaws.{changed_at, get_set, lengths_changed}
 
 -- ---- the builder

@@ -7,12 +7,12 @@ use Rattle.std.proofs.Math.Bool.{or-false}
 use Rattle.sgx_types.specs.declared.names.Page.{Page}
 use Rattle.sgx_types.specs.Pages.{same_page}
 use Rattle.sgx_types.proofs.Pages.{same_page-refl, same_page-swap, same_pages}
-use Rattle.active_list.specs.Holds.{holds_page, joined}
+use Rattle.active_list.specs.inner.Holds.{holds_page, joined}
 use Rattle.driver_rules.specs.Holds.{is_among}
 use Rattle.driver_rules.specs.Needs.{listed}
-use Rattle.driver_laws.specs.Sound.{times}
+use Rattle.driver_laws.specs.inner.Sound.{times}
 use Rattle.driver_tables.proofs.HeldLaws.{holds_joined}
-use Rattle.turn_tables.specs.Holding.{pages_of}
+use Rattle.turn_tables.specs.inner.Holding.{pages_of}
 use Rattle.turn_tables.specs.declared.holding.HeldPages.{HeldPages}
 
 or_apart : (a b c : Bool) → ((a || b) || c) ≡ (a || (b || c))

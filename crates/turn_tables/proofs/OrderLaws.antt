@@ -24,7 +24,8 @@ use Rattle.sgx_rules.specs.declared.refusals.Refusal.TheVariants as why
 use Rattle.sgx_rules.specs.Flat.{at_offset}
 use Rattle.sgx_types.specs.Pages.{page_at, same_page}
 use Rattle.sgx_rules.specs.Frames.{added, frame_of}
-use Rattle.sgx_rules.specs.Processors.{Enters, Keeps, Leaves, Move, Stay, holds_number, is_by, move_by, stay, stay_after, translations}
+use Rattle.sgx_rules.specs.Processors.{Enters, Keeps, Leaves, Move, Stay, holds_number, is_by, move_by, stay, stay_after}
+use Rattle.sgx_rules.specs.Processors.{translations}
 use Rattle.sgx_rules.specs.Sights.{seat_of}
 use Rattle.sgx_rules.specs.Starts.{is_load_of, open_start}
 use Rattle.sgx_rules.specs.Table.{first_of_row, is_lawful_access, is_reg, is_tcs, when}
@@ -35,29 +36,34 @@ use Rattle.job_grammar.specs.declared.jobs.Op.TheVariants as ops
 use Rattle.job_grammar.specs.declared.jobs.PageLine.{PageLine}
 use Rattle.job_grammar.specs.declared.jobs.PageLine.TheVariants as lines
 use Rattle.job_grammar.specs.Jobs.{JobView, lines_at, tcs_line}
-use Rattle.job_grammar.specs.Valid.{IsValid}
-use Rattle.turn_rules.specs.Script.{enter_with, frame_at, is_seated_at, is_turned_away, leaves_by, resume_with, saved, saved_after}
-use Rattle.paging_laws.specs.State.{State, enter_sight, row_of}
-use Rattle.paging_laws.specs.Steps.{CanApply, IsDone, IsStep, answer_of, refused_by}
+use Rattle.job_grammar.specs.inner.Valid.{IsValid}
+use Rattle.turn_rules.specs.Script.{enter_with, frame_at, is_seated_at, is_turned_away, leaves_by, resume_with, saved}
+use Rattle.turn_rules.specs.Script.{saved_after}
+use Rattle.paging_laws.specs.inner.State.{State, enter_sight, row_of}
+use Rattle.paging_laws.specs.inner.Steps.{CanApply, IsDone, IsStep, answer_of, refused_by}
 use Rattle.paging_laws.proofs.Contents.{tcs_no_reg}
 use Rattle.paging_laws.proofs.EntryLaws.{enters as enters_by_row}
 use Rattle.driver_rules.specs.declared.waits.Why.{Why}
 use Rattle.driver_rules.specs.declared.waits.Why.TheVariants as waits
-use Rattle.driver_rules.specs.Dues.{Due, Ends, Fetches, Finished, IsNext, IsTryOf, KicksAll, LooksAt, Makes, Reports, Stopped, TriesOut}
+use Rattle.driver_rules.specs.Dues.{Due, Ends, Fetches, Finished, IsNext, IsTryOf, KicksAll, LooksAt, Makes, Reports, Stopped}
+use Rattle.driver_rules.specs.Dues.{TriesOut}
 use Rattle.driver_rules.specs.Dues.{Waits, makes_or}
 use Rattle.driver_rules.specs.Needs.{Interruption, interruption, needs_after, needs_to_enter, needs_to_resume, next_op, next_save}
 use Rattle.driver_rules.specs.Needs.{save_to_enter, save_to_resume}
-use Rattle.driver_rules.specs.Places.{Absent, Away, Here, Leaving, Loading, Place, after_look, back_to, frame_here, gone_to, place}
+use Rattle.driver_rules.specs.Places.{Absent, Away, Here, Leaving, Loading, Place, after_look, back_to, frame_here, gone_to}
+use Rattle.driver_rules.specs.Places.{place}
 use Rattle.driver_rules.specs.Scripts.{ScriptRule}
 use Rattle.driver_rules.specs.Stops.{is_spent}
-use Rattle.driver_rules.specs.Turns.{Fails, Last, Loads, Other, WasEnded, accesses_by, cpu_due, due_after, early_turn, enters, fetches}
-use Rattle.driver_rules.specs.Turns.{fills, first_away, inside_turn, is_built, is_kicked, is_last, last_of, op_turn, outside_turn, resumes}
+use Rattle.driver_rules.specs.Turns.{Fails, Last, Loads, Other, WasEnded, accesses_by, cpu_due, due_after, early_turn, enters}
+use Rattle.driver_rules.specs.Turns.{fetches}
+use Rattle.driver_rules.specs.Turns.{fills, first_away, inside_turn, is_built, is_kicked, is_last, last_of, op_turn}
+use Rattle.driver_rules.specs.Turns.{outside_turn, resumes}
 use Rattle.driver_rules.specs.Turns.{save_frame, stay_turn, turn_due, with_pages}
-use Rattle.driver_laws.specs.Kinds.{CanMove}
-use Rattle.driver_laws.specs.Three.{NamesOwn, TcsAreApart, names_tcs}
+use Rattle.driver_laws.specs.inner.Kinds.{CanMove}
+use Rattle.driver_laws.specs.inner.Three.{NamesOwn, TcsAreApart, names_tcs}
 use Rattle.driver_laws.proofs.SoundLaws.{entry_of}
-use Rattle.turn_tables.specs.Due.{IsOrderly, IsWithin, in_use, standing}
-use Rattle.turn_tables.specs.Entries.{EntersApart}
+use Rattle.turn_tables.specs.inner.Due.{IsOrderly, IsWithin, in_use, standing}
+use Rattle.turn_tables.specs.inner.Entries.{EntersApart}
 use Rattle.turn_tables.proofs.LineLaws.{IsTcsLine, saved_within, tcs_line_is, within_le}
 
 -- ---- frames

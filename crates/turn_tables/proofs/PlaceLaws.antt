@@ -6,12 +6,13 @@ use Rattle.std.proofs.lemmas.Bool.{cases_eq, cases_lt}
 use Rattle.std.proofs.lemmas.List.{get_or_append_left, get_or_past, get_or_push, length-map, length_push, map_push, take_more}
 use Rattle.job_grammar.specs.declared.jobs.EnclaveJob.{EnclaveJob}
 use Rattle.job_grammar.specs.declared.jobs.PageLine.{PageLine}
-use Rattle.job_grammar.specs.Jobs.{EnclaveView, enclave_view, lines_at, lines_in, tcs_line}
+use Rattle.job_grammar.specs.Jobs.{EnclaveView, lines_at, lines_in, tcs_line}
+use Rattle.job_grammar.specs.inner.Jobs.{enclave_view}
 use Rattle.job_grammar.proofs.ViewLaws.{views_more}
-use Rattle.driver_tables.specs.Counts.{enclave_places, last_end}
+use Rattle.driver_tables.specs.inner.Counts.{enclave_places, last_end}
 use Rattle.turn_tables.specs.declared.tcs_turns.TcsTurn.{TcsTurn}
-use Rattle.turn_tables.specs.TcsTurns.{IsNewTable, tcs_by}
-use Rattle.turn_tables.specs.TcsPlaces.{or_line, turns_in}
+use Rattle.turn_tables.specs.inner.TcsTurns.{IsNewTable, tcs_by}
+use Rattle.turn_tables.specs.inner.TcsPlaces.{or_line, turns_in}
 use Rattle.turn_tables.proofs.TableLaws.{line_more}
 
 -- ---- lists

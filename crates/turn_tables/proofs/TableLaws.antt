@@ -7,17 +7,18 @@ use Rattle.std.specs.Global.{Vec}
 use Rattle.std.specs.List.{HoldsAt}
 use Rattle.std.specs.Vec.{with_item}
 use Rattle.std.proofs.lemmas.Bool.{eqb-false, eqb-true}
-use Rattle.std.proofs.lemmas.List.{append-nil, drop_all, get_or-set_other, get_or-set_same, length-map, length-set, map-set, take_all}
+use Rattle.std.proofs.lemmas.List.{append-nil, drop_all, get_or-set_other, get_or-set_same, length-map, length-set, map-set}
+use Rattle.std.proofs.lemmas.List.{take_all}
 use Rattle.sgx_types.specs.declared.names.Page.{Page}
 use Rattle.sgx_types.specs.Pages.{page_at, same_page}
 use Rattle.sgx_types.proofs.Pages.{same_pages}
 use Rattle.job_grammar.specs.declared.jobs.PageLine.{PageLine}
 use Rattle.job_grammar.specs.declared.jobs.PageLine.TheVariants as lines
 use Rattle.job_grammar.specs.Jobs.{covers, is_tcs_line, tcs_line}
-use Rattle.active_list.specs.Places.{IsPlaced}
+use Rattle.active_list.specs.inner.Places.{IsPlaced}
 use Rattle.turn_tables.specs.declared.tcs_turns.TcsTurn.{TcsTurn}
-use Rattle.turn_tables.specs.TcsTurns.{changed, tcs_at, tcs_by, with_turn}
-use Rattle.turn_tables.specs.TcsPlaces.{or_line, turns_in}
+use Rattle.turn_tables.specs.inner.TcsTurns.{changed, tcs_at, tcs_by, with_turn}
+use Rattle.turn_tables.specs.inner.TcsPlaces.{or_line, turns_in}
 
 -- ---- lists
 

@@ -5,11 +5,11 @@ ghost use Rattle.sgx_types.specs.Making.{Making};
 ghost use Rattle.sgx_rules.specs.declared.entries.Entry.{Entry};
 ghost use Rattle.turn_rules.specs.Script.{step_action};
 ghost use Rattle.driver_rules.specs.Turns.{builder_due};
-ghost use Rattle.driver_steps.specs.Agrees.{Agrees};
-ghost use Rattle.turn_rules.specs.Cursor.{IsCursor};
-ghost use Rattle.turn_tables.specs.Asked.{IsBuilderDue, next_step, standing_seen, step_by, with_frame};
-ghost use Rattle.turn_tables.specs.Due.{IsOrderly, IsReady, building_in};
-ghost use Rattle.turn_tables.specs.Shown.{ShowsTurns};
+ghost use Rattle.driver_steps.specs.inner.Agrees.{Agrees};
+ghost use Rattle.turn_rules.specs.inner.Cursor.{IsCursor};
+ghost use Rattle.turn_tables.specs.inner.Asked.{IsBuilderDue, next_step, standing_seen, step_by, with_frame};
+ghost use Rattle.turn_tables.specs.inner.Due.{IsOrderly, IsReady, building_in};
+ghost use Rattle.turn_tables.specs.inner.Shown.{ShowsTurns};
 
 use crate::dues::BuilderDue;
 use crate::turns::Turns;

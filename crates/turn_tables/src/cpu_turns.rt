@@ -1,7 +1,7 @@
 //! How its entries left each processor.
 
 ghost use Rattle.std.specs.Prelude.{◌≡◌, ◌<◌, ◌^◌, length, replicate, slice_set, IfOk};
-ghost use Rattle.turn_tables.specs.CpuTurns.{first_turn, replying, turn_at};
+ghost use Rattle.turn_tables.specs.inner.CpuTurns.{first_turn, replying, turn_at};
 
 use sgx_rules::entries::BusWhy;
 use sgx_types::names::{Cpu, Frame, Memory, Page};

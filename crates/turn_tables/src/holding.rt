@@ -1,16 +1,19 @@
 //! The holds behind an entry.
 
 ghost use Rattle.std.specs.Prelude.{◌≡◌, ◌<◌, ◌∷◌, length, IfSome};
-ghost use Rattle.active_list.specs.Active.{without_holds};
-ghost use Rattle.active_list.specs.Holds.{holder_of};
-ghost use Rattle.turn_rules.specs.Cursor.{IsCursor};
+ghost use Rattle.active_list.specs.inner.Active.{without_holds};
+ghost use Rattle.active_list.specs.inner.Holds.{holder_of};
+ghost use Rattle.turn_rules.specs.inner.Cursor.{IsCursor};
 ghost use Rattle.turn_rules.specs.Script.{action_of};
-ghost use Rattle.turn_tables.specs.Asked.{op_at};
-ghost use Rattle.turn_tables.specs.Holding.{CanHold, FitsAll, FitsEntry, FitsHold, FitsNext, FitsOwn, KeepsHolds, access_inside_of};
-ghost use Rattle.turn_tables.specs.Holding.{enter_needs, held_after, held_of, holding, holding_all, loads_held, measured_next, mode_of};
-ghost use Rattle.turn_tables.specs.Holding.{needed_of, one_held, own_after, own_held, page_inside_of, replies, resume_needs};
-ghost use Rattle.turn_tables.specs.Noting.{IsAmong};
-ghost use Rattle.turn_tables.specs.TcsTurns.{tcs_at};
+ghost use Rattle.turn_tables.specs.inner.Asked.{op_at};
+ghost use Rattle.turn_tables.specs.inner.Holding.{CanHold, FitsAll, FitsEntry, FitsHold, FitsNext, FitsOwn, KeepsHolds};
+ghost use Rattle.turn_tables.specs.inner.Holding.{access_inside_of};
+ghost use Rattle.turn_tables.specs.inner.Holding.{enter_needs, held_after, held_of, holding, holding_all, loads_held};
+ghost use Rattle.turn_tables.specs.inner.Holding.{measured_next, mode_of};
+ghost use Rattle.turn_tables.specs.inner.Holding.{needed_of, one_held, own_after, own_held, page_inside_of, replies};
+ghost use Rattle.turn_tables.specs.inner.Holding.{resume_needs};
+ghost use Rattle.turn_tables.specs.inner.Noting.{IsAmong};
+ghost use Rattle.turn_tables.specs.inner.TcsTurns.{tcs_at};
 
 use crate::asking::op_at;
 use crate::cpu_turns::{CpuTurn, Interruption};

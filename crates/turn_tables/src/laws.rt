@@ -1,25 +1,25 @@
 //! What the entries of a driver keep. A law is the contract of a function without arguments.
 
 ghost use Rattle.std.specs.Prelude.{ℕ, ◌≡◌, ◌<◌, ◌^◌, ◌∷◌, [], List, length, replicate};
-ghost use Rattle.driver_laws.specs.Kinds.{CanMove};
-ghost use Rattle.driver_laws.specs.Three.{NamesOwn, TcsAreApart};
+ghost use Rattle.driver_laws.specs.inner.Kinds.{CanMove};
+ghost use Rattle.driver_laws.specs.inner.Three.{NamesOwn, TcsAreApart};
 ghost use Rattle.driver_rules.specs.Dues.{Finished};
 ghost use Rattle.driver_rules.specs.Scripts.{IsEnded, ScriptRule};
 ghost use Rattle.driver_rules.specs.Turns.{builder_due, cpu_due};
 ghost use Rattle.job_grammar.specs.Jobs.{JobView};
-ghost use Rattle.job_grammar.specs.Valid.{IsValid};
-ghost use Rattle.paging_laws.specs.State.{State};
-ghost use Rattle.paging_laws.specs.Steps.{CanApply, IsStep};
+ghost use Rattle.job_grammar.specs.inner.Valid.{IsValid};
+ghost use Rattle.paging_laws.specs.inner.State.{State};
+ghost use Rattle.paging_laws.specs.inner.Steps.{CanApply, IsStep};
 ghost use Rattle.sgx_rules.specs.Rules.{Along};
 ghost use Rattle.sgx_rules.specs.declared.entries.Action.{Action};
 ghost use Rattle.sgx_types.specs.declared.names.Actor.{Actor};
 ghost use Rattle.sgx_rules.specs.declared.entries.Entry.{Entry};
-ghost use Rattle.turn_tables.specs.Due.{IsOrderly};
-ghost use Rattle.turn_tables.specs.Ending.{EndsAreTold, IsForRecord, NoneFails};
-ghost use Rattle.turn_tables.specs.Entries.{EntersApart};
-ghost use Rattle.turn_tables.specs.Holding.{KeepsHolds};
-ghost use Rattle.turn_tables.specs.Noting.{AreFew};
-ghost use Rattle.turn_tables.specs.Shown.{ShowsTurns};
+ghost use Rattle.turn_tables.specs.inner.Due.{IsOrderly};
+ghost use Rattle.turn_tables.specs.inner.Ending.{EndsAreTold, IsForRecord, NoneFails};
+ghost use Rattle.turn_tables.specs.inner.Entries.{EntersApart};
+ghost use Rattle.turn_tables.specs.inner.Holding.{KeepsHolds};
+ghost use Rattle.turn_tables.specs.inner.Noting.{AreFew};
+ghost use Rattle.turn_tables.specs.inner.Shown.{ShowsTurns};
 ghost use Rattle.turn_tables.specs.declared.turns.Turns.{Turns};
 
 /// One entry more keeps that each page is in the frame into which it was last put, and that no TCS page has more state save pages in use

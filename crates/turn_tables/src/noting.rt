@@ -3,13 +3,14 @@
 ghost use Rattle.std.specs.Prelude.{ℕ, ◌≡◌, ◌<◌, ◌∷◌, ◌^◌, List, length, IfSome};
 ghost use Rattle.sgx_rules.specs.declared.entries.Entry.{Entry};
 ghost use Rattle.sgx_types.specs.declared.names.Page.{Page};
-ghost use Rattle.turn_rules.specs.Cursor.{IsCursor};
-ghost use Rattle.turn_tables.specs.CpuTurns.{turn_at};
-ghost use Rattle.turn_tables.specs.Entries.{CanNote};
-ghost use Rattle.turn_tables.specs.Noting.{AreFew, IsAmong, IsBuilt, IsNoted, IsStepped, inits_after, page_left, saves_after, with_kick};
-ghost use Rattle.turn_tables.specs.Noting.{with_own};
-ghost use Rattle.turn_tables.specs.Shown.{ShowsTurns};
-ghost use Rattle.turn_tables.specs.TcsTurns.{tcs_at};
+ghost use Rattle.turn_rules.specs.inner.Cursor.{IsCursor};
+ghost use Rattle.turn_tables.specs.inner.CpuTurns.{turn_at};
+ghost use Rattle.turn_tables.specs.inner.Entries.{CanNote};
+ghost use Rattle.turn_tables.specs.inner.Noting.{AreFew, IsAmong, IsBuilt, IsNoted, IsStepped, inits_after, page_left};
+ghost use Rattle.turn_tables.specs.inner.Noting.{saves_after, with_kick};
+ghost use Rattle.turn_tables.specs.inner.Noting.{with_own};
+ghost use Rattle.turn_tables.specs.inner.Shown.{ShowsTurns};
+ghost use Rattle.turn_tables.specs.inner.TcsTurns.{tcs_at};
 
 use crate::cpu_turns::{CpuTurn, CpuTurns};
 use crate::replies::{spends, turn_after};

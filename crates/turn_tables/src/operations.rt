@@ -1,11 +1,12 @@
 //! The next step of an operation.
 
 ghost use Rattle.std.specs.Prelude.{◌≡◌, ◌||◌, false, not, length, map, slice_index_or};
-ghost use Rattle.cached_translations.specs.Modes.{is_inside};
+ghost use Rattle.cached_translations.specs.inner.Modes.{is_inside};
 ghost use Rattle.turn_tables.specs.declared.steps.CpuStep.TheVariants as steps;
-ghost use Rattle.turn_tables.specs.Asked.{CanAsk, access_by, access_in, access_page, enters_by, fill_by, frame_seen, last_save_of};
-ghost use Rattle.turn_tables.specs.Asked.{looks_at, next_save_of, op_by, page_of, resumes_by, with_access};
-ghost use Rattle.turn_tables.specs.TcsTurns.{tcs_at};
+ghost use Rattle.turn_tables.specs.inner.Asked.{CanAsk, access_by, access_in, access_page, enters_by, fill_by, frame_seen};
+ghost use Rattle.turn_tables.specs.inner.Asked.{last_save_of};
+ghost use Rattle.turn_tables.specs.inner.Asked.{looks_at, next_save_of, op_by, page_of, resumes_by, with_access};
+ghost use Rattle.turn_tables.specs.inner.TcsTurns.{tcs_at};
 
 use crate::dues::CpuDue;
 use crate::steps::CpuStep;

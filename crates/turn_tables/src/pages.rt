@@ -1,8 +1,8 @@
 //! Where the pages are that an actor needs.
 
 ghost use Rattle.std.specs.Prelude.{◌≡◌, length, map};
-ghost use Rattle.turn_tables.specs.Asked.{frame_seen, last_save_of, next_save_of, standing_seen};
-ghost use Rattle.turn_tables.specs.TcsTurns.{tcs_at};
+ghost use Rattle.turn_tables.specs.inner.Asked.{frame_seen, last_save_of, next_save_of, standing_seen};
+ghost use Rattle.turn_tables.specs.inner.TcsTurns.{tcs_at};
 
 use crate::turns::Turns;
 use active_list::page_states::PageState;

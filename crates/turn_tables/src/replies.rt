@@ -2,7 +2,8 @@
 
 ghost use Rattle.std.specs.Prelude.{◌≡◌, ◌<◌, ◌^◌};
 ghost use Rattle.driver_rules.specs.Stops.{is_last_refusal, spends};
-ghost use Rattle.turn_tables.specs.Noting.{broken_after, broken_by, broken_in, exits, failed_by, last_after, page_loaded, turn_after};
+ghost use Rattle.turn_tables.specs.inner.Noting.{broken_after, broken_by, broken_in, exits, failed_by, last_after, page_loaded};
+ghost use Rattle.turn_tables.specs.inner.Noting.{turn_after};
 
 use crate::cpu_turns::{CpuTurn, Interruption, Last};
 use cached_translations::processor::Mode;

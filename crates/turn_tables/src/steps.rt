@@ -1,7 +1,7 @@
 //! What a processor makes next.
 
 ghost use Rattle.std.specs.Prelude.{◌≡◌};
-ghost use Rattle.turn_tables.specs.Due.{made_by};
+ghost use Rattle.turn_tables.specs.inner.Due.{made_by};
 
 use sgx_rules::entries::{AccessOp, Action, Cause};
 use sgx_types::names::Frame;

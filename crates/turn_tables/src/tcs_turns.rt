@@ -2,11 +2,12 @@
 
 ghost use Rattle.std.specs.Prelude.{ℕ, ◌≡◌, ◌<◌, ◌≤◌, ◌^◌, length, map, slice_index_or, IfOk, IfSome};
 ghost use Rattle.std.specs.List.{All};
-ghost use Rattle.job_grammar.specs.Jobs.{enclave_view, tcs_line};
-ghost use Rattle.active_list.specs.Places.{IsPlaced};
-ghost use Rattle.driver_tables.specs.Counts.{IsLow, IsShort, last_end, line_end};
-ghost use Rattle.turn_tables.specs.TcsTurns.{IsNewTable, has_place, tcs_at, tcs_by, with_less, with_more, with_turn};
-ghost use Rattle.turn_tables.specs.TcsPlaces.{or_line};
+ghost use Rattle.job_grammar.specs.Jobs.{tcs_line};
+ghost use Rattle.job_grammar.specs.inner.Jobs.{enclave_view};
+ghost use Rattle.active_list.specs.inner.Places.{IsPlaced};
+ghost use Rattle.driver_tables.specs.inner.Counts.{IsLow, IsShort, last_end, line_end};
+ghost use Rattle.turn_tables.specs.inner.TcsTurns.{IsNewTable, has_place, tcs_at, tcs_by, with_less, with_more, with_turn};
+ghost use Rattle.turn_tables.specs.inner.TcsPlaces.{or_line};
 
 use job_grammar::jobs::{EnclaveJob, PageLine};
 use sgx_types::names::{Memory, Page};
@@ -31,7 +32,7 @@ pub struct TcsTurns {
 impl Model for TcsTurns {
     ghost use Rattle.std.specs.Prelude.{List, Option, map};
     ghost use Rattle.turn_tables.specs.declared.tcs_turns.TcsTurn.{TcsTurn};
-    ghost use Rattle.turn_tables.specs.TcsPlaces.{turns_in};
+    ghost use Rattle.turn_tables.specs.inner.TcsPlaces.{turns_in};
 
     ghost Value = { List (List (Option TcsTurn)) };
 

@@ -1,7 +1,7 @@
 //! The tables of what is due to the builder and to each processor.
 
 ghost use Rattle.std.specs.Prelude.{[], IfOk};
-ghost use Rattle.turn_tables.specs.Shown.{ShowsTurns};
+ghost use Rattle.turn_tables.specs.inner.Shown.{ShowsTurns};
 
 use crate::cpu_turns::CpuTurns;
 use crate::tcs_turns::TcsTurns;

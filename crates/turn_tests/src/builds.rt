@@ -1,6 +1,6 @@
 //! The steps of a builder, one by one.
 
-ghost use Rattle.turn_rules.specs.Cursor.{IsCursor};
+ghost use Rattle.turn_rules.specs.inner.Cursor.{IsCursor};
 
 use job_grammar::jobs::Job;
 use job_text::reader::read_job;

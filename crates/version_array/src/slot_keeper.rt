@@ -3,8 +3,9 @@
 ghost use Rattle.std.specs.Prelude.{◌≡◌, [], ◌+◌, ◌*◌, ◌<◌, ◌≤◌, ◌^◌, ℕ, true, false, length, is_some};
 ghost use Rattle.std.specs.Prelude.{nat_lt, slice_index_or, None, IfOk, IfSome, IfNone};
 ghost use Rattle.slab.specs.Slab.{slab_len};
-ghost use Rattle.version_array.specs.Keeper.{new_keeper, is_added, is_out, count_all, count_out, Adds, Takes, Gives, AllOut};
-ghost use Rattle.version_array.specs.Keys.{is_taken, IsCounted, Frees, is_frame};
+ghost use Rattle.version_array.specs.inner.Keeper.{new_keeper, is_added, is_out, count_all, count_out, Adds, Takes, Gives};
+ghost use Rattle.version_array.specs.inner.Keeper.{AllOut};
+ghost use Rattle.version_array.specs.inner.Keys.{is_taken, IsCounted, Frees, is_frame};
 
 use crate::va_page::SLOTS;
 use sgx_types::names::{Frame, Memory, SlotAt};
@@ -23,11 +24,11 @@ pub struct SlotKeeper {
 }
 
 impl Model for SlotKeeper {
-    ghost use Rattle.version_array.specs.Keeper.{Keeper};
+    ghost use Rattle.version_array.specs.inner.Keeper.{Keeper};
 
     ghost Value = { Keeper };
 
-    ghost use Rattle.version_array.specs.KeeperKept.{keeper_of, IsKept};
+    ghost use Rattle.version_array.specs.inner.KeeperKept.{keeper_of, IsKept};
 
     ghost view = { keeper_of };
 

@@ -7,8 +7,8 @@ use Rattle.sgx_rules.specs.Rules.{Along, EvictRule, RefusalRule}
 use Rattle.sgx_rules.specs.Starts.{Start}
 use Rattle.sgx_types.specs.declared.names.Actor.TheVariants.{Reclaimer}
 use Rattle.turn_rules.specs.Machines.{machine_of}
-use Rattle.worked_traces.specs.Evictions.{came_back, first_slot, sevens}
-use Rattle.worked_traces.specs.Traces.{first_job, first_trace, rw_perm}
+use Rattle.worked_traces.specs.inner.Evictions.{came_back, first_slot, sevens}
+use Rattle.worked_traces.specs.inner.Traces.{first_job, first_trace, rw_perm}
 
 first_table : Along (RefusalRule (machine_of first_job)) first_trace
 unfolding ones

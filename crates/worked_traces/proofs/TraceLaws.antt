@@ -11,8 +11,9 @@ use Rattle.sgx_types.specs.Pages.{page_at, same_page}
 use Rattle.sgx_rules.specs.Frames.{Content, Put, content, held_after, is_page, is_sealing, made_before, put_by}
 use Rattle.sgx_rules.specs.Processors.{BareTranslation}
 use Rattle.sgx_rules.specs.Rules.{Along, AtEachPlace, FlatRule, NoPageTwice, NoneStale, IsCurrent}
-use Rattle.worked_traces.specs.Traces.{first_trace, first_build, fill, enter, frame_beyond, frame_twice, page_twice, adds_exchanged}
-use Rattle.worked_traces.specs.Traces.{epa_by_reclaimer, no_fill, fill_from_other_frame}
+use Rattle.worked_traces.specs.inner.Traces.{first_trace, first_build, fill, enter, frame_beyond, frame_twice, page_twice}
+use Rattle.worked_traces.specs.inner.Traces.{adds_exchanged}
+use Rattle.worked_traces.specs.inner.Traces.{epa_by_reclaimer, no_fill, fill_from_other_frame}
 
 -- the count of a number's bits stays closed elsewhere
 pub first_size_is_lawful : is_power_of_two 0x10000 ≡ true

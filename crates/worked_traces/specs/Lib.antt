@@ -1,2 +1,1 @@
-pub mod Evictions
-pub mod Traces
+pub mod inner

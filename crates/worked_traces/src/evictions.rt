@@ -5,9 +5,10 @@ ghost use Rattle.sgx_rules.specs.Frames.{IsLoading, Free, content};
 ghost use Rattle.sgx_rules.specs.Fresh.{FreshRule};
 ghost use Rattle.sgx_rules.specs.Rules.{Along, EvictRule, FitsRule, FlatRule, RefusalRule};
 ghost use Rattle.turn_rules.specs.Machines.{machine_of};
-ghost use Rattle.worked_traces.specs.Evictions.{came_back, enter_by_reclaimer, gone_out, no_track, other_page_in, other_version_in};
-ghost use Rattle.worked_traces.specs.Evictions.{other_version_out, second_start, sevens, start_in};
-ghost use Rattle.worked_traces.specs.Traces.{first_job};
+ghost use Rattle.worked_traces.specs.inner.Evictions.{came_back, enter_by_reclaimer, gone_out, no_track, other_page_in};
+ghost use Rattle.worked_traces.specs.inner.Evictions.{other_version_in};
+ghost use Rattle.worked_traces.specs.inner.Evictions.{other_version_out, second_start, sevens, start_in};
+ghost use Rattle.worked_traces.specs.inner.Traces.{first_job};
 
 #[tactic(auto, using(crate::proofs::EvictionLaws::came_back_table))]
 pub fn a_page_that_came_back_keeps_the_table()

@@ -1,9 +1,10 @@
 //! The right trace of a small job: it keeps every rule.
 
-ghost use Rattle.sgx_rules.specs.Rules.{Along, Fits, FlatRule, KeepsRules, RefusalRule, Stale};
+ghost use Rattle.sgx_rules.specs.Rules.{Along, Fits, FlatRule, RefusalRule, Stale};
+ghost use Rattle.sgx_rules.specs.inner.Rules.{KeepsRules};
 ghost use Rattle.turn_rules.specs.Machines.{machine_of};
 ghost use Rattle.driver_rules.specs.Scripts.{Script};
-ghost use Rattle.worked_traces.specs.Traces.{first_job, first_trace};
+ghost use Rattle.worked_traces.specs.inner.Traces.{first_job, first_trace};
 
 pub fn the_first_trace_keeps_the_script()
     ensures { Script first_job first_trace }

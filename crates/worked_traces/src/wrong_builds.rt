@@ -1,9 +1,11 @@
 //! Traces that are wrong in the build: the rules that each breaks, and rules that it keeps.
 
-ghost use Rattle.sgx_rules.specs.Rules.{Along, AtEachPlace, FitsRule, FlatRule, KeepsRules, NoPageTwice, RefusalRule};
+ghost use Rattle.sgx_rules.specs.Rules.{Along, AtEachPlace, FitsRule, FlatRule, NoPageTwice, RefusalRule};
+ghost use Rattle.sgx_rules.specs.inner.Rules.{KeepsRules};
 ghost use Rattle.turn_rules.specs.Machines.{machine_of};
 ghost use Rattle.driver_rules.specs.Scripts.{ScriptRule};
-ghost use Rattle.worked_traces.specs.Traces.{adds_exchanged, epa_by_reclaimer, first_job, frame_beyond, frame_twice, page_twice};
+ghost use Rattle.worked_traces.specs.inner.Traces.{adds_exchanged, epa_by_reclaimer, first_job, frame_beyond, frame_twice};
+ghost use Rattle.worked_traces.specs.inner.Traces.{page_twice};
 
 pub fn a_frame_beyond_the_epc_does_not_fit()
     ensures { ¬ Along (FitsRule 6) frame_beyond }

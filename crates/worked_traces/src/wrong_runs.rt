@@ -1,10 +1,12 @@
 //! Traces that are wrong in the script of a processor: the rules that each breaks, and rules that it keeps.
 
-ghost use Rattle.sgx_rules.specs.Rules.{Along, AtEachPlace, Fits, FitsRule, FlatRule, KeepsRules, NoneStale, RefusalRule, StaleRule};
+ghost use Rattle.sgx_rules.specs.Rules.{Along, AtEachPlace, Fits, FitsRule, FlatRule, NoneStale, RefusalRule, StaleRule};
+ghost use Rattle.sgx_rules.specs.inner.Rules.{KeepsRules};
 ghost use Rattle.turn_rules.specs.Machines.{machine_of};
 ghost use Rattle.driver_rules.specs.Scripts.{IsEnded, Script, ScriptRule};
-ghost use Rattle.worked_traces.specs.Traces.{enter_before_init, fill_from_other_frame, first_job, load_by_builder, load_by_other_cpu};
-ghost use Rattle.worked_traces.specs.Traces.{no_exit, no_fill, other_cssa, other_value};
+ghost use Rattle.worked_traces.specs.inner.Traces.{enter_before_init, fill_from_other_frame, first_job, load_by_builder};
+ghost use Rattle.worked_traces.specs.inner.Traces.{load_by_other_cpu};
+ghost use Rattle.worked_traces.specs.inner.Traces.{no_exit, no_fill, other_cssa, other_value};
 
 pub fn an_enter_before_the_init_breaks_the_table()
     ensures { ¬ Along (RefusalRule (machine_of first_job)) enter_before_init }

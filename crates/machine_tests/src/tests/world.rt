@@ -1,7 +1,7 @@
 //! A machine, and how a table is played on it.
 
 ghost use Rattle.std.specs.Prelude.{◌≡◌, ◌≤◌, IsTrue};
-ghost use Rattle.paging_laws.specs.Steps.{CanApply};
+ghost use Rattle.paging_laws.specs.inner.Steps.{CanApply};
 
 use super::instructions::Instruction;
 use super::rows::{DONE, FIRST, RECLAIMER, Reader, Row, Told};

@@ -1,8 +1,8 @@
 //! Slots of version array pages, and versions.
 
 ghost use Rattle.std.specs.Prelude.{◌≡◌, true, IfOk};
-ghost use Rattle.version_array.specs.Slots.{IsSlot};
-ghost use Rattle.version_array.specs.Keeper.{is_out};
+ghost use Rattle.version_array.specs.inner.Slots.{IsSlot};
+ghost use Rattle.version_array.specs.inner.Keeper.{is_out};
 
 use sgx_rules::refusals::Refusal;
 use sgx_types::names::{Frame, SlotAt};

@@ -1,7 +1,7 @@
 //! Who holds a page.
 
 ghost use Rattle.std.specs.Prelude.{◌≡◌, ◌∷◌, []};
-ghost use Rattle.active_list.specs.Active.{new_active};
+ghost use Rattle.active_list.specs.inner.Active.{new_active};
 
 use active_list::active::Active;
 use sgx_types::names::{Actor, Cpu, Page};

@@ -1,7 +1,7 @@
 //! A million slots that are handed out.
 
 ghost use Rattle.std.specs.Prelude.{◌≡◌};
-ghost use Rattle.version_array.specs.Keeper.{new_keeper};
+ghost use Rattle.version_array.specs.inner.Keeper.{new_keeper};
 
 use sgx_types::names::{Frame, SlotAt};
 use std::process::Abort;

@@ -1,7 +1,7 @@
 //! What a table's row asks of the list, and how a table is played on it.
 
 ghost use Rattle.std.specs.Prelude.{◌≡◌, ◌+◌, ◌∷◌, ◌<◌, ◌^◌, [], IsTrue};
-ghost use Rattle.active_list.specs.Places.{IsPlaced};
+ghost use Rattle.active_list.specs.inner.Places.{IsPlaced};
 
 use active_list::active::Active;
 use sgx_types::names::{Memory, Page};

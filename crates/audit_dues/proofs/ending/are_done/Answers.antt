@@ -1,5 +1,5 @@
 use Rattle.std.proofs.Common.{◌≡◌, false, sym, rules}
-use Rattle.audit_dues.specs.Ends.{is_done_by}
+use Rattle.audit_dues.specs.inner.Ends.{is_done_by}
 use Rattle.audit_dues.proofs.EndLaws.{not_all_done}
 use Rattle.audit_dues.proofs.ending.are_done.Goals as goal
 

@@ -1,5 +1,5 @@
 use Rattle.std.proofs.Common.{◌≡◌, true}
-use Rattle.audit_dues.specs.Ends.{are_done_by}
+use Rattle.audit_dues.specs.inner.Ends.{are_done_by}
 use Rattle.audit_dues.proofs.ending.are_done.Given as goal
 
 abbrev pub invariant-loop-number : goal.invariant-loop-number

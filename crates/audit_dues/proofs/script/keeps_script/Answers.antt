@@ -1,6 +1,6 @@
 use Rattle.std.proofs.Common.{◌<◌, length, sym, ap, ◌∙◌, arith}
 use Rattle.std.proofs.lemmas.List.{length-map}
-use Rattle.turn_tables.specs.Due.{building_in, due_in}
+use Rattle.turn_tables.specs.inner.Due.{building_in, due_in}
 use Rattle.audit_dues.proofs.NextLaws.{builder_keeps, built_is, cpu_keeps, next_is}
 use Rattle.audit_dues.proofs.script.keeps_script.Goals as goal
 

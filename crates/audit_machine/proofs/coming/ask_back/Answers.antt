@@ -1,7 +1,7 @@
 use Rattle.std.proofs.Common.{IfOk, sym, subst, ◌∙◌}
 use Rattle.sgx_rules.specs.declared.entries.Entry.{Entry}
-use Rattle.paging_machine.specs.Parts.{state_of}
-use Rattle.audit_machine.specs.Asked.{TakesBack}
+use Rattle.paging_machine.specs.inner.Parts.{state_of}
+use Rattle.audit_machine.specs.inner.Asked.{TakesBack}
 use Rattle.audit_machine.proofs.ComeLaws.{none_comes, refused_entry}
 use Rattle.audit_machine.proofs.coming.ask_back.Goals as goal
 

@@ -1,7 +1,7 @@
 use Rattle.std.proofs.Common.{refl, sym, ap, ◌≡◌, ◌∙◌}
 use Rattle.sgx_types.specs.declared.record.Header.{Header}
 use Rattle.sgx_types.specs.Sealed.{Sealed}
-use Rattle.audit_machine.specs.Asked.{is_unfit, other_number}
+use Rattle.audit_machine.specs.inner.Asked.{is_unfit, other_number}
 use Rattle.audit_machine.proofs.ComeLaws.{reason_fits, turned_away}
 use Rattle.audit_machine.proofs.coming.refuse.Goals as goal
 

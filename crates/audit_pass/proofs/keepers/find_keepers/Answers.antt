@@ -1,9 +1,9 @@
 use Rattle.std.proofs.Common.{ℕ, ◌≡◌, Bool, List, [], ◌∷◌, ◌++◌, length, refl, subst, sym, ◌<◌, ◌∙◌, arith}
 use Rattle.std.proofs.Common.{rules}
-use Rattle.paging_machine.specs.Parts.{cpu_at}
+use Rattle.paging_machine.specs.inner.Parts.{cpu_at}
 use Rattle.std.proofs.lemmas.List.{length-append}
 use Rattle.sgx_types.specs.declared.names.Cpu.{Cpu}
-use Rattle.audit_pass.specs.Keeping.{is_older, keepers_by}
+use Rattle.audit_pass.specs.inner.Keeping.{is_older, keepers_by}
 use Rattle.audit_pass.proofs.KeeperLaws.{found_more, found_same}
 use Rattle.audit_pass.proofs.keepers.find_keepers.Goals as goal
 use Rattle.audit_pass.proofs.keepers.find_keepers.Goals.{then-is_older, else-is_older}

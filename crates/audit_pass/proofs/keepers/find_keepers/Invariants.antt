@@ -1,7 +1,7 @@
 use Rattle.std.proofs.Common.{◌≡◌, ◌-◌, ◌≤◌, ◌++◌, length, vec_capacity}
-use Rattle.paging_machine.specs.Parts.{cpu_at}
-use Rattle.audit_pass.specs.Keeping.{is_older, keepers_by, passing_from}
-use Rattle.audit_pass.specs.Viewed.{numbers_in}
+use Rattle.paging_machine.specs.inner.Parts.{cpu_at}
+use Rattle.audit_pass.specs.inner.Keeping.{is_older, keepers_by, passing_from}
+use Rattle.audit_pass.specs.inner.Viewed.{numbers_in}
 use Rattle.audit_pass.proofs.keepers.find_keepers.Given as goal
 
 abbrev pub invariant-loop-number : goal.invariant-loop-number

@@ -1,6 +1,6 @@
 use Rattle.std.proofs.Common.{ℕ, length, subst, sym, ◌<◌, ◌∙◌}
-use Rattle.paging_machine.specs.Parts.{cpu_at}
-use Rattle.audit_pass.specs.Keeping.{is_older}
+use Rattle.paging_machine.specs.inner.Parts.{cpu_at}
+use Rattle.audit_pass.specs.inner.Keeping.{is_older}
 use Rattle.audit_pass.proofs.KeeperLaws.{next_fails}
 use Rattle.audit_pass.proofs.keepers.first_keeper.Goals as goal
 

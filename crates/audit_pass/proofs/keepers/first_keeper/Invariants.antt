@@ -1,6 +1,6 @@
 use Rattle.std.proofs.Common.{◌≡◌, ◌-◌, length}
-use Rattle.paging_machine.specs.Parts.{cpu_at}
-use Rattle.audit_pass.specs.Keeping.{is_older, keepers_by, passing_from}
+use Rattle.paging_machine.specs.inner.Parts.{cpu_at}
+use Rattle.audit_pass.specs.inner.Keeping.{is_older, keepers_by, passing_from}
 use Rattle.audit_pass.proofs.keepers.first_keeper.Given as goal
 
 abbrev pub invariant-loop-number : goal.invariant-loop-number

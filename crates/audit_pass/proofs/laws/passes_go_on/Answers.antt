@@ -1,6 +1,6 @@
 use Rattle.std.proofs.Common.{◌∷◌, subst}
-use Rattle.audit_pass.specs.Noted.{decided, gone_by}
-use Rattle.audit_pass.specs.Standing.{StandsAt}
+use Rattle.audit_pass.specs.inner.Noted.{decided, gone_by}
+use Rattle.audit_pass.specs.inner.Standing.{StandsAt}
 use Rattle.audit_pass.proofs.NoteLaws.{entry_goes}
 use Rattle.audit_pass.proofs.laws.passes_go_on.Goals as goal
 

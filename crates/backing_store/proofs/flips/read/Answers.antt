@@ -1,6 +1,6 @@
 use Rattle.std.proofs.Common.{◌<◌, ℕ, get_or, sym, arith}
 use Rattle.sgx_types.proofs.Records.{record_bytes-record_in}
-use Rattle.backing_store.specs.Flips.{record_in}
+use Rattle.backing_store.specs.inner.Flips.{record_in}
 use Rattle.backing_store.proofs.Flipped.{record_in-sizes}
 use Rattle.backing_store.proofs.flips.read.Goals as goal
 

@@ -1,5 +1,5 @@
 use Rattle.std.proofs.Common.{◌≡◌, drop}
-use Rattle.backing_store.specs.Store.{flips, first_of}
+use Rattle.backing_store.specs.inner.Store.{flips, first_of}
 use Rattle.backing_store.proofs.plan_rules.bit_flipped.Given as goal
 
 -- no line so far says anything

@@ -1,5 +1,5 @@
 use Rattle.std.proofs.Common.{◌≡◌, drop}
-use Rattle.backing_store.specs.Store.{replays, first_of}
+use Rattle.backing_store.specs.inner.Store.{replays, first_of}
 use Rattle.backing_store.proofs.plan_rules.replayed.Given as goal
 
 -- no line so far says anything

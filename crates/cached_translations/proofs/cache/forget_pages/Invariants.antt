@@ -1,4 +1,4 @@
-use Rattle.cached_translations.specs.Index.{IsIndexOnly}
+use Rattle.cached_translations.specs.inner.Index.{IsIndexOnly}
 use Rattle.cached_translations.proofs.cache.forget_pages.Given as goal
 
 -- the table leads from no page of the places up to here

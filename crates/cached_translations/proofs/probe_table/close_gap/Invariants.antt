@@ -1,6 +1,6 @@
 use Rattle.std.proofs.Common.{◌≡◌, ◌<◌, ◌≤◌, ◌+◌, ℕ, None}
 use Rattle.std.specs.Prelude.{IsPermutation}
-use Rattle.cached_translations.specs.Probe.{IsGapped, slot_at}
+use Rattle.cached_translations.specs.inner.Probe.{IsGapped, slot_at}
 use Rattle.cached_translations.proofs.probe_table.close_gap.Given as goal
 
 -- the table has the gap alone, and a free place is still ahead

@@ -1,5 +1,5 @@
 use Rattle.std.proofs.Common.{◌≡◌, sym, ◌∙◌, true, is_some, ◌+◌}
-use Rattle.cached_translations.specs.Probe.{slot_at}
+use Rattle.cached_translations.specs.inner.Probe.{slot_at}
 use Rattle.cached_translations.proofs.ProbeLaws.{still_few, taken_more}
 use Rattle.cached_translations.proofs.probe_table.free_slot.Goals as goal
 

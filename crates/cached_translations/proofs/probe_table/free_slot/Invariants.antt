@@ -1,5 +1,5 @@
 use Rattle.std.proofs.Common.{◌≡◌, ◌<◌, ◌+◌, ◌-◌, ℕ, true, is_some}
-use Rattle.cached_translations.specs.Probe.{slot_at}
+use Rattle.cached_translations.specs.inner.Probe.{slot_at}
 use Rattle.cached_translations.proofs.probe_table.free_slot.Given as goal
 
 -- each place up to here is in use

@@ -1,6 +1,6 @@
 use Rattle.std.proofs.Common.{◌≡◌, ◌<◌, ◌+◌, ℕ, Some}
 use Rattle.cached_translations.specs.declared.probe_table.Slot.{Slot}
-use Rattle.cached_translations.specs.Probe.{slot_at}
+use Rattle.cached_translations.specs.inner.Probe.{slot_at}
 use Rattle.cached_translations.proofs.probe_table.slot_of.Given as goal
 
 -- no place up to here is the page's

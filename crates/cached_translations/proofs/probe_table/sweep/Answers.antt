@@ -1,5 +1,5 @@
 use Rattle.std.proofs.Common.{◌≡◌, ◌+◌, None, not, arith, ap, ◌∙◌}
-use Rattle.cached_translations.specs.Probe.{slot_at}
+use Rattle.cached_translations.specs.inner.Probe.{slot_at}
 use Rattle.cached_translations.proofs.ProbeLaws.{none_from_test}
 use Rattle.cached_translations.proofs.ProbeSweep.{sweep_none, sweep_more, fewer_more, swept_probed, swept_gone}
 use Rattle.cached_translations.proofs.probe_table.sweep.Goals as goal

@@ -1,5 +1,5 @@
 use Rattle.std.proofs.Common.{ℕ}
-use Rattle.cached_translations.specs.Probe.{IsSwept, Leads}
+use Rattle.cached_translations.specs.inner.Probe.{IsSwept, Leads}
 use Rattle.cached_translations.proofs.probe_table.sweep.Given as goal
 
 -- the places up to here are free, and no page came

@@ -1,5 +1,5 @@
 use Rattle.std.proofs.Common.{take}
-use Rattle.crew.specs.Tallies.{IsTally}
+use Rattle.crew.specs.inner.Tallies.{IsTally}
 use Rattle.crew.proofs.tally.count.Given as goal
 
 abbrev pub invariant-loop-entry : goal.invariant-loop-entry

@@ -1,6 +1,6 @@
 use Rattle.std.proofs.Common.{◌≡◌, ◌≤◌, length, map, take}
-use Rattle.job_grammar.specs.Jobs.{enclave_view}
-use Rattle.driver_tables.specs.Counts.{enclave_places}
+use Rattle.job_grammar.specs.inner.Jobs.{enclave_view}
+use Rattle.driver_tables.specs.inner.Counts.{enclave_places}
 use Rattle.driver_tables.proofs.counts.page_counts.Given as goal
 
 abbrev pub invariant-loop-enclave : goal.invariant-loop-enclave

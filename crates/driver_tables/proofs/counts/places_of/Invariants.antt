@@ -1,5 +1,5 @@
 use Rattle.std.proofs.Common.{◌≡◌, take}
-use Rattle.driver_tables.specs.Counts.{last_end}
+use Rattle.driver_tables.specs.inner.Counts.{last_end}
 use Rattle.driver_tables.proofs.counts.places_of.Given as goal
 
 abbrev pub invariant-loop-line : goal.invariant-loop-line

@@ -1,5 +1,5 @@
 use Rattle.std.proofs.Common.{◌≡◌, ◌≤◌, reverse, take}
-use Rattle.backing_store.specs.Store.{spare_of}
+use Rattle.backing_store.specs.inner.Store.{spare_of}
 use Rattle.driver_tests.proofs.checks.has_place.Given as goal
 
 abbrev pub invariant-loop-call : goal.invariant-loop-call

@@ -1,5 +1,5 @@
 use Rattle.std.proofs.Common.{sym, ◌∙◌, rules}
-use Rattle.active_list.specs.Places.{IsPlaced}
+use Rattle.active_list.specs.inner.Places.{IsPlaced}
 use Rattle.driver_tests.proofs.LoadLaws.{loading_by}
 use Rattle.driver_tests.proofs.checks.loading.Goals as goal
 

@@ -1,5 +1,5 @@
 use Rattle.std.proofs.Common.{take}
-use Rattle.driver_tests.specs.Stays.{IsWithout}
+use Rattle.driver_tests.specs.inner.Stays.{IsWithout}
 use Rattle.driver_tests.proofs.checks.without.Given as goal
 
 abbrev pub invariant-loop-other : goal.invariant-loop-other

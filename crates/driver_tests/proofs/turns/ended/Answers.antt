@@ -1,6 +1,6 @@
 use Rattle.std.proofs.Common.{subst}
-use Rattle.paging_machine.specs.Parts.{state_of}
-use Rattle.driver_tests.specs.Stays.{KeepsOthers}
+use Rattle.paging_machine.specs.inner.Parts.{state_of}
+use Rattle.driver_tests.specs.inner.Stays.{KeepsOthers}
 use Rattle.driver_tests.proofs.StayLaws.{leaves_finished}
 use Rattle.driver_tests.proofs.turns.ended.Goals as goal
 

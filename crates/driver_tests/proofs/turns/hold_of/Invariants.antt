@@ -1,5 +1,5 @@
 use Rattle.std.proofs.Common.{◌≡◌, ◌≤◌, length}
-use Rattle.active_list.specs.Holds.{holder_of, own_of}
+use Rattle.active_list.specs.inner.Holds.{holder_of, own_of}
 use Rattle.driver_tests.proofs.turns.hold_of.Given as goal
 
 abbrev pub invariant-loop-page : goal.invariant-loop-page

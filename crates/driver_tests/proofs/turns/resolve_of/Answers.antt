@@ -1,4 +1,4 @@
-use Rattle.active_list.specs.States.{state_of as page_state}
+use Rattle.active_list.specs.inner.States.{state_of as page_state}
 use Rattle.driver_tests.proofs.StayLaws.{rests_fault}
 use Rattle.driver_tests.proofs.turns.resolve_of.Goals as goal
 

@@ -1,4 +1,4 @@
-use Rattle.paging_machine.specs.Parts.{state_of}
+use Rattle.paging_machine.specs.inner.Parts.{state_of}
 use Rattle.driver_tests.proofs.StayLaws.{rests_stored}
 use Rattle.driver_tests.proofs.turns.stored_of.Goals as goal
 

@@ -1,7 +1,7 @@
 use Rattle.std.proofs.Common.{refl}
 use lib.Count.{ones}
 use Rattle.sgx_types.specs.Counts.{any_below, count_below}
-use Rattle.driver_traces.specs.SpentTrace.{spent_job, spent_trace}
+use Rattle.driver_traces.specs.inner.SpentTrace.{spent_job, spent_trace}
 use Rattle.driver_traces.proofs.FaultLaws.{whole_history}
 use Rattle.driver_traces.proofs.whole_traces.a_run_that_ends_at_the_last_epoch_is_a_history.Goals as goal
 

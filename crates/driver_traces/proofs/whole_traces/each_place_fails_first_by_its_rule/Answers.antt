@@ -3,9 +3,9 @@ use lib.Count.{ones}
 use Rattle.sgx_types.specs.declared.names.Actor.TheVariants.{Builder, Reclaimer}
 use Rattle.sgx_types.specs.Counts.{any_below, count_below}
 use Rattle.run_history.specs.declared.rules.Rule.TheVariants as rules
-use Rattle.driver_traces.specs.Faults.{first_of}
-use Rattle.driver_traces.specs.KickTrace.{kick_job, kick_trace}
-use Rattle.driver_traces.specs.Words.{block, init, kick}
+use Rattle.driver_traces.specs.inner.Faults.{first_of}
+use Rattle.driver_traces.specs.inner.KickTrace.{kick_job, kick_trace}
+use Rattle.driver_traces.specs.inner.Words.{block, init, kick}
 use Rattle.driver_traces.proofs.FaultLaws.{fails_at_last}
 use Rattle.driver_traces.proofs.whole_traces.each_place_fails_first_by_its_rule.Goals as goal
 

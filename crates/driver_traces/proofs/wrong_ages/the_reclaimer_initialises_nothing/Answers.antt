@@ -1,8 +1,8 @@
 use Rattle.std.proofs.Common.{refl}
 use lib.Count.{ones}
 use Rattle.sgx_types.specs.declared.names.Actor.TheVariants.{Reclaimer}
-use Rattle.driver_traces.specs.Faults.{first_of}
-use Rattle.driver_traces.specs.MeasuredTrace.{measured_job, measured_trace}
+use Rattle.driver_traces.specs.inner.Faults.{first_of}
+use Rattle.driver_traces.specs.inner.MeasuredTrace.{measured_job, measured_trace}
 use Rattle.driver_traces.proofs.FaultLaws.{init_breaks_age}
 use Rattle.driver_traces.proofs.wrong_ages.the_reclaimer_initialises_nothing.Goals as goal
 

@@ -1,5 +1,5 @@
 use Rattle.std.proofs.Common.{◌<◌, ap, ◌∙◌, ◌*◌, ◌^◌, length, length-set, replicate, set}
-use Rattle.epcm_entry.specs.Epc.{with_word}
+use Rattle.epcm_entry.specs.inner.Epc.{with_word}
 use Rattle.enclave_build.proofs.Writes.{word_written}
 use Rattle.enclave_build.proofs.add.put_page.Goals as goal
 

@@ -1,7 +1,7 @@
 use Rattle.std.proofs.Common.{◌≡◌, Ok, sym, ◌∙◌}
-use Rattle.epcm_entry.specs.EntryView.{claim_answer}
-use Rattle.epcm_entry.specs.Epc.{entry_at}
-use Rattle.evict_reload.specs.Sights.{enclave_sight, is_added, slot_sight}
+use Rattle.epcm_entry.specs.inner.EntryView.{claim_answer}
+use Rattle.epcm_entry.specs.inner.Epc.{entry_at}
+use Rattle.evict_reload.specs.inner.Sights.{enclave_sight, is_added, slot_sight}
 use Rattle.evict_reload.proofs.StartLaws.{loads}
 use Rattle.evict_reload.proofs.reload.eld_start.Goals as goal
 

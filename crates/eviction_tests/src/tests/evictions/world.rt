@@ -2,9 +2,9 @@
 
 ghost use Rattle.std.specs.Prelude.{◌≡◌, ◌<◌, true, IsTrue, IfSome, length};
 ghost use Rattle.sgx_types.specs.declared.names.Kind.TheVariants as kinds;
-ghost use Rattle.epcm_entry.specs.Sights.{sight_in};
-ghost use Rattle.version_array.specs.Slots.{IsSlot};
-ghost use Rattle.evict_reload.specs.Sights.{AreVaPages, IsNumbered, added_in, is_added};
+ghost use Rattle.epcm_entry.specs.inner.Sights.{sight_in};
+ghost use Rattle.version_array.specs.inner.Slots.{IsSlot};
+ghost use Rattle.evict_reload.specs.inner.Sights.{AreVaPages, IsNumbered, added_in, is_added};
 
 use super::super::perms::{NONE, READ_WRITE};
 use super::rows::{Row, Step, Told};

@@ -1,8 +1,8 @@
 use Rattle.std.proofs.Common.{sym, subst, ◌∙◌, rules}
 use Rattle.sgx_types.specs.declared.names.Actor.TheVariants as actors
-use Rattle.paging_machine.specs.Parts.{state_of}
-use Rattle.paging_laws.specs.Steps.{IsReloaded}
-use Rattle.fault_handler.specs.Finishing.{CarriesLoad}
+use Rattle.paging_machine.specs.inner.Parts.{state_of}
+use Rattle.paging_laws.specs.inner.Steps.{IsReloaded}
+use Rattle.fault_handler.specs.inner.Finishing.{CarriesLoad}
 use Rattle.fault_handler.proofs.FinishLaws.{finished_as}
 use Rattle.fault_handler.proofs.finishing.finish_by.Goals as goal
 

@@ -1,5 +1,5 @@
 use Rattle.std.proofs.Common.{rules, subst}
-use Rattle.fault_handler.specs.Resolving.{TellsFault}
+use Rattle.fault_handler.specs.inner.Resolving.{TellsFault}
 use Rattle.fault_handler.proofs.resolving.fetch.Goals as goal
 
 pub returns-in-Ok-Some-clause-cause : goal.returns-in-Ok-Some-clause-cause

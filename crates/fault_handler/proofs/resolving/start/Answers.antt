@@ -1,6 +1,6 @@
 use Rattle.std.proofs.Common.{ap, sym, ◌∙◌, rules}
 use Rattle.seal_record.specs.declared.unseal.UnsealWork.{UnsealWork}
-use Rattle.paging_machine.specs.Parts.{state_of}
+use Rattle.paging_machine.specs.inner.Parts.{state_of}
 use Rattle.sgx_types.specs.declared.names.Actor.TheVariants as actors
 use Rattle.fault_handler.proofs.StartLaws.{says_refused, says_started, start_loads}
 use Rattle.fault_handler.proofs.resolving.start.Goals as goal

@@ -2,7 +2,7 @@
 
 ghost use Rattle.std.specs.Prelude.{◌≡◌, IsTrue, true};
 ghost use Rattle.sgx_rules.specs.Flat.{is_visible};
-ghost use Rattle.flat_machine.specs.Step.{IsItsActor};
+ghost use Rattle.flat_machine.specs.inner.Step.{IsItsActor};
 
 use super::rows::{BUILDER, Instruction, PLAIN, READ_WRITE, Row};
 use flat_machine::flat::Flat;

@@ -1,4 +1,4 @@
-use Rattle.frame_gate.specs.Rounds.{HasEntered}
+use Rattle.frame_gate.specs.inner.Rounds.{HasEntered}
 use Rattle.frame_gate.proofs.rounds.proc_rounds.Given as goal
 
 abbrev pub invariant-loop-round : goal.invariant-loop-round

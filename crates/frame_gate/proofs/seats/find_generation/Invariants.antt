@@ -1,5 +1,5 @@
 use Rattle.std.proofs.Common.{◌≡◌, drop}
-use Rattle.frame_gate.specs.Views.{generation_of}
+use Rattle.frame_gate.specs.inner.Views.{generation_of}
 use Rattle.frame_gate.proofs.seats.find_generation.Given as goal
 
 abbrev pub invariant-loop-pair : goal.invariant-loop-pair

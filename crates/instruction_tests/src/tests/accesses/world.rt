@@ -1,7 +1,7 @@
 //! An EPC and a processor, and how a table is played on them.
 
 ghost use Rattle.std.specs.Prelude.{length};
-ghost use Rattle.enclave_access.specs.Access.{LeadsBelow};
+ghost use Rattle.enclave_access.specs.inner.Access.{LeadsBelow};
 
 use super::rows::{Row, Step, Told};
 use cached_translations::processor::{Mode, Processor};

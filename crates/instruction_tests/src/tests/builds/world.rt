@@ -2,7 +2,7 @@
 
 ghost use Rattle.std.specs.Prelude.{◌≡◌, IsTrue, IfSome};
 ghost use Rattle.sgx_rules.specs.Frames.{enclave_in};
-ghost use Rattle.epcm_entry.specs.Sights.{sight_in};
+ghost use Rattle.epcm_entry.specs.inner.Sights.{sight_in};
 
 use super::rows::{Row, Step, Told};
 use enclave_build::add::eadd;

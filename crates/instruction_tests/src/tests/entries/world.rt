@@ -1,8 +1,8 @@
 //! An EPC, an enclave and a processor, and how a table is played on them.
 
 ghost use Rattle.std.specs.Prelude.{◌<◌, IsTrue, length};
-ghost use Rattle.epcm_entry.specs.Sights.{sight_in};
-ghost use Rattle.entry_exit.specs.Entry.{IsAdded, IsItsEnclave, HasItsTcs, CountsIt, HasItsFrames};
+ghost use Rattle.epcm_entry.specs.inner.Sights.{sight_in};
+ghost use Rattle.entry_exit.specs.inner.Entry.{IsAdded, IsItsEnclave, HasItsTcs, CountsIt, HasItsFrames};
 
 use super::super::perms::NONE;
 use super::rows::{Row, Step, Told, Way};

@@ -1,5 +1,5 @@
 use Rattle.std.proofs.Common.{◌≤◌, ◌+◌, ◌-◌, vec_len}
-use Rattle.io_edges.specs.Sources.{HasRead}
+use Rattle.io_edges.specs.inner.Sources.{HasRead}
 use Rattle.io_edges.proofs.reading.read_all.Given as goal
 
 abbrev pub invariant-loop-piece : goal.invariant-loop-piece

@@ -1,6 +1,6 @@
 use Rattle.std.proofs.Common.{sym, subst, ◌∙◌, arith}
 use Rattle.job_grammar.specs.Jobs.{JobView}
-use Rattle.job_grammar.specs.Valid.{IsValid}
+use Rattle.job_grammar.specs.inner.Valid.{IsValid}
 use Rattle.job_make.proofs.ValidJobs.{made_valid, parts_made, single_made}
 use Rattle.job_make.proofs.maker.make_job.Goals as goal
 

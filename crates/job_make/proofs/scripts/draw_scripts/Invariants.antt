@@ -1,5 +1,5 @@
 use Rattle.std.proofs.Common.{◌≡◌, ◌-◌, ◌++◌}
-use Rattle.job_grammar.specs.Jobs.{script_ops}
+use Rattle.job_grammar.specs.inner.Jobs.{script_ops}
 use Rattle.job_make.specs.MadeOps.{made_scripts}
 use Rattle.job_make.proofs.scripts.draw_scripts.Given as goal
 

@@ -1,5 +1,5 @@
 use Rattle.std.proofs.Common.{ℕ, List, ◌++◌, ap, ◌∙◌, arith}
-use Rattle.job_grammar.specs.Jobs.{enclave_view}
+use Rattle.job_grammar.specs.inner.Jobs.{enclave_view}
 use Rattle.job_print.specs.JobText.{enclave_says, statements_text}
 use Rattle.job_print.proofs.TextLaws.{numbered_more}
 use Rattle.job_print.proofs.printer.push_enclaves.Goals as goal

@@ -1,5 +1,5 @@
 use Rattle.std.proofs.Common.{◌≡◌, ◌+◌, ◌++◌, map, take}
-use Rattle.job_grammar.specs.Jobs.{enclave_view}
+use Rattle.job_grammar.specs.inner.Jobs.{enclave_view}
 use Rattle.job_print.specs.JobText.{enclave_says, numbered, statements_text}
 use Rattle.job_print.proofs.printer.push_enclaves.Given as goal
 

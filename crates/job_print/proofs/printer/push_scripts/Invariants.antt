@@ -1,5 +1,5 @@
 use Rattle.std.proofs.Common.{◌≡◌, ◌+◌, ◌++◌, take}
-use Rattle.job_grammar.specs.Jobs.{script_ops}
+use Rattle.job_grammar.specs.inner.Jobs.{script_ops}
 use Rattle.job_print.specs.JobText.{numbered, script_says, statements_text}
 use Rattle.job_print.proofs.printer.push_scripts.Given as goal
 

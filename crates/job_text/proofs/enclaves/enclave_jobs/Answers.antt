@@ -3,7 +3,8 @@ use Rattle.std.proofs.lemmas.Iterator.{YieldsList-from_map_by}
 use Rattle.std.proofs.lemmas.Iterator.Adapters.{YieldsList-from_vec}
 use Rattle.std.proofs.lemmas.Iterator.Consumers.{YieldsList-at, map_from_collect}
 use Rattle.std.proofs.lemmas.List.{map-id}
-use Rattle.job_grammar.specs.Jobs.{EnclaveView, enclave_view}
+use Rattle.job_grammar.specs.Jobs.{EnclaveView}
+use Rattle.job_grammar.specs.inner.Jobs.{enclave_view}
 use Rattle.job_text.proofs.enclaves.enclave_jobs.Goals as goal
 
 pub returns : goal.returns

@@ -1,7 +1,7 @@
 use Rattle.std.proofs.Common.{List, map, None, ap, reverse, take}
 use Rattle.std.proofs.lemmas.List.{get_or-replicate}
 use Rattle.sgx_rules.specs.declared.entries.Entry.{Entry}
-use Rattle.least_command.specs.Kept.{page_of}
+use Rattle.least_command.specs.inner.Kept.{page_of}
 use Rattle.least_command.proofs.InsideLaws.{accesses_more, inside_more}
 use Rattle.least_command.proofs.accesses.accesses_of.Goals as goal
 

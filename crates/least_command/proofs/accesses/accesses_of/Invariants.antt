@@ -1,6 +1,6 @@
 use Rattle.std.proofs.Common.{◌≡◌, map, reverse, take}
 use Rattle.least_command.specs.Accesses.{accesses_of}
-use Rattle.least_command.specs.Kept.{AreInside, page_of}
+use Rattle.least_command.specs.inner.Kept.{AreInside, page_of}
 use Rattle.least_command.proofs.accesses.accesses_of.Given as goal
 
 abbrev pub invariant-loop-entry : goal.invariant-loop-entry

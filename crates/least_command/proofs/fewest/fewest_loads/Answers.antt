@@ -2,7 +2,7 @@ use Rattle.std.proofs.Common.{◌≡◌, List, map, subst, sym, ap, ◌∙◌, a
 use Rattle.least_reloads.specs.Plans.{PlanView}
 use Rattle.sgx_types.specs.declared.names.Page.{Page}
 use Rattle.least_command.specs.Fewest.{IsFewest}
-use Rattle.least_command.specs.Kept.{page_of}
+use Rattle.least_command.specs.inner.Kept.{page_of}
 use Rattle.least_command.proofs.RenamingLaws.{fewest_named}
 use Rattle.least_command.proofs.fewest.fewest_loads.Goals as goal
 

@@ -3,8 +3,8 @@ use Rattle.std.specs.HashMap.{get, hash_map_len}
 use Rattle.std.specs.Option.{is_some}
 use Rattle.sgx_types.specs.declared.names.Page.{Page}
 use Rattle.sgx_types.specs.Pages.{same_page}
-use Rattle.least_command.specs.Kept.{page_of, same_access}
-use Rattle.least_command.specs.Naming.{AreNamed, access_of, name}
+use Rattle.least_command.specs.inner.Kept.{page_of, same_access}
+use Rattle.least_command.specs.inner.Naming.{AreNamed, access_of, name}
 use Rattle.least_command.proofs.NamingLaws.{found_named, new_named}
 use Rattle.least_command.proofs.fewest.name_of.Goals as goal
 

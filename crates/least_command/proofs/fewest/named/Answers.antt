@@ -3,8 +3,8 @@ use Rattle.std.proofs.lemmas.List.{take_all}
 use Rattle.std.specs.HashMap.{get, hash_map_len}
 use Rattle.std.specs.Map.{lookup}
 use Rattle.least_command.specs.declared.accesses.Access.{Access}
-use Rattle.least_command.specs.Kept.{page_of, same_access}
-use Rattle.least_command.specs.Naming.{access_of, name}
+use Rattle.least_command.specs.inner.Kept.{page_of, same_access}
+use Rattle.least_command.specs.inner.Naming.{access_of, name}
 use Rattle.least_command.proofs.NamingLaws.{named_along, none_named, pages_more}
 use Rattle.least_command.proofs.fewest.named.Goals as goal
 

@@ -1,7 +1,7 @@
 use Rattle.std.proofs.Common.{map, take}
 use Rattle.std.specs.HashMap.{get, hash_map_len}
-use Rattle.least_command.specs.Kept.{page_of, same_access}
-use Rattle.least_command.specs.Naming.{AreNamed, access_of}
+use Rattle.least_command.specs.inner.Kept.{page_of, same_access}
+use Rattle.least_command.specs.inner.Naming.{AreNamed, access_of}
 use Rattle.least_command.proofs.fewest.named.Given as goal
 
 abbrev pub invariant-loop-access : goal.invariant-loop-access

@@ -1,6 +1,6 @@
 use Rattle.std.proofs.Common.{◌≡◌, ◌≤◌, reverse, take}
 use Rattle.least_command.specs.Accesses.{made}
-use Rattle.least_command.specs.Reloads.{AreRegs}
+use Rattle.least_command.specs.inner.Reloads.{AreRegs}
 use Rattle.least_command.proofs.reloads.made.Given as goal
 
 abbrev pub invariant-loop-entry : goal.invariant-loop-entry

@@ -2,7 +2,7 @@ use Rattle.std.proofs.Common.{◌≡◌, ℕ, sym, ap, subst, ◌∙◌, ◌∷�
 use Rattle.std.specs.Ordering.{nat_cmp}
 use Rattle.std.specs.BTreeMap.{get, btree_map_len}
 use Rattle.least_reloads.specs.Plans.{StepView}
-use Rattle.least_reloads.specs.Farthest.{Chosen}
+use Rattle.least_reloads.specs.inner.Farthest.{Chosen}
 use Rattle.least_reloads.proofs.ChooseLaws.{chosen_hit, chosen_fill, chosen_swap, same_step}
 use Rattle.least_reloads.proofs.ChooseLaws.{some_of, none_of, unchanged_of, missed_as, is_there, le_of}
 use Rattle.least_reloads.proofs.farthest.choose.Goals as goal

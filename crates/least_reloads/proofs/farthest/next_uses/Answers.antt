@@ -1,7 +1,7 @@
 use Rattle.std.proofs.Common.{◌+◌, ◌-◌, ℕ, ap, ◌∙◌, length, cond, Some, unwrap_or, arith}
 use Rattle.std.proofs.lemmas.List.{length-set}
 use Rattle.std.specs.HashMap.{get}
-use Rattle.least_reloads.specs.Keys.{same_key, key_of}
+use Rattle.least_reloads.specs.inner.Keys.{same_key, key_of}
 use Rattle.least_reloads.proofs.UseLaws.{UsesFrom, uses_step}
 use Rattle.least_reloads.proofs.farthest.next_uses.Goals as goal
 

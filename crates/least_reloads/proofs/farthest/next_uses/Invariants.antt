@@ -1,8 +1,8 @@
 use Rattle.std.proofs.Common.{◌≡◌, length, drop, slice_index}
 use Rattle.std.specs.HashMap.{get}
 use Rattle.sgx_types.specs.declared.names.Page.{Page}
-use Rattle.least_reloads.specs.Keys.{same_key, key_of}
-use Rattle.least_reloads.specs.Farthest.{AreUses}
+use Rattle.least_reloads.specs.inner.Keys.{same_key, key_of}
+use Rattle.least_reloads.specs.inner.Farthest.{AreUses}
 use Rattle.least_reloads.proofs.UseLaws.{first_at}
 use Rattle.least_reloads.proofs.farthest.next_uses.Given as goal
 

@@ -3,7 +3,7 @@ use Rattle.std.proofs.Common.{Some, is_some, cond, length, drop, get_or, slice_i
 use Rattle.std.proofs.lemmas.Grind.{get_or_default_zero}
 use Rattle.least_reloads.specs.Plans.{StepView, PlanView}
 use Rattle.sgx_types.specs.declared.names.Page.{Page}
-use Rattle.least_reloads.specs.Farthest.{Holds, Keeps, Chosen, IsUseAt, AreUses}
+use Rattle.least_reloads.specs.inner.Farthest.{Holds, Keeps, Chosen, IsUseAt, AreUses}
 use Rattle.least_reloads.proofs.KeepLaws.{Changes}
 use Rattle.least_reloads.proofs.ChooseLaws.{at}
 use Rattle.least_reloads.proofs.PlanLaws.{MadeSoFar, made_none, made_more, made_all}

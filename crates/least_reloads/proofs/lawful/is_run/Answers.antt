@@ -2,7 +2,7 @@ use Rattle.std.proofs.Common.{get_or, subst, arith}
 use Rattle.std.proofs.lemmas.Bool.{MatchBool-at_true}
 use Rattle.sgx_types.specs.declared.names.Page.{Page}
 use Rattle.least_reloads.specs.Plans.{StepView, IsStep, after}
-use Rattle.least_reloads.specs.Sets.{AreOf}
+use Rattle.least_reloads.specs.inner.Sets.{AreOf}
 use Rattle.least_reloads.proofs.RunLaws.{run_none, run_more}
 use Rattle.least_reloads.proofs.lawful.is_run.Goals as goal
 

@@ -1,5 +1,5 @@
 use Rattle.std.proofs.Common.{take}
-use Rattle.least_reloads.specs.Sets.{CanLeave, Leave}
+use Rattle.least_reloads.specs.inner.Sets.{CanLeave, Leave}
 use Rattle.least_reloads.proofs.lawful.leave.Given as goal
 
 abbrev pub invariant-loop-page : goal.invariant-loop-page

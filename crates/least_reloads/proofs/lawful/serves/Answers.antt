@@ -2,7 +2,7 @@ use Rattle.std.proofs.Common.{◌≡◌, ◌∙◌, sym, ap, subst, List, arith}
 use Rattle.std.proofs.lemmas.Bool.{MatchBool-at_true, MatchBool-at_false}
 use Rattle.sgx_types.specs.declared.names.Page.{Page}
 use Rattle.least_reloads.specs.Plans.{StepView}
-use Rattle.least_reloads.specs.Sets.{CanLeave, CanJoin, Leave, Join}
+use Rattle.least_reloads.specs.inner.Sets.{CanLeave, CanJoin, Leave, Join}
 use Rattle.least_reloads.proofs.RunLaws.{step_leaves, step_joins, step_served, step_too_large}
 use Rattle.least_reloads.proofs.lawful.serves.Goals as goal
 

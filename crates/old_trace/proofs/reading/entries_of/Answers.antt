@@ -1,6 +1,6 @@
 use Rattle.std.proofs.Common.{◌≡◌, ℕ, Err, inr, subst}
 use Rattle.trace_reader.specs.Faults.{IsFirstFault}
-use Rattle.trace_reader.specs.Outcomes.{Finishes}
+use Rattle.trace_reader.specs.inner.Outcomes.{Finishes}
 use Rattle.trace_reader.specs.declared.refusals.TraceRefusal.TheVariants.{Fault}
 use Rattle.old_trace.proofs.SeenLaws.{told_at_end}
 use Rattle.old_trace.proofs.reading.entries_of.Goals as goal

@@ -1,6 +1,6 @@
 use Rattle.std.proofs.Common.{◌≡◌, ◌≤◌, ◌+◌, ◌-◌, ◌^◌, ℕ, List, length}
-use Rattle.io_edges.specs.Sources.{HasRead}
-use Rattle.old_trace.specs.Seen.{HasSeen}
+use Rattle.io_edges.specs.inner.Sources.{HasRead}
+use Rattle.old_trace.specs.inner.Seen.{HasSeen}
 use Rattle.old_trace.proofs.reading.read_old.Given as goal
 
 abbrev pub invariant-loop-count : goal.invariant-loop-count

@@ -1,5 +1,5 @@
 use Rattle.std.proofs.Common.{◌≡◌, replicate}
-use Rattle.paging_machine.specs.Parts.{idle}
+use Rattle.paging_machine.specs.inner.Parts.{idle}
 use Rattle.paging_machine.proofs.making.idle_processors.Given as goal
 
 abbrev pub invariant-loop : goal.invariant-loop

@@ -1,6 +1,6 @@
 use Rattle.std.proofs.Common.{ap}
 use Rattle.driver_laws.proofs.BuiltLaws.{not_all_out}
-use Rattle.driver_laws.specs.Sound.{is_absent}
+use Rattle.driver_laws.specs.inner.Sound.{is_absent}
 use Rattle.reclaim_worker.proofs.laws.a_slot_is_left_for_a_try.Goals as goal
 
 pub returns : goal.returns

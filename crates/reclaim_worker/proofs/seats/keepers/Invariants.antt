@@ -1,7 +1,7 @@
 use Rattle.std.proofs.Common.{◌≡◌, ◌<◌, ◌-◌, ◌^◌}
-use Rattle.paging_machine.specs.Parts.{cpu_at}
-use Rattle.reclaim_worker.specs.Answers.{bits_from}
-use Rattle.reclaim_worker.specs.Tried.{is_kept_by}
+use Rattle.paging_machine.specs.inner.Parts.{cpu_at}
+use Rattle.reclaim_worker.specs.inner.Answers.{bits_from}
+use Rattle.reclaim_worker.specs.inner.Tried.{is_kept_by}
 use Rattle.reclaim_worker.proofs.seats.keepers.Given as goal
 
 abbrev pub invariant-loop-back : goal.invariant-loop-back

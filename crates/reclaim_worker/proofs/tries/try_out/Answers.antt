@@ -1,5 +1,5 @@
 use Rattle.std.proofs.Common.{sym, refl, ◌∙◌}
-use Rattle.driver_rules.specs.Reclaims.{is_refused}
+use Rattle.driver_rules.specs.inner.Reclaims.{is_refused}
 use Rattle.reclaim_worker.proofs.TriedLaws.{after_refusal}
 use Rattle.reclaim_worker.proofs.tries.try_out.Goals as goal
 

@@ -1,4 +1,4 @@
-use Rattle.rounds.specs.Rests.{IsSameRun}
+use Rattle.rounds.specs.inner.Rests.{IsSameRun}
 use Rattle.rounds.proofs.run.run.Given as goal
 
 -- the rounds so far left the job, and noted no want of memory

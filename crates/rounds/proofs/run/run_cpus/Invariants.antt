@@ -1,5 +1,5 @@
 use Rattle.std.proofs.Common.{◌≡◌, true}
-use Rattle.rounds.specs.Rests.{CpusRest, IsSameRun}
+use Rattle.rounds.specs.inner.Rests.{CpusRest, IsSameRun}
 use Rattle.rounds.proofs.run.run_cpus.Given as goal
 
 -- where all so far had nothing more to do, the book is the one that it was

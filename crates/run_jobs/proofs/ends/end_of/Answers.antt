@@ -3,7 +3,7 @@ use Rattle.std.specs.List.{list_any}
 use Rattle.std.proofs.lemmas.List.{take_all}
 use Rattle.std.proofs.lemmas.List.Folds.{list_any_at}
 use Rattle.sgx_rules.specs.declared.entries.Entry.{Entry}
-use Rattle.run_jobs.specs.Ends.{tells_loss, tells_spent}
+use Rattle.run_jobs.specs.inner.Ends.{tells_loss, tells_spent}
 use Rattle.run_jobs.proofs.EndLaws.{back_told, loss_told, spent_told}
 use Rattle.run_jobs.proofs.ends.end_of.Goals as goal
 

@@ -1,6 +1,6 @@
 use Rattle.std.proofs.Common.{◌≡◌, false, take}
 use Rattle.std.specs.List.{list_any}
-use Rattle.run_jobs.specs.Ends.{tells_loss, tells_spent}
+use Rattle.run_jobs.specs.inner.Ends.{tells_loss, tells_spent}
 use Rattle.run_jobs.proofs.ends.end_of.Given as goal
 
 abbrev pub invariant-loop-entry : goal.invariant-loop-entry

@@ -1,4 +1,4 @@
-use Rattle.paging_machine.specs.Parts.{state_of}
+use Rattle.paging_machine.specs.inner.Parts.{state_of}
 use Rattle.run_records.proofs.LoadRecords.{end_flat}
 use Rattle.run_records.proofs.laws.ends_of_loads_keep_enclaves_flat.Goals as goal
 

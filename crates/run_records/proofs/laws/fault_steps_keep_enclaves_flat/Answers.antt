@@ -1,4 +1,4 @@
-use Rattle.active_list.specs.States.{state_of as page_state}
+use Rattle.active_list.specs.inner.States.{state_of as page_state}
 use Rattle.run_records.proofs.LoadRecords.{fault_flat}
 use Rattle.run_records.proofs.laws.fault_steps_keep_enclaves_flat.Goals as goal
 

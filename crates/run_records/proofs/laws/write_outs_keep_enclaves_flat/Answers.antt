@@ -1,4 +1,4 @@
-use Rattle.paging_machine.specs.Parts.{state_of}
+use Rattle.paging_machine.specs.inner.Parts.{state_of}
 use Rattle.run_records.proofs.PassRecords.{out_flat}
 use Rattle.run_records.proofs.laws.write_outs_keep_enclaves_flat.Goals as goal
 

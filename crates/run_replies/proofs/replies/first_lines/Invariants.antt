@@ -1,5 +1,5 @@
 use Rattle.std.proofs.Common.{◌≡◌, [], length}
-use Rattle.run_replies.specs.Gathered.{AreReplies}
+use Rattle.run_replies.specs.inner.Gathered.{AreReplies}
 use Rattle.run_replies.proofs.replies.first_lines.Given as goal
 
 abbrev pub invariant-loop-cpu : goal.invariant-loop-cpu

@@ -1,7 +1,7 @@
 use Rattle.std.proofs.Common.{List, reverse, take, length, sym, ap, ◌∙◌}
 use Rattle.std.proofs.lemmas.List.{length-map}
 use Rattle.sgx_rules.specs.declared.entries.Entry.{Entry}
-use Rattle.run_replies.specs.Gathered.{AreEndings, AreReplies}
+use Rattle.run_replies.specs.inner.Gathered.{AreEndings, AreReplies}
 use Rattle.run_replies.proofs.EntryLaws.{one_more}
 use Rattle.run_replies.proofs.NumberLaws.{out_gathered}
 use Rattle.run_replies.proofs.replies.print_out.Goals as goal

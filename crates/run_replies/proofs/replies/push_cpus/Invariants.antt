@@ -1,6 +1,6 @@
 use Rattle.std.proofs.Common.{◌≡◌, ◌++◌, take}
 use Rattle.std.specs.List.{flat_map}
-use Rattle.run_replies.specs.Gathered.{lines_of}
+use Rattle.run_replies.specs.inner.Gathered.{lines_of}
 use Rattle.run_replies.proofs.replies.push_cpus.Given as goal
 
 abbrev pub invariant-loop-own : goal.invariant-loop-own

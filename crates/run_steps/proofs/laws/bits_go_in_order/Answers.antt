@@ -1,5 +1,5 @@
 use Rattle.std.proofs.Common.{if◌then◌else◌, sym, ◌∙◌, ap, [], ◌∷◌, ◌++◌}
-use Rattle.run_steps.specs.Bits.{below}
+use Rattle.run_steps.specs.inner.Bits.{below}
 use Rattle.run_steps.proofs.BitLaws.{below_all, below_more, below_zero, bit_is, goes_on}
 use Rattle.run_steps.proofs.laws.bits_go_in_order.Goals as goal
 

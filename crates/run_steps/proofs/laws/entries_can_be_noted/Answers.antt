@@ -1,5 +1,5 @@
 use Rattle.std.proofs.Common.{refl}
-use Rattle.turn_tables.specs.Holding.{mode_of}
+use Rattle.turn_tables.specs.inner.Holding.{mode_of}
 use Rattle.run_steps.proofs.EntryLaws.{among, can_hold, can_note}
 use Rattle.run_steps.proofs.laws.entries_can_be_noted.Goals as goal
 

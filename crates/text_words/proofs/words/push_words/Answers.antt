@@ -1,6 +1,6 @@
 use Rattle.std.proofs.Common.{arith, ◌+◌, ◌<◌, ℕ, List, length, get_or, take}
 use Rattle.text_words.specs.declared.words.Word.{Word}
-use Rattle.text_words.specs.Room.{word_room, words_room}
+use Rattle.text_words.specs.inner.Room.{word_room, words_room}
 use Rattle.text_words.proofs.RoomLaws.{words_room_past}
 use Rattle.text_words.proofs.words.push_words.Goals as goal
 

@@ -1,5 +1,5 @@
 use Rattle.std.proofs.Common.{◌≡◌, ◌++◌, take}
-use Rattle.text_words.specs.Room.{UsesRoom}
+use Rattle.text_words.specs.inner.Room.{UsesRoom}
 use Rattle.text_words.proofs.words.write_bytes.Given as goal
 
 abbrev pub invariant-loop-byte : goal.invariant-loop-byte

@@ -1,7 +1,7 @@
 use Rattle.std.proofs.Common.{arith, ℕ, ◌+◌, ◌<◌, ◌≤◌, List, length, get_or, take}
 use Rattle.std.specs.Prelude.{vec_capacity, vec_len}
 use Rattle.text_words.specs.declared.words.Word.{Word}
-use Rattle.text_words.specs.Room.{word_room, words_room}
+use Rattle.text_words.specs.inner.Room.{word_room, words_room}
 use Rattle.text_words.proofs.RoomLaws.{words_room_past}
 use Rattle.text_words.proofs.words.write_words.Goals as goal
 

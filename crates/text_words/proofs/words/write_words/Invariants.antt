@@ -1,6 +1,6 @@
 use Rattle.std.proofs.Common.{◌≡◌, map, take}
-use Rattle.text_words.specs.Room.{UsesRoom, words_room}
-use Rattle.text_words.specs.Words.{with_words, word_text}
+use Rattle.text_words.specs.inner.Room.{UsesRoom, words_room}
+use Rattle.text_words.specs.inner.Words.{with_words, word_text}
 use Rattle.text_words.proofs.words.write_words.Given as goal
 
 abbrev pub invariant-loop-word : goal.invariant-loop-word

@@ -1,5 +1,5 @@
 use Rattle.std.proofs.Common.{reverse, take}
-use Rattle.trace_auditor.specs.Audits.{KeepsAudit}
+use Rattle.trace_auditor.specs.inner.Audits.{KeepsAudit}
 use Rattle.trace_auditor.proofs.audit.audit_with.Given as goal
 
 -- all stands for the entries so far, which keep each rule

@@ -2,7 +2,7 @@ use Rattle.std.proofs.Common.{eqb, rules, tests}
 use Rattle.std.proofs.lemmas.Iterator.{YieldsList-from_take}
 use Rattle.std.proofs.lemmas.Iterator.Consumers.{YieldsList-at, map_from_collect}
 use Rattle.std.proofs.lemmas.Iterator.Splits.{YieldsList-from_slice_split}
-use Rattle.trace_lines.specs.Reading.{words_of}
+use Rattle.trace_lines.specs.inner.Reading.{words_of}
 use Rattle.trace_lines.proofs.entries.line_words.Goals as goal
 
 -- The first parts between spaces are collected.

@@ -1,7 +1,7 @@
 -- A word that is read byte by byte is the name.
 use Rattle.std.proofs.Common.{codes, arith, rules}
 use Rattle.std.proofs.lemmas.Slice.Eq.{text_from_reads}
-use Rattle.trace_lines.specs.Reading.{one_of}
+use Rattle.trace_lines.specs.inner.Reading.{one_of}
 use Rattle.trace_lines.proofs.refusals.with_one.Goals as goal
 
 pub returns-in_ok-small-in-PrevTrk-clause-read : goal.returns-in_ok-small-in-PrevTrk-clause-read

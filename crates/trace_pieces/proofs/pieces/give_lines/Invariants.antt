@@ -1,6 +1,6 @@
 use Rattle.std.proofs.Common.{◌≤◌, ◌++◌, take, reverse, vec_capacity}
 use Rattle.trace_pieces.specs.declared.pieces.TheConstants.{PIECE}
-use Rattle.trace_pieces.specs.Held.{IsHeld}
+use Rattle.trace_pieces.specs.inner.Held.{IsHeld}
 use Rattle.trace_text.specs.TraceText.{entries_text, first_line}
 use Rattle.trace_pieces.proofs.pieces.give_lines.Given as goal
 

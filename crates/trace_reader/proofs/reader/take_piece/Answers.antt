@@ -1,5 +1,5 @@
 -- The refused line is the first fault, whatever follows.
-use Rattle.trace_reader.specs.Lines.{joined, taken}
+use Rattle.trace_reader.specs.inner.Lines.{joined, taken}
 use Rattle.trace_reader.proofs.PieceLaws.{piece_fault}
 use Rattle.trace_reader.proofs.reader.take_piece.Goals as goal
 

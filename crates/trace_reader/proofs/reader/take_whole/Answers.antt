@@ -1,7 +1,7 @@
 -- The first line is refused, or one behind it, or all are taken.
 use Rattle.std.proofs.Common.{◌≡◌, ◌++◌, ◌∷◌, eqb, false, append_assoc, refl, rules}
 use Rattle.std.proofs.lemmas.List.Elements.{All-append}
-use Rattle.trace_reader.specs.Lines.{joined, taken}
+use Rattle.trace_reader.specs.inner.Lines.{joined, taken}
 use Rattle.trace_reader.proofs.PieceLaws.{refused_behind, refused_more, taken_behind}
 use Rattle.trace_reader.proofs.reader.take_whole.Goals as goal
 

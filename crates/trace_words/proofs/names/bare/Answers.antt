@@ -1,7 +1,7 @@
 -- A word that is read byte by byte is the name.
 use Rattle.std.proofs.Common.{codes, arith, rules, refl}
 use Rattle.std.proofs.lemmas.Slice.Eq.{text_from_reads}
-use Rattle.trace_words.specs.Names.{bare_of}
+use Rattle.trace_words.specs.inner.Names.{bare_of}
 use Rattle.trace_words.proofs.names.bare.Goals as goal
 
 pub returns-in-IsInit : goal.returns-in-IsInit

@@ -1,7 +1,7 @@
 -- A word that is read byte by byte is the name.
 use Rattle.std.proofs.Common.{codes, arith, rules, refl}
 use Rattle.std.proofs.lemmas.Slice.Eq.{text_from_reads}
-use Rattle.trace_words.specs.Names.{row_of}
+use Rattle.trace_words.specs.inner.Names.{row_of}
 use Rattle.trace_words.proofs.names.instruction.Goals as goal
 
 pub returns-in-enter : goal.returns-in-enter

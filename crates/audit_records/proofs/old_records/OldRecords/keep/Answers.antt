@@ -1,5 +1,5 @@
 use Rattle.std.proofs.Common.{Some}
-use Rattle.audit_records.specs.Views.{key_of}
+use Rattle.audit_records.specs.inner.Views.{key_of}
 use Rattle.audit_records.proofs.MapLaws.{record_after}
 use Rattle.audit_records.proofs.old_records.OldRecords.keep.Goals as goal
 

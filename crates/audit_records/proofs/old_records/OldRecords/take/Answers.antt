@@ -1,6 +1,6 @@
 use Rattle.std.proofs.Common.{None, option_map, ap, sym, ◌∙◌}
-use Rattle.audit_records.specs.Kept.{rec_of, records_of}
-use Rattle.audit_records.specs.Views.{key_of}
+use Rattle.audit_records.specs.inner.Kept.{rec_of, records_of}
+use Rattle.audit_records.specs.inner.Views.{key_of}
 use Rattle.audit_records.proofs.MapLaws.{record_after, record_at}
 use Rattle.audit_records.proofs.old_records.OldRecords.take.Goals as goal
 

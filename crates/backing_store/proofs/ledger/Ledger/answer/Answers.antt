@@ -1,5 +1,5 @@
 use Rattle.std.proofs.Common.{◌+◌, false, reverse, ap, sym, ◌∙◌, true}
-use Rattle.backing_store.specs.Store.{fails_get, drops, flips, next_get, next_get_of}
+use Rattle.backing_store.specs.inner.Store.{fails_get, drops, flips, next_get, next_get_of}
 use Rattle.backing_store.proofs.AnswerLaws.{answer_dropped, answer_given, any_line, first_line}
 use Rattle.backing_store.proofs.ledger.Ledger.answer.Goals as goal
 

@@ -1,7 +1,7 @@
 use Rattle.std.proofs.Common.{◌≡◌, subst}
-use Rattle.backing_store.specs.Store.{StoreState, after_get}
-use Rattle.backing_store.specs.Told.{get_answer_of, WhereMade}
-use Rattle.backing_store.specs.Kept.{state_of}
+use Rattle.backing_store.specs.inner.Store.{StoreState, after_get}
+use Rattle.backing_store.specs.inner.Told.{get_answer_of, WhereMade}
+use Rattle.backing_store.specs.inner.Kept.{state_of}
 use Rattle.backing_store.proofs.ledger.Ledger.get.Goals as goal
 
 pub returns-clause-answer : goal.returns-clause-answer

@@ -1,6 +1,6 @@
 use Rattle.std.proofs.Common.{◌≡◌, ◌+◌, ℕ, vec_len, reverse, ap, subst, arith}
 use Rattle.backing_store.specs.declared.page_places.PageCounts.{PageCounts}
-use Rattle.backing_store.specs.Places.{OnePut}
+use Rattle.backing_store.specs.inner.Places.{OnePut}
 use Rattle.backing_store.proofs.CallLaws.{records-le, Counts-put}
 use Rattle.backing_store.proofs.ledger.Ledger.put.Goals as goal
 

@@ -2,7 +2,7 @@ use Rattle.std.proofs.Common.{◌+◌, ap, ◌∙◌, if◌then◌else◌}
 use Rattle.std.specs.HashMap.{get}
 use Rattle.sgx_types.specs.Pages.{same_page}
 use Rattle.backing_store.specs.declared.page_places.PageCounts.{PageCounts}
-use Rattle.backing_store.specs.Places.{counts_of, put_key, same_put}
+use Rattle.backing_store.specs.inner.Places.{counts_of, put_key, same_put}
 use Rattle.backing_store.proofs.KeyLaws.{place_read}
 use Rattle.backing_store.proofs.page_places.PagePlaces.note_put.Goals as goal
 

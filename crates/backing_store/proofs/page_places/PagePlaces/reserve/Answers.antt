@@ -1,5 +1,5 @@
 use Rattle.std.proofs.Common.{ap, unwrap_or}
-use Rattle.backing_store.specs.Places.{no_counts}
+use Rattle.backing_store.specs.inner.Places.{no_counts}
 use Rattle.backing_store.proofs.page_places.PagePlaces.reserve.Goals as goal
 
 pub returns-clause-same : goal.returns-clause-same

@@ -1,5 +1,5 @@
 use Rattle.std.specs.HashMap.{get}
-use Rattle.backing_store.specs.Places.{key_of, same_key}
+use Rattle.backing_store.specs.inner.Places.{key_of, same_key}
 use Rattle.backing_store.proofs.KeyLaws.{counts_read}
 use Rattle.backing_store.proofs.page_places.PagePlaces.set_counts.Goals as goal
 

@@ -1,6 +1,6 @@
 use Rattle.std.proofs.Common.{◌≡◌, ap, sym, ◌∙◌, subst}
-use Rattle.backing_store.specs.Store.{IsStore}
-use Rattle.backing_store.specs.Kept.{state_of, store_of, IsKeptIn, IsKeptByRule}
+use Rattle.backing_store.specs.inner.Store.{IsStore}
+use Rattle.backing_store.specs.inner.Kept.{state_of, store_of, IsKeptIn, IsKeptByRule}
 use Rattle.backing_store.proofs.GoodLaws.{good_puts}
 use Rattle.backing_store.proofs.planned_store.PlannedStore.calls.Goals as goal
 

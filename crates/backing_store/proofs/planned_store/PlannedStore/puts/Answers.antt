@@ -3,9 +3,9 @@ use Rattle.std.specs.Prelude.{is_some}
 use Rattle.std.proofs.lemmas.List.{length-reverse}
 use Rattle.sgx_types.specs.declared.names.Page.{Page}
 use Rattle.backing_store.specs.declared.calls.GetAnswer.TheVariants.{Given}
-use Rattle.backing_store.specs.Store.{StoreState, is_put, get_answer}
-use Rattle.backing_store.specs.Told.{record_at}
-use Rattle.backing_store.specs.Kept.{state_of, store_of, IsKeptIn, IsKeptByRule}
+use Rattle.backing_store.specs.inner.Store.{StoreState, is_put, get_answer}
+use Rattle.backing_store.specs.inner.Told.{record_at}
+use Rattle.backing_store.specs.inner.Kept.{state_of, store_of, IsKeptIn, IsKeptByRule}
 use Rattle.backing_store.proofs.GoodLaws.{given_is_there}
 use Rattle.backing_store.proofs.planned_store.PlannedStore.puts.Goals as goal
 

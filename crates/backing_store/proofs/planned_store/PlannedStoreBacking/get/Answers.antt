@@ -1,7 +1,7 @@
 use Rattle.std.proofs.Common.{◌≡◌, ap, sym, ◌∙◌, subst}
-use Rattle.backing_store.specs.Store.{StoreState, after_get}
-use Rattle.backing_store.specs.Told.{get_answer_of, WhereMade}
-use Rattle.backing_store.specs.Kept.{state_of, store_of}
+use Rattle.backing_store.specs.inner.Store.{StoreState, after_get}
+use Rattle.backing_store.specs.inner.Told.{get_answer_of, WhereMade}
+use Rattle.backing_store.specs.inner.Kept.{state_of, store_of}
 use Rattle.backing_store.proofs.planned_store.PlannedStoreBacking.get.Goals as goal
 
 pub returns-in-Some-clause-answer : goal.returns-in-Some-clause-answer

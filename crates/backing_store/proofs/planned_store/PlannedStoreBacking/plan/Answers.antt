@@ -1,7 +1,7 @@
 use Rattle.std.proofs.Common.{◌≡◌, [], ap, sym, ◌∙◌, subst}
-use Rattle.backing_store.specs.Store.{StoreState}
-use Rattle.backing_store.specs.Told.{told_of}
-use Rattle.backing_store.specs.Kept.{state_of, store_of, IsKeptIn}
+use Rattle.backing_store.specs.inner.Store.{StoreState}
+use Rattle.backing_store.specs.inner.Told.{told_of}
+use Rattle.backing_store.specs.inner.Kept.{state_of, store_of, IsKeptIn}
 use Rattle.backing_store.proofs.RuleLaws.{with_plans-kept}
 use Rattle.backing_store.proofs.planned_store.PlannedStoreBacking.plan.Goals as goal
 

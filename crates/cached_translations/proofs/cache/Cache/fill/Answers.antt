@@ -1,8 +1,8 @@
 use Rattle.std.proofs.Common.{◌≡◌, ◌<◌, ℕ, false, is_some, sym, ◌∙◌, ap, subst, length, length-set, arith}
-use Rattle.cached_translations.specs.Translations.{translation_of}
-use Rattle.cached_translations.specs.Ring.{from_oldest}
-use Rattle.cached_translations.specs.Probe.{Leads, Drops}
-use Rattle.cached_translations.specs.Index.{number_at}
+use Rattle.cached_translations.specs.inner.Translations.{translation_of}
+use Rattle.cached_translations.specs.inner.Ring.{from_oldest}
+use Rattle.cached_translations.specs.inner.Probe.{Leads, Drops}
+use Rattle.cached_translations.specs.inner.Index.{number_at}
 use Rattle.cached_translations.specs.declared.cache.Translation.{Translation}
 use Rattle.cached_translations.proofs.TranslationLaws.{FitsCache-with_translation}
 use Rattle.cached_translations.proofs.RingLaws.{length-full, pushed, replaced, translation_of-around_from}

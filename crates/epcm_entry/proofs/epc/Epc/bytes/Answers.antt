@@ -1,6 +1,6 @@
 use Rattle.std.proofs.Common.{arith, ap, ◌∙◌, sym}
 use Rattle.sgx_types.specs.Layouts.{bytes_of}
-use Rattle.epcm_entry.specs.Words.{words_of}
+use Rattle.epcm_entry.specs.inner.Words.{words_of}
 use Rattle.epcm_entry.proofs.Words.{words_of-page, bytes_of-page}
 use Rattle.epcm_entry.proofs.Frames.{in_pages, page_is, words_are}
 use Rattle.epcm_entry.proofs.epc.Epc.bytes.Goals as goal

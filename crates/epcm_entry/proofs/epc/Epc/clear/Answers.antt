@@ -1,7 +1,7 @@
 use Rattle.std.proofs.Common.{◌≡◌, ◌<◌, arith, ap, ◌∙◌, length, length-set, replicate}
-use Rattle.epcm_entry.specs.Words.{IsPage, zero_words}
+use Rattle.epcm_entry.specs.inner.Words.{IsPage, zero_words}
 use Rattle.epcm_entry.proofs.Words.{zero_page, zeros-page, zero_word}
-use Rattle.epcm_entry.specs.Epc.{with_words}
+use Rattle.epcm_entry.specs.inner.Epc.{with_words}
 use Rattle.epcm_entry.proofs.Frames.{in_pages, page_put, page_is, pages_put, cleared_is}
 use Rattle.std.specs.List.{each_same}
 use Rattle.epcm_entry.proofs.epc.Epc.clear.Goals as goal

@@ -1,8 +1,8 @@
 use Rattle.std.proofs.Common.{◌≡◌, arith, ap, ◌∙◌, length-set, replicate, w64}
 use Rattle.std.specs.Int.{to_le_bytes}
 use Rattle.std.specs.List.{each_same}
-use Rattle.epcm_entry.specs.Words.{IsPage}
-use Rattle.epcm_entry.specs.Epc.{with_words}
+use Rattle.epcm_entry.specs.inner.Words.{IsPage}
+use Rattle.epcm_entry.specs.inner.Epc.{with_words}
 use Rattle.epcm_entry.proofs.Words.{filled_page, words-filled_page}
 use Rattle.epcm_entry.proofs.Frames.{in_pages, page_put, page_is, pages_put}
 use Rattle.epcm_entry.proofs.epc.Epc.fill.Goals as goal

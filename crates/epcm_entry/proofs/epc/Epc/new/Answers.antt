@@ -4,7 +4,7 @@ use Rattle.std.specs.Array.{AllZipBelow}
 use Rattle.std.specs.List.{each_same}
 use Rattle.std.proofs.lemmas.List.Elements.{same_from_all_zip, All-replicate}
 use Rattle.epcm_entry.specs.declared.entry_view.EntryView.TheVariants.{Free}
-use Rattle.epcm_entry.specs.Words.{IsPage}
+use Rattle.epcm_entry.specs.inner.Words.{IsPage}
 use Rattle.epcm_entry.proofs.Words.{zero_word, zero_page, zeros-page}
 use Rattle.epcm_entry.proofs.Frames.{new_frames, new_marks}
 use Rattle.epcm_entry.proofs.epc.Epc.new.Goals as goal

@@ -1,6 +1,6 @@
 use Rattle.std.proofs.Common.{arith, ap, ◌∙◌, length-set}
 use Rattle.epcm_entry.proofs.Words.{chunk_page, words_of-chunks}
-use Rattle.epcm_entry.specs.Epc.{with_words}
+use Rattle.epcm_entry.specs.inner.Epc.{with_words}
 use Rattle.epcm_entry.proofs.Frames.{in_pages, page_put, pages_put}
 use Rattle.epcm_entry.proofs.epc.Epc.set_bytes.Goals as goal
 

@@ -1,7 +1,7 @@
 use Rattle.std.proofs.Common.{arith, ap, ◌∙◌, sym, length-set, set, w64}
 use Rattle.std.specs.Int.{to_le_bytes}
 use Rattle.epcm_entry.proofs.Words.{word_page, words-word_page}
-use Rattle.epcm_entry.specs.Epc.{with_words}
+use Rattle.epcm_entry.specs.inner.Epc.{with_words}
 use Rattle.epcm_entry.proofs.Frames.{in_pages, page_is, page_put, words_are, pages_put}
 use Rattle.epcm_entry.proofs.epc.Epc.set_word.Goals as goal
 

@@ -1,5 +1,5 @@
 use Rattle.std.proofs.Common.{◌≡◌, arith, ◌∙◌, sym, position, Some}
-use Rattle.epcm_entry.specs.FreeMap.{is_used}
+use Rattle.epcm_entry.specs.inner.FreeMap.{is_used}
 use Rattle.epcm_entry.proofs.Marks.{least_within, least_none, position_some}
 use Rattle.epcm_entry.proofs.free_map.FreeMap.first.Goals as goal
 

@@ -1,10 +1,10 @@
 use Rattle.std.proofs.Common.{◌≡◌, ◌-◌, ◌∷◌, ap, subst, sym, ◌∙◌, refl, set}
 use Rattle.sgx_rules.specs.declared.entries.Event.TheVariants.{Did}
 use Rattle.sgx_rules.specs.Processors.{Enters, Keeps, Leaves, Seat}
-use Rattle.epoch_words.specs.Known.{Known}
-use Rattle.epoch_words.specs.Seen.{HasRoom, tracked}
-use Rattle.epoch_words.specs.Seen as words
-use Rattle.epoch_notes.specs.Notes.{NotesView, TellsEntries, after_enter, seen_of}
+use Rattle.epoch_words.specs.inner.Known.{Known}
+use Rattle.epoch_words.specs.inner.Seen.{HasRoom, tracked}
+use Rattle.epoch_words.specs.inner.Seen as words
+use Rattle.epoch_notes.specs.inner.Notes.{NotesView, TellsEntries, after_enter, seen_of}
 use Rattle.epoch_notes.proofs.EntryLaws.{IsQuiet, counted, entered_tells, enters_by, leaves_by, left_tells, may_begin, moves_calm}
 use Rattle.epoch_notes.proofs.EntryLaws.{no_instruction, other_action, other_tells, quiet_tells, room, tracked_tells}
 use Rattle.epoch_notes.proofs.notes.EpochNotes.note.Goals as goal

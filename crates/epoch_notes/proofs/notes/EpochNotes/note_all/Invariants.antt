@@ -1,5 +1,5 @@
 use Rattle.std.proofs.Common.{◌≡◌, ◌++◌, length, reverse, take}
-use Rattle.epoch_notes.specs.Notes.{CanNote, TellsEntries}
+use Rattle.epoch_notes.specs.inner.Notes.{CanNote, TellsEntries}
 use Rattle.epoch_notes.proofs.notes.EpochNotes.note_all.Given as goal
 
 -- the entries so far are taken in

@@ -1,6 +1,6 @@
 use Rattle.std.proofs.Common.{◌<◌, ◌≤◌, ◌-◌, length, sym, ap, ◌∙◌, arith}
-use Rattle.epoch_words.specs.Seen.{word_of, Changes}
-use Rattle.epoch_words.specs.Known.{Known, seen_of}
+use Rattle.epoch_words.specs.inner.Seen.{word_of, Changes}
+use Rattle.epoch_words.specs.inner.Known.{Known, seen_of}
 use Rattle.epoch_words.proofs.RuleLaws.{writes}
 use Rattle.epoch_words.proofs.words.HardwareSeat.write.Goals as goal
 

@@ -1,5 +1,5 @@
 use Rattle.std.proofs.Common.{◌<◌, ◌≤◌, ◌-◌, length, sym, ap, ◌∙◌, arith}
-use Rattle.epoch_words.specs.Known.{Known}
+use Rattle.epoch_words.specs.inner.Known.{Known}
 use Rattle.epoch_words.proofs.RuleLaws.{observes}
 use Rattle.epoch_words.proofs.words.Words.observe.Goals as goal
 

@@ -1,5 +1,5 @@
 use Rattle.std.proofs.Common.{sym, ap, ◌∙◌}
-use Rattle.epoch_words.specs.Known.{Known}
+use Rattle.epoch_words.specs.inner.Known.{Known}
 use Rattle.epoch_words.proofs.RuleLaws.{tells}
 use Rattle.epoch_words.proofs.words.Words.split_pass.Goals as goal
 

@@ -1,5 +1,5 @@
 use Rattle.std.proofs.Common.{replicate, arith, ap, ◌∙◌}
-use Rattle.epoch_words.specs.Seen.{IsLawful, starting_at}
+use Rattle.epoch_words.specs.inner.Seen.{IsLawful, starting_at}
 use Rattle.epoch_words.proofs.RuleLaws.{tells, opens_alike}
 use Rattle.epoch_words.proofs.words.Words.starting_at.Goals as goal
 

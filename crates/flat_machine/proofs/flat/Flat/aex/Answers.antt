@@ -1,6 +1,6 @@
 use Rattle.std.proofs.Common.{ap, sym, ◌∙◌}
 use Rattle.sgx_rules.specs.Flat.{FlatMemory}
-use Rattle.flat_machine.specs.Parts.{inside_of}
+use Rattle.flat_machine.specs.inner.Parts.{inside_of}
 use Rattle.flat_machine.proofs.flat.Flat.aex.Goals as goal
 
 pub leave-requires-clause-inside : goal.leave-requires-clause-inside

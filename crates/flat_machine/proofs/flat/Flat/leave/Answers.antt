@@ -1,7 +1,7 @@
 use Rattle.std.proofs.Common.{ap, ◌∙◌, false}
 use Rattle.sgx_rules.specs.Flat.{FlatMemory, with_busy}
 use Rattle.sgx_types.specs.Pages.{page_at}
-use Rattle.flat_machine.specs.Parts.{memory_of}
+use Rattle.flat_machine.specs.inner.Parts.{memory_of}
 use Rattle.flat_machine.proofs.Rows.{left_by}
 use Rattle.flat_machine.proofs.flat.Flat.leave.Goals as goal
 

@@ -1,4 +1,4 @@
-use Rattle.flat_machine.specs.Whole.{parts_of}
+use Rattle.flat_machine.specs.inner.Whole.{parts_of}
 use Rattle.flat_machine.proofs.Columns.{memory_mark}
 use Rattle.flat_machine.proofs.flat.Flat.set_busy.Goals as goal
 

@@ -1,5 +1,5 @@
 use Rattle.std.proofs.Common.{◌/◌}
-use Rattle.flat_machine.specs.Whole.{parts_of}
+use Rattle.flat_machine.specs.inner.Whole.{parts_of}
 use Rattle.flat_machine.proofs.Rows.{creates, memory_created}
 use Rattle.flat_machine.proofs.flat.Flat.set_enclave.Goals as goal
 

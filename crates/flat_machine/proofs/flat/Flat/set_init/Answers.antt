@@ -1,6 +1,6 @@
 use Rattle.std.proofs.Common.{◌≡◌, Some, None, get_or, ap, sym, ◌∙◌}
-use Rattle.flat_machine.specs.Whole.{parts_of}
-use Rattle.flat_machine.specs.Parts.{FlatParts, enclave_of}
+use Rattle.flat_machine.specs.inner.Whole.{parts_of}
+use Rattle.flat_machine.specs.inner.Parts.{FlatParts, enclave_of}
 use Rattle.flat_machine.proofs.Rows.{memory_init}
 use Rattle.flat_machine.proofs.flat.Flat.set_init.Goals as goal
 

@@ -1,6 +1,6 @@
 use Rattle.std.proofs.Common.{◌<◌, ◌∙◌, refl, arith, length, []}
 use Rattle.std.proofs.lemmas.List.{length-set}
-use Rattle.flat_machine.specs.Whole.{parts_of}
+use Rattle.flat_machine.specs.inner.Whole.{parts_of}
 use Rattle.flat_machine.proofs.Columns.{slot_lengths}
 use Rattle.flat_machine.proofs.Rows.{adds, memory_added}
 use Rattle.flat_machine.proofs.Lists.{read_at}

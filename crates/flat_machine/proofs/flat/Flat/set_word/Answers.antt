@@ -1,4 +1,4 @@
-use Rattle.flat_machine.specs.Whole.{parts_of}
+use Rattle.flat_machine.specs.inner.Whole.{parts_of}
 use Rattle.flat_machine.proofs.Columns.{memory_word}
 use Rattle.flat_machine.proofs.flat.Flat.set_word.Goals as goal
 

@@ -2,7 +2,7 @@ use Rattle.std.proofs.Common.{ap, ◌∙◌, ◌≡◌, ◌+◌, ◌-◌, ◌/�
 use Rattle.sgx_rules.specs.Flat.{FlatMemory, with_words, with_cssa, fields_in, entered, words_of, resumed_word}
 use Rattle.sgx_types.specs.Pages.{page_at}
 use Rattle.sgx_rules.specs.Table.{TcsSight}
-use Rattle.flat_machine.specs.Parts.{memory_of}
+use Rattle.flat_machine.specs.inner.Parts.{memory_of}
 use Rattle.flat_machine.proofs.Rows.{still_there}
 use Rattle.flat_machine.proofs.flat.Flat.take_back.Goals as goal
 

@@ -1,7 +1,7 @@
 use Rattle.std.proofs.Common.{◌≡◌, ◌+◌, ◌%◌, ℕ, refl, arith, sym, ap, ◌∙◌}
 use Rattle.frame_gate.specs.declared.view.View.{View}
-use Rattle.frame_gate.specs.Views.{after_step, set_back, tracked, role_set_back}
-use Rattle.frame_gate.specs.Known.{PagerKnown, next_pager}
+use Rattle.frame_gate.specs.inner.Views.{after_step, set_back, tracked, role_set_back}
+use Rattle.frame_gate.specs.inner.Known.{PagerKnown, next_pager}
 use Rattle.frame_gate.proofs.PagerLaws.{sets_back, tracks}
 use Rattle.frame_gate.proofs.gate.FrameGate.begin.Goals as goal
 

@@ -1,7 +1,7 @@
 use Rattle.std.proofs.Common.{◌≡◌, ◌+◌, ℕ, ◌<◌, Option, None, arith, sym, ap, ◌∙◌}
 use Rattle.frame_gate.specs.declared.view.Role.TheVariants.{Processor}
-use Rattle.frame_gate.specs.Views.{visit}
-use Rattle.frame_gate.specs.Known.{ProcKnown}
+use Rattle.frame_gate.specs.inner.Views.{visit}
+use Rattle.frame_gate.specs.inner.Known.{ProcKnown}
 use Rattle.frame_gate.proofs.ProcessorLaws.{enters}
 use Rattle.frame_gate.proofs.gate.FrameGate.enter.Goals as goal
 

@@ -2,8 +2,8 @@ use Rattle.std.proofs.Common.{◌≡◌, ◌≢◌, ◌<◌, ◌+◌, ◌*◌, �
 use Rattle.std.proofs.Common.{◌∙◌, subst}
 use Rattle.frame_gate.specs.declared.view.View.{View}
 use Rattle.frame_gate.specs.declared.view.Pair.{Pair}
-use Rattle.frame_gate.specs.Views.{generation_of, filled}
-use Rattle.frame_gate.specs.Known.{ProcKnown, looked_at}
+use Rattle.frame_gate.specs.inner.Views.{generation_of, filled}
+use Rattle.frame_gate.specs.inner.Known.{ProcKnown, looked_at}
 use Rattle.frame_gate.proofs.ProcessorLaws.{fills, is_inside, filled_new, held_new, none_of}
 use Rattle.frame_gate.proofs.gate.FrameGate.fill.Goals as goal
 

@@ -1,7 +1,7 @@
 use Rattle.std.proofs.Common.{◌<◌, ◌+◌, ◌*◌, ◌/◌, ℕ, List, refl, sym, ap, ◌∙◌, subst}
 use Rattle.frame_gate.specs.declared.view.Written.{Written}
-use Rattle.frame_gate.specs.Views.{written_of, IsDrained}
-use Rattle.frame_gate.specs.Known.{PagerKnown}
+use Rattle.frame_gate.specs.inner.Views.{written_of, IsDrained}
+use Rattle.frame_gate.specs.inner.Known.{PagerKnown}
 use Rattle.frame_gate.proofs.PagerLaws.{frees, at_frame}
 use Rattle.frame_gate.proofs.gate.FrameGate.free.Goals as goal
 

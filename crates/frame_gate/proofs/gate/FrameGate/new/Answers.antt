@@ -1,7 +1,7 @@
 use Rattle.std.proofs.Common.{◌≡◌, ◌+◌, length, replicate, length-set, arith, ap, ◌∙◌}
 use Rattle.std.proofs.lemmas.List.{length-replicate}
 use Rattle.frame_gate.specs.declared.view.View.{View}
-use Rattle.frame_gate.specs.Views.{start}
+use Rattle.frame_gate.specs.inner.Views.{start}
 use Rattle.frame_gate.proofs.OpeningLaws.{opens}
 use Rattle.frame_gate.proofs.PagerLaws.{splits}
 use Rattle.frame_gate.proofs.gate.FrameGate.new.Goals as goal

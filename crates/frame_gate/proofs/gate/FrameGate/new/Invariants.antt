@@ -1,7 +1,7 @@
 use Rattle.std.proofs.Common.{◌≡◌, replicate}
 use Rattle.frame_gate.specs.declared.view.Role.TheVariants.{Pager}
-use Rattle.frame_gate.specs.Views.{view, no_step, start, untouched}
-use Rattle.frame_gate.specs.Known.{newcomer_of}
+use Rattle.frame_gate.specs.inner.Views.{view, no_step, start, untouched}
+use Rattle.frame_gate.specs.inner.Known.{newcomer_of}
 use Rattle.frame_gate.proofs.gate.FrameGate.new.Given as goal
 
 abbrev pub invariant-loop-split : goal.invariant-loop-split

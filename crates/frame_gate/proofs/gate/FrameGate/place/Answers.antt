@@ -1,8 +1,8 @@
 use Rattle.std.proofs.Common.{◌<◌, ◌+◌, ◌*◌, ◌/◌, ◌%◌, ℕ, List, refl, sym, ap, ◌∙◌}
 use Rattle.frame_gate.specs.declared.view.Written.{Written}
-use Rattle.frame_gate.specs.Words.{IsFree}
-use Rattle.frame_gate.specs.Views.{written_of}
-use Rattle.frame_gate.specs.Known.{PagerKnown, word_now}
+use Rattle.frame_gate.specs.inner.Words.{IsFree}
+use Rattle.frame_gate.specs.inner.Views.{written_of}
+use Rattle.frame_gate.specs.inner.Known.{PagerKnown, word_now}
 use Rattle.frame_gate.proofs.PagerLaws.{places, at_frame}
 use Rattle.frame_gate.proofs.gate.FrameGate.place.Goals as goal
 

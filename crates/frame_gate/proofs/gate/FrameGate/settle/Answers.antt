@@ -1,5 +1,5 @@
 use Rattle.std.proofs.Common.{◌≡◌, ◌+◌, refl, arith, sym, ap, ◌∙◌}
-use Rattle.frame_gate.specs.Known.{PagerKnown}
+use Rattle.frame_gate.specs.inner.Known.{PagerKnown}
 use Rattle.frame_gate.proofs.PagerLaws.{settles}
 use Rattle.frame_gate.proofs.gate.FrameGate.settle.Goals as goal
 

@@ -1,6 +1,6 @@
 use Rattle.std.proofs.Common.{◌≡◌, ◌≢◌, ◌<◌, ◌+◌, None, refl, arith, sym, ap, ◌∙◌, subst}
-use Rattle.frame_gate.specs.Views.{generation_of}
-use Rattle.frame_gate.specs.Known.{ProcKnown}
+use Rattle.frame_gate.specs.inner.Views.{generation_of}
+use Rattle.frame_gate.specs.inner.Known.{ProcKnown}
 use Rattle.frame_gate.proofs.ProcessorLaws.{touches, holder}
 use Rattle.frame_gate.proofs.gate.FrameGate.touch.Goals as goal
 

@@ -2,7 +2,7 @@ use Rattle.std.proofs.Common.{◌≡◌, ◌-◌, List, [], ◌∷◌, ◌++◌,
 use Rattle.std.specs.Global.{Vec}
 use Rattle.std.proofs.lemmas.List.{length-map}
 use Rattle.job_grammar.specs.declared.jobs.Op.{Op}
-use Rattle.job_grammar.specs.Jobs.{script_ops}
+use Rattle.job_grammar.specs.inner.Jobs.{script_ops}
 use Rattle.job_text.proofs.LastItem.{length-change_last}
 use Rattle.job_text.proofs.ScriptLaws.{tells-more}
 use Rattle.job_text.proofs.scripts.Scripts.add.Goals as goal

@@ -1,6 +1,6 @@
 use Rattle.std.proofs.Common.{◌<◌, Some, None, length, rules, refl, sym, ◌∙◌, arith}
 use Rattle.std.proofs.lemmas.List.{length-map}
-use Rattle.job_grammar.specs.Jobs.{script_ops}
+use Rattle.job_grammar.specs.inner.Jobs.{script_ops}
 use Rattle.job_text.proofs.ScriptLaws.{owner-before, owner-read}
 use Rattle.job_text.proofs.scripts.Scripts.names_before.Goals as goal
 

@@ -1,7 +1,7 @@
 use Rattle.std.proofs.Common.{length, replicate, sym, ap, subst, ◌∙◌}
 use Rattle.job_grammar.specs.Jobs.{JobView}
-use Rattle.epoch_words.specs.Seen.{starting_at}
-use Rattle.machine_book.specs.Words.{KeepsWords}
+use Rattle.epoch_words.specs.inner.Seen.{starting_at}
+use Rattle.machine_book.specs.inner.Words.{KeepsWords}
 use Rattle.machine_book.proofs.GrownLaws.{keeps_start}
 use Rattle.machine_book.proofs.book.MachineBook.start.Goals as goal
 

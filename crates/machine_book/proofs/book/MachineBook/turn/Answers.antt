@@ -1,6 +1,6 @@
 use Rattle.std.proofs.Common.{◌<◌, length, sym, subst}
 use Rattle.sgx_types.specs.declared.names.Actor.TheVariants as actors
-use Rattle.machine_book.specs.Words.{MachineView}
+use Rattle.machine_book.specs.inner.Words.{MachineView}
 use Rattle.machine_book.proofs.GrownLaws.{can_take, fits, kept, run_made}
 use Rattle.machine_book.proofs.book.MachineBook.turn.Goals as goal
 

@@ -1,11 +1,11 @@
 use Rattle.std.proofs.Common.{◌≡◌, ◌∙◌, sym, ap, Some, length, length-set}
 use Rattle.sgx_types.specs.Pages.{page_at}
-use Rattle.secs_state.specs.Table.{enclave_at}
-use Rattle.enclave_build.specs.Build.{with_added}
+use Rattle.secs_state.specs.inner.Table.{enclave_at}
+use Rattle.enclave_build.specs.inner.Build.{with_added}
 use Rattle.enclave_build.proofs.Columns.{length-with_added}
-use Rattle.paging_machine.specs.Whole.{parts_of}
-use Rattle.paging_machine.specs.Parts.{state_of}
-use Rattle.paging_laws.specs.State.{after_add}
+use Rattle.paging_machine.specs.inner.Whole.{parts_of}
+use Rattle.paging_machine.specs.inner.Parts.{state_of}
+use Rattle.paging_laws.specs.inner.State.{after_add}
 use Rattle.paging_machine.proofs.Columns.{numbered, table_written}
 use Rattle.paging_machine.proofs.BuildBridge.{adds, added_own, add_pages, paged}
 use Rattle.paging_machine.proofs.BuildSteps.{measure_place, measure_there, add_row_at, add_written}

@@ -1,10 +1,10 @@
 use Rattle.std.proofs.Common.{◌≡◌, ◌<◌, None, sym, Some, length}
-use Rattle.secs_state.specs.Table.{enclave_at}
-use Rattle.cached_translations.specs.Modes.{enclave_inside}
-use Rattle.track_epoch.specs.Tracks.{track_of}
-use Rattle.paging_machine.specs.Whole.{parts_of}
-use Rattle.paging_machine.specs.Parts.{state_of, cpu_at}
-use Rattle.paging_laws.specs.State.{row_of, after_aex}
+use Rattle.secs_state.specs.inner.Table.{enclave_at}
+use Rattle.cached_translations.specs.inner.Modes.{enclave_inside}
+use Rattle.track_epoch.specs.inner.Tracks.{track_of}
+use Rattle.paging_machine.specs.inner.Whole.{parts_of}
+use Rattle.paging_machine.specs.inner.Parts.{state_of, cpu_at}
+use Rattle.paging_laws.specs.inner.State.{row_of, after_aex}
 use Rattle.paging_machine.proofs.ProcessorBridge.{cpu_there}
 use Rattle.paging_machine.proofs.EntryBridge.{inside_at, inside_allowed, its_enclave, its_tcs, its_count, its_frames, aex_leaves}
 use Rattle.paging_machine.proofs.WholeMachines.{whole, done_step, by_view}

@@ -2,16 +2,16 @@ use Rattle.std.proofs.Common.{◌≡◌, List, ◌∷◌, length}
 use Rattle.sgx_rules.specs.declared.entries.Entry.{Entry}
 use Rattle.sgx_types.specs.declared.names.Actor.{Actor}
 use Rattle.sgx_rules.specs.declared.entries.Action.{Action}
-use Rattle.sgx_rules.specs.Rules.{LoadsAwayRule}
+use Rattle.sgx_rules.specs.inner.Rules.{LoadsAwayRule}
 use Rattle.sgx_types.specs.Making.{Making}
 use Rattle.paging_machine.specs.declared.machine.Machine.TheInside.{Inside}
-use Rattle.paging_machine.specs.Parts.{Parts, state_of}
-use Rattle.paging_laws.specs.Shape.{ShapeWithRules, FitsApart}
+use Rattle.paging_machine.specs.inner.Parts.{Parts, state_of}
+use Rattle.paging_laws.specs.inner.Shape.{ShapeWithRules, FitsApart}
 use Rattle.seal_record.specs.Records.{Made}
-use Rattle.paging_laws.specs.Histories.{StandsWithAllRules}
-use Rattle.paging_laws.specs.State.{State}
-use Rattle.paging_laws.specs.Steps.{IsStep, CanApply}
-use Rattle.paging_machine.specs.Whole.{IsWhole, parts_of}
+use Rattle.paging_laws.specs.inner.Histories.{StandsWithAllRules}
+use Rattle.paging_laws.specs.inner.State.{State}
+use Rattle.paging_laws.specs.inner.Steps.{IsStep, CanApply}
+use Rattle.paging_machine.specs.inner.Whole.{IsWhole, parts_of}
 use Rattle.paging_machine.proofs.ProcessorBridge.{pages_made}
 use Rattle.paging_laws.proofs.FitLaws.{step_fits}
 use Rattle.paging_laws.proofs.MakingLaws.{step_making}

@@ -1,6 +1,6 @@
 use Rattle.std.proofs.Common.{◌∙◌, sym, ap}
-use Rattle.paging_machine.specs.Whole.{parts_of}
-use Rattle.paging_machine.specs.Parts.{state_of}
+use Rattle.paging_machine.specs.inner.Whole.{parts_of}
+use Rattle.paging_machine.specs.inner.Parts.{state_of}
 use Rattle.paging_machine.proofs.PagingSights.{frame_numbered}
 use Rattle.paging_machine.proofs.PagingBridge.{block_leaves, epc_same}
 use Rattle.paging_machine.proofs.WholeMachines.{whole, whole_same, done_step, refused_step}

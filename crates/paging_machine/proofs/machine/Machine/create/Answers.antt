@@ -1,13 +1,13 @@
 use Rattle.std.proofs.Common.{◌≡◌, ◌<◌, ◌∙◌, sym, arith, None, is_some, length, length-set}
 use Rattle.sgx_rules.specs.Table.{create_row, first_of_row}
 use Rattle.sgx_rules.proofs.Rows.{none_holds}
-use Rattle.epcm_entry.specs.Sights.{sight_in}
+use Rattle.epcm_entry.specs.inner.Sights.{sight_in}
 use Rattle.enclave_build.proofs.Columns.{length-with_secs}
-use Rattle.secs_state.specs.Secs.{created}
-use Rattle.secs_state.specs.Table.{enclave_at}
-use Rattle.paging_machine.specs.Whole.{parts_of}
-use Rattle.paging_machine.specs.Parts.{state_of}
-use Rattle.paging_laws.specs.State.{after_create}
+use Rattle.secs_state.specs.inner.Secs.{created}
+use Rattle.secs_state.specs.inner.Table.{enclave_at}
+use Rattle.paging_machine.specs.inner.Whole.{parts_of}
+use Rattle.paging_machine.specs.inner.Parts.{state_of}
+use Rattle.paging_laws.specs.inner.State.{after_create}
 use Rattle.paging_machine.proofs.Columns.{table_written}
 use Rattle.paging_machine.proofs.BuildBridge.{creates, created_own, no_enclave, create_state, create_pages}
 use Rattle.paging_machine.proofs.KeptStates.{kept_create}

@@ -3,9 +3,9 @@ use Rattle.sgx_rules.specs.Table.{is_loading}
 use Rattle.seal_record.specs.declared.unseal.UnsealedWork.{UnsealedWork}
 use Rattle.sgx_rules.specs.declared.entries.Action.TheVariants.{Eld}
 use Rattle.sgx_rules.specs.declared.entries.Answer.TheVariants.{Moved}
-use Rattle.paging_machine.specs.Whole.{parts_of}
-use Rattle.paging_machine.specs.Parts.{state_of}
-use Rattle.paging_laws.specs.Steps.{did_by}
+use Rattle.paging_machine.specs.inner.Whole.{parts_of}
+use Rattle.paging_machine.specs.inner.Parts.{state_of}
+use Rattle.paging_laws.specs.inner.Steps.{did_by}
 use Rattle.paging_machine.proofs.CommitBridge.{Ended, IsOpened, ended_back, ended_refused, low_in}
 use Rattle.paging_laws.proofs.FitLaws.{reloaded_fits}
 use Rattle.paging_laws.proofs.ShapeSteps.{reloaded_shaped}

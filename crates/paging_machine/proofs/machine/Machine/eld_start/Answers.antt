@@ -1,9 +1,9 @@
 use Rattle.std.proofs.Common.{◌∙◌, sym, ap}
 use Rattle.sgx_rules.specs.declared.entries.Action.TheVariants.{EldStart}
 use Rattle.sgx_rules.specs.declared.entries.Answer.TheVariants.{Version}
-use Rattle.paging_laws.specs.Steps.{did_by}
-use Rattle.paging_machine.specs.Whole.{parts_of}
-use Rattle.paging_machine.specs.Parts.{state_of}
+use Rattle.paging_laws.specs.inner.Steps.{did_by}
+use Rattle.paging_machine.specs.inner.Whole.{parts_of}
+use Rattle.paging_machine.specs.inner.Parts.{state_of}
 use Rattle.paging_machine.proofs.PagingSights.{eldstart_row_at}
 use Rattle.paging_machine.proofs.PagingBridge.{eldstart_leaves, in_as, slots_same}
 use Rattle.paging_machine.proofs.WholeMachines.{whole, whole_same, done_step, refused_step}

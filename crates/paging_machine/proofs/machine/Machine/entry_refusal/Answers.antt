@@ -1,5 +1,5 @@
 use Rattle.std.proofs.Common.{◌∙◌, sym}
-use Rattle.paging_machine.specs.Whole.{parts_of}
+use Rattle.paging_machine.specs.inner.Whole.{parts_of}
 use Rattle.paging_machine.proofs.EntryBridge.{entry_row_outside}
 use Rattle.paging_machine.proofs.machine.Machine.entry_refusal.Goals as goal
 

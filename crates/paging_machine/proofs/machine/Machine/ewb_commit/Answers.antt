@@ -2,9 +2,9 @@ use Rattle.std.proofs.Common.{◌≡◌, ◌∙◌, true, ap, None, set}
 use Rattle.sgx_rules.specs.declared.entries.Action.TheVariants.{Ewb}
 use Rattle.sgx_rules.specs.declared.entries.Answer.TheVariants.{Moved}
 use Rattle.sgx_types.specs.Sealed.{Sealed}
-use Rattle.paging_laws.specs.Steps.{did_by}
-use Rattle.paging_machine.specs.Whole.{parts_of}
-use Rattle.paging_machine.specs.Parts.{state_of}
+use Rattle.paging_laws.specs.inner.Steps.{did_by}
+use Rattle.paging_machine.specs.inner.Whole.{parts_of}
+use Rattle.paging_machine.specs.inner.Parts.{state_of}
 use Rattle.paging_machine.proofs.CommitBridge.{Written, written, low_out}
 use Rattle.paging_laws.proofs.MakingLaws.{written_making}
 use Rattle.paging_laws.proofs.FitLaws.{written_fits}

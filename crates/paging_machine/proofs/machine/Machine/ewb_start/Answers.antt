@@ -1,9 +1,9 @@
 use Rattle.std.proofs.Common.{◌∙◌, sym, ap}
 use Rattle.sgx_rules.specs.declared.entries.Action.TheVariants.{EwbStart}
 use Rattle.sgx_rules.specs.declared.entries.Answer.TheVariants.{Version}
-use Rattle.paging_laws.specs.Steps.{did_by}
-use Rattle.paging_machine.specs.Whole.{parts_of}
-use Rattle.paging_machine.specs.Parts.{state_of}
+use Rattle.paging_laws.specs.inner.Steps.{did_by}
+use Rattle.paging_machine.specs.inner.Whole.{parts_of}
+use Rattle.paging_machine.specs.inner.Parts.{state_of}
 use Rattle.paging_machine.proofs.PagingSights.{frame_numbered, ewbstart_row_at}
 use Rattle.paging_machine.proofs.PagingBridge.{ewbstart_leaves, out_as, versions_same}
 use Rattle.paging_machine.proofs.WholeMachines.{whole, done_step, refused_step}

@@ -1,11 +1,11 @@
 use Rattle.std.proofs.Common.{◌≡◌, ◌∙◌, refl, sym, ap, Some, length-set}
-use Rattle.epcm_entry.specs.Epc.{entry_at}
-use Rattle.epcm_entry.specs.Sights.{held}
-use Rattle.secs_state.specs.Table.{enclave_at}
+use Rattle.epcm_entry.specs.inner.Epc.{entry_at}
+use Rattle.epcm_entry.specs.inner.Sights.{held}
+use Rattle.secs_state.specs.inner.Table.{enclave_at}
 use Rattle.sgx_rules.specs.Frames.{page_of}
-use Rattle.paging_machine.specs.Whole.{parts_of}
-use Rattle.paging_machine.specs.Parts.{state_of}
-use Rattle.paging_laws.specs.State.{after_extend}
+use Rattle.paging_machine.specs.inner.Whole.{parts_of}
+use Rattle.paging_machine.specs.inner.Parts.{state_of}
+use Rattle.paging_laws.specs.inner.State.{after_extend}
 use Rattle.paging_machine.proofs.BuildBridge.{extend_state}
 use Rattle.paging_machine.proofs.BuildSteps.{owner, measure_place, measure_there, extend_row_at, extend_done}
 use Rattle.paging_machine.proofs.KeptStates.{kept_extend}

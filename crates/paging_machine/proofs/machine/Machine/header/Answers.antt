@@ -1,11 +1,11 @@
 use Rattle.std.proofs.Common.{◌≡◌, sym, ap, Some}
 use Rattle.sgx_rules.specs.Frames.{Holds}
-use Rattle.secs_state.specs.Table.{enclave_at}
+use Rattle.secs_state.specs.inner.Table.{enclave_at}
 use Rattle.epcm_entry.specs.declared.entry_view.EntryView.TheVariants as views
-use Rattle.epcm_entry.specs.Epc.{entry_at}
-use Rattle.paging_machine.specs.Whole.{parts_of}
-use Rattle.paging_machine.specs.Parts.{enclave_of, state_of}
-use Rattle.paging_laws.specs.Steps.{IsHeaderIn}
+use Rattle.epcm_entry.specs.inner.Epc.{entry_at}
+use Rattle.paging_machine.specs.inner.Whole.{parts_of}
+use Rattle.paging_machine.specs.inner.Parts.{enclave_of, state_of}
+use Rattle.paging_laws.specs.inner.Steps.{IsHeaderIn}
 use Rattle.paging_machine.proofs.PagingSights.{leaving_held, page_below}
 use Rattle.paging_machine.proofs.machine.Machine.header.Goals as goal
 

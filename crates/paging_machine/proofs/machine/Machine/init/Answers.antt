@@ -1,10 +1,10 @@
 use Rattle.std.proofs.Common.{◌≡◌, ◌∙◌, refl, sym, ap, inl, Some}
-use Rattle.secs_state.specs.Table.{enclave_at}
-use Rattle.secs_state.specs.Sights.{sight_of}
-use Rattle.paging_machine.specs.Whole.{parts_of}
-use Rattle.paging_machine.specs.Parts.{state_of}
-use Rattle.paging_laws.specs.State.{after_init}
-use Rattle.paging_laws.specs.Steps.{IsJudged}
+use Rattle.secs_state.specs.inner.Table.{enclave_at}
+use Rattle.secs_state.specs.inner.Sights.{sight_of}
+use Rattle.paging_machine.specs.inner.Whole.{parts_of}
+use Rattle.paging_machine.specs.inner.Parts.{state_of}
+use Rattle.paging_laws.specs.inner.State.{after_init}
+use Rattle.paging_laws.specs.inner.Steps.{IsJudged}
 use Rattle.paging_machine.proofs.Columns.{numbered, table_written}
 use Rattle.paging_machine.proofs.BuildBridge.{init_state, initialised_own}
 use Rattle.paging_machine.proofs.BuildSteps.{measure_place, measure_there, init_row_at, init_refused}

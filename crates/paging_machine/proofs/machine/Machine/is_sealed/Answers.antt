@@ -2,11 +2,11 @@ use Rattle.std.proofs.Common.{◌≡◌, ◌∙◌, ap, subst, sym, true, is_som
 use Rattle.std.proofs.lemmas.Bool.{not-false}
 use Rattle.std.proofs.lemmas.Slice.Eq.{bytes_eq-Decides}
 use Rattle.seal_record.specs.declared.seal.SealedWork.{SealedWork}
-use Rattle.paging_machine.specs.Whole.{parts_of}
-use Rattle.paging_machine.specs.Parts.{Parts, state_of}
-use Rattle.paging_laws.specs.Steps.{IsLeaving, SealsPage}
-use Rattle.epcm_entry.specs.Epc.{bytes_at, words_at}
-use Rattle.epcm_entry.specs.Words.{words_of}
+use Rattle.paging_machine.specs.inner.Whole.{parts_of}
+use Rattle.paging_machine.specs.inner.Parts.{Parts, state_of}
+use Rattle.paging_laws.specs.inner.Steps.{IsLeaving, SealsPage}
+use Rattle.epcm_entry.specs.inner.Epc.{bytes_at, words_at}
+use Rattle.epcm_entry.specs.inner.Words.{words_of}
 use Rattle.paging_machine.proofs.PagingSights.{start_out, same_headers}
 use Rattle.paging_machine.proofs.machine.Machine.is_sealed.Goals as goal
 

@@ -1,5 +1,5 @@
 use Rattle.std.specs.Prelude.{nat_le}
-use Rattle.paging_machine.specs.Whole.{parts_of}
+use Rattle.paging_machine.specs.inner.Whole.{parts_of}
 use Rattle.paging_machine.proofs.PagingSights.{number_seen}
 use Rattle.paging_machine.proofs.machine.Machine.older.Goals as goal
 

@@ -1,5 +1,5 @@
-use Rattle.paging_machine.specs.Parts.{state_of}
-use Rattle.paging_machine.specs.Whole.{parts_of}
+use Rattle.paging_machine.specs.inner.Parts.{state_of}
+use Rattle.paging_machine.specs.inner.Whole.{parts_of}
 use Rattle.paging_machine.proofs.PagingSights.{start_in}
 use Rattle.paging_machine.proofs.machine.Machine.opened.Goals as goal
 

@@ -1,7 +1,7 @@
 use Rattle.std.proofs.Common.{◌≡◌, ◌<◌, ◌∙◌, true, sym, ap, length}
-use Rattle.paging_machine.specs.Whole.{parts_of}
-use Rattle.paging_machine.specs.Parts.{state_of, cpu_at}
-use Rattle.paging_laws.specs.State.{with_acc}
+use Rattle.paging_machine.specs.inner.Whole.{parts_of}
+use Rattle.paging_machine.specs.inner.Parts.{state_of, cpu_at}
+use Rattle.paging_laws.specs.inner.State.{with_acc}
 use Rattle.paging_machine.proofs.ProcessorBridge.{cpu_there}
 use Rattle.paging_machine.proofs.AccessBridge.{inside_only, acc_leaves}
 use Rattle.paging_machine.proofs.WholeMachines.{whole, done_step}
@@ -10,8 +10,8 @@ use Rattle.sgx_types.specs.declared.names.Actor.TheVariants as actors
 use Rattle.sgx_rules.specs.declared.entries.Action.TheVariants.{Plus}
 use Rattle.sgx_rules.specs.declared.entries.Answer.TheVariants.{Value}
 use Rattle.cached_translations.specs.declared.processor.Processor.{Processor}
-use Rattle.paging_laws.specs.Steps.{did_by}
-use Rattle.cached_translations.specs.Modes.{is_inside}
+use Rattle.paging_laws.specs.inner.Steps.{did_by}
+use Rattle.cached_translations.specs.inner.Modes.{is_inside}
 use Rattle.paging_machine.proofs.machine.Machine.plus.Goals as goal
 
 pub invariant_of-self : goal.invariant_of-self

@@ -3,14 +3,14 @@ use Rattle.sgx_types.specs.declared.names.Actor.TheVariants as actors
 use Rattle.sgx_rules.specs.declared.entries.Action.TheVariants.{Resume}
 use Rattle.sgx_rules.specs.declared.entries.Answer.TheVariants.{Value}
 use Rattle.sgx_rules.specs.Sights.{seat_of}
-use Rattle.secs_state.specs.Table.{enclave_at}
+use Rattle.secs_state.specs.inner.Table.{enclave_at}
 use Rattle.cached_translations.specs.declared.processor.Processor.{Processor}
-use Rattle.cached_translations.specs.Modes.{is_inside}
-use Rattle.track_epoch.specs.Tracks.{track_of}
-use Rattle.paging_machine.specs.Whole.{parts_of}
-use Rattle.paging_machine.specs.Parts.{state_of, cpu_at}
-use Rattle.paging_laws.specs.State.{after_resume}
-use Rattle.paging_laws.specs.Steps.{did_by}
+use Rattle.cached_translations.specs.inner.Modes.{is_inside}
+use Rattle.track_epoch.specs.inner.Tracks.{track_of}
+use Rattle.paging_machine.specs.inner.Whole.{parts_of}
+use Rattle.paging_machine.specs.inner.Parts.{state_of, cpu_at}
+use Rattle.paging_laws.specs.inner.State.{after_resume}
+use Rattle.paging_laws.specs.inner.Steps.{did_by}
 use Rattle.paging_machine.proofs.Columns.{numbered}
 use Rattle.paging_machine.proofs.ProcessorBridge.{cpu_there, frame_added}
 use Rattle.paging_machine.proofs.TrackLaws.{room}

@@ -1,7 +1,7 @@
 use Rattle.std.proofs.Common.{sym, subst}
 use Rattle.sgx_rules.specs.declared.entries.Action.{Action}
-use Rattle.paging_laws.specs.Steps.{IsStep}
-use Rattle.paging_machine.specs.Parts.{state_of}
+use Rattle.paging_laws.specs.inner.Steps.{IsStep}
+use Rattle.paging_machine.specs.inner.Parts.{state_of}
 use Rattle.paging_machine.proofs.machine.Machine.row.Goals as goal
 
 pub returns-in_default-EwbStart-clause-step : goal.returns-in_default-EwbStart-clause-step

@@ -1,9 +1,9 @@
 use Rattle.std.proofs.Common.{◌≡◌, ◌∙◌, true, refl, ap, subst, sym, is_some}
-use Rattle.paging_machine.specs.Whole.{parts_of}
-use Rattle.paging_machine.specs.Parts.{Parts, state_of}
-use Rattle.epcm_entry.specs.Epc.{bytes_at, words_at}
-use Rattle.epcm_entry.specs.Words.{words_of}
-use Rattle.paging_laws.specs.Steps.{IsLeaving, SealsPage}
+use Rattle.paging_machine.specs.inner.Whole.{parts_of}
+use Rattle.paging_machine.specs.inner.Parts.{Parts, state_of}
+use Rattle.epcm_entry.specs.inner.Epc.{bytes_at, words_at}
+use Rattle.epcm_entry.specs.inner.Words.{words_of}
+use Rattle.paging_laws.specs.inner.Steps.{IsLeaving, SealsPage}
 use Rattle.paging_machine.proofs.PagingSights.{start_out}
 use Rattle.paging_machine.proofs.machine.Machine.seal_input.Goals as goal
 

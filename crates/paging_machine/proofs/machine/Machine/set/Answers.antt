@@ -1,11 +1,11 @@
 use Rattle.std.proofs.Common.{◌≡◌, ◌<◌, true, refl, sym, length}
-use Rattle.paging_machine.specs.Whole.{parts_of}
-use Rattle.paging_machine.specs.Parts.{state_of, cpu_at}
-use Rattle.paging_laws.specs.State.{with_acc}
+use Rattle.paging_machine.specs.inner.Whole.{parts_of}
+use Rattle.paging_machine.specs.inner.Parts.{state_of, cpu_at}
+use Rattle.paging_laws.specs.inner.State.{with_acc}
 use Rattle.paging_machine.proofs.ProcessorBridge.{cpu_there}
 use Rattle.paging_machine.proofs.AccessBridge.{inside_only, acc_leaves}
 use Rattle.paging_machine.proofs.WholeMachines.{whole, done_step}
-use Rattle.cached_translations.specs.Modes.{is_inside}
+use Rattle.cached_translations.specs.inner.Modes.{is_inside}
 use Rattle.paging_machine.proofs.machine.Machine.set.Goals as goal
 
 pub invariant_of-self : goal.invariant_of-self

@@ -1,7 +1,7 @@
 use Rattle.std.proofs.Common.{arith}
-use Rattle.paging_machine.specs.Whole.{parts_of}
-use Rattle.paging_machine.specs.Parts.{state_of}
-use Rattle.paging_laws.specs.State.{after_epa}
+use Rattle.paging_machine.specs.inner.Whole.{parts_of}
+use Rattle.paging_machine.specs.inner.Parts.{state_of}
+use Rattle.paging_laws.specs.inner.State.{after_epa}
 use Rattle.paging_machine.proofs.BuildBridge.{few_pages, takes-epa}
 use Rattle.paging_machine.proofs.BuildSteps.{epa_leaves}
 use Rattle.paging_machine.proofs.WholeMachines.{whole}

@@ -1,7 +1,7 @@
 use Rattle.std.proofs.Common.{◌≡◌, ◌<◌, ◌∙◌, Some, None, sym, ap, length}
-use Rattle.paging_machine.specs.Whole.{parts_of}
-use Rattle.paging_machine.specs.Parts.{state_of, cpu_at}
-use Rattle.paging_laws.specs.State.{row_of, after_store}
+use Rattle.paging_machine.specs.inner.Whole.{parts_of}
+use Rattle.paging_machine.specs.inner.Parts.{state_of, cpu_at}
+use Rattle.paging_laws.specs.inner.State.{row_of, after_store}
 use Rattle.paging_machine.proofs.ProcessorBridge.{cpu_there}
 use Rattle.paging_machine.proofs.AccessBridge.{access_row_at, through, store_leaves}
 use Rattle.paging_machine.proofs.WholeMachines.{whole, whole_same, done_step, refused_step, by_view}

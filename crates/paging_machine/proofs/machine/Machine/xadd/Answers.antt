@@ -1,16 +1,16 @@
 use Rattle.std.proofs.Common.{◌≡◌, ◌<◌, ◌∙◌, Some, None, sym, ap, length}
-use Rattle.paging_machine.specs.Whole.{parts_of}
-use Rattle.paging_machine.specs.Parts.{state_of, cpu_at}
-use Rattle.paging_laws.specs.State.{row_of, word_at, after_xadd}
+use Rattle.paging_machine.specs.inner.Whole.{parts_of}
+use Rattle.paging_machine.specs.inner.Parts.{state_of, cpu_at}
+use Rattle.paging_laws.specs.inner.State.{row_of, word_at, after_xadd}
 use Rattle.paging_machine.proofs.ProcessorBridge.{cpu_there}
 use Rattle.paging_machine.proofs.AccessBridge.{access_row_at, through, store_leaves, word_seen}
 use Rattle.paging_machine.proofs.WholeMachines.{whole, whole_same, done_step, refused_step, by_view}
 use Rattle.sgx_types.specs.declared.names.Actor.TheVariants as actors
 use Rattle.sgx_rules.specs.declared.entries.Action.TheVariants.{Xadd}
 use Rattle.sgx_rules.specs.Flat.{sum_of}
-use Rattle.enclave_access.specs.Access.{with_stored}
+use Rattle.enclave_access.specs.inner.Access.{with_stored}
 use Rattle.sgx_rules.specs.declared.entries.Answer.TheVariants.{Value}
-use Rattle.paging_laws.specs.Steps.{did_by}
+use Rattle.paging_laws.specs.inner.Steps.{did_by}
 use Rattle.sgx_rules.specs.Table.{first_of_row, allows_update}
 use Rattle.paging_machine.proofs.machine.Machine.xadd.Goals.{in-Ok, in-Err}
 use Rattle.paging_machine.proofs.machine.Machine.xadd.Goals as goal

@@ -3,22 +3,22 @@ use Rattle.std.proofs.Common.{List}
 use Rattle.sgx_rules.specs.declared.entries.Entry.{Entry}
 use Rattle.job_grammar.specs.Jobs.{JobView}
 use Rattle.sgx_types.specs.Making.{Making}
-use Rattle.reclaim_worker.specs.Answers.{IsTurn}
-use Rattle.driver_rules.specs.Reclaims.{pass_due}
-use Rattle.reclaim_worker.specs.Ready.{Ready}
-use Rattle.reclaim_worker.specs.Standing.{is_kicked}
-use Rattle.reclaim_worker.specs.Turning.{TurnSays}
+use Rattle.reclaim_worker.specs.inner.Answers.{IsTurn}
+use Rattle.driver_rules.specs.inner.Reclaims.{pass_due}
+use Rattle.reclaim_worker.specs.inner.Ready.{Ready}
+use Rattle.reclaim_worker.specs.inner.Standing.{is_kicked}
+use Rattle.reclaim_worker.specs.inner.Turning.{TurnSays}
 use Rattle.reclaim_worker.proofs.DueLaws.{if_ok, turn_is_due}
 use Rattle.driver_rules.specs.Passes.{pass}
-use Rattle.reclaim_worker.specs.Kept.{TurnKeeps}
+use Rattle.reclaim_worker.specs.inner.Kept.{TurnKeeps}
 use Rattle.reclaim_worker.proofs.KeptLaws.{due_keeps}
-use Rattle.reclaim_worker.specs.After.{StandsAfter}
-use Rattle.reclaim_worker.specs.Rests.{DriverSays, IsWait}
-use Rattle.reclaim_worker.specs.Shown.{ShowsAfter}
+use Rattle.reclaim_worker.specs.inner.After.{StandsAfter}
+use Rattle.reclaim_worker.specs.inner.Rests.{DriverSays, IsWait}
+use Rattle.reclaim_worker.specs.inner.Shown.{ShowsAfter}
 use Rattle.reclaim_worker.proofs.ShownLaws.{if_ok2, turn_shown}
 use Rattle.reclaim_worker.proofs.StandLaws.{turn_stands}
-use Rattle.reclaim_worker.specs.Asked.{look_in, places_by}
-use Rattle.reclaim_worker.specs.Stored.{still_out}
+use Rattle.reclaim_worker.specs.inner.Asked.{look_in, places_by}
+use Rattle.reclaim_worker.specs.inner.Stored.{still_out}
 use Rattle.reclaim_worker.proofs.PlaceLaws.{places_kept}
 use Rattle.reclaim_worker.proofs.passes.Pass.step.Goals as goal
 

@@ -1,9 +1,9 @@
 use Rattle.std.proofs.Common.{List, length, sym, ap, subst, ◌∙◌, arith}
 use Rattle.std.proofs.lemmas.List.{length-map}
 use Rattle.job_grammar.specs.declared.jobs.Op.{Op}
-use Rattle.job_grammar.specs.Valid.{IsValid}
+use Rattle.job_grammar.specs.inner.Valid.{IsValid}
 use Rattle.run_turns.specs.declared.course.Course.{Course}
-use Rattle.run_turns.specs.Views.{BookView}
+use Rattle.run_turns.specs.inner.Views.{BookView}
 use Rattle.run_turns.proofs.book.Book.cpus.Goals as goal
 
 pub overflow_cast-result : goal.overflow_cast-result

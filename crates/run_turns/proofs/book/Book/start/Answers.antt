@@ -1,7 +1,7 @@
 use Rattle.std.proofs.Common.{◌≡◌, IfSome, [], sym, ap, subst, ◌∙◌}
 use Rattle.job_grammar.specs.Jobs.{JobView}
 use Rattle.run_turns.specs.declared.course.Course.{Course}
-use Rattle.run_turns.specs.Kept.{IsKept}
+use Rattle.run_turns.specs.inner.Kept.{IsKept}
 use Rattle.run_turns.proofs.ViewLaws.{plans_begin}
 use Rattle.run_turns.proofs.book.Book.start.Goals as goal
 

@@ -1,7 +1,7 @@
 use Rattle.std.proofs.Common.{◌≡◌, ◌<◌, true, false, length, arith, sym, subst, ◌∙◌}
 use Rattle.turn_rules.specs.Machines.{machine_of}
-use Rattle.driver_rules.specs.Reclaims.{are_finished}
-use Rattle.run_turns.specs.Courses.{past_of}
+use Rattle.driver_rules.specs.inner.Reclaims.{are_finished}
+use Rattle.run_turns.specs.inner.Courses.{past_of}
 use Rattle.run_turns.proofs.FinishLaws.{all_done, built_is, cpu_is, more_finished, not_built, not_done, one_unfinished}
 use Rattle.run_turns.proofs.course.Course.all_finished.Goals as goal
 

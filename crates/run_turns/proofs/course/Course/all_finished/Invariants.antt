@@ -1,6 +1,6 @@
 use Rattle.std.proofs.Common.{◌≡◌, true}
-use Rattle.driver_rules.specs.Reclaims.{are_finished}
-use Rattle.run_turns.specs.Courses.{past_of}
+use Rattle.driver_rules.specs.inner.Reclaims.{are_finished}
+use Rattle.run_turns.specs.inner.Courses.{past_of}
 use Rattle.run_turns.proofs.course.Course.all_finished.Given as goal
 
 -- the processors so far have nothing left

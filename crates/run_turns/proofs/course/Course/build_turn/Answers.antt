@@ -1,8 +1,8 @@
 use Rattle.std.proofs.Common.{refl, sym, ap, subst, ◌∙◌}
 use Rattle.turn_rules.specs.Machines.{machine_of}
-use Rattle.turn_tables.specs.Due.{building_in}
-use Rattle.run_turns.specs.Courses.{past_of}
-use Rattle.run_turns.specs.Turns.{IsWaitBy}
+use Rattle.turn_tables.specs.inner.Due.{building_in}
+use Rattle.run_turns.specs.inner.Courses.{past_of}
+use Rattle.run_turns.specs.inner.Turns.{IsWaitBy}
 use Rattle.run_turns.proofs.BuilderLaws.{builder_made}
 use Rattle.run_turns.proofs.KeepLaws.{same_self}
 use Rattle.run_turns.proofs.course.Course.build_turn.Goals as goal

@@ -1,14 +1,15 @@
 use Rattle.std.proofs.Common.{◌≡◌, ◌∷◌, length, refl, sym, ap, subst, ◌∙◌, arith}
-use Rattle.driver_calls.specs.Comes.{bus_of}
+use Rattle.driver_calls.specs.inner.Comes.{bus_of}
 use Rattle.fault_handler.specs.declared.answers.Loaded.TheVariants as ends
-use Rattle.table_notes.specs.Plain.{is_reclaimer}
-use Rattle.turn_tables.specs.Holding.{mode_of}
+use Rattle.table_notes.specs.inner.Plain.{is_reclaimer}
+use Rattle.turn_tables.specs.inner.Holding.{mode_of}
 use Rattle.run_turns.specs.declared.course.Course.{Course}
-use Rattle.run_turns.specs.Courses.{past_of}
-use Rattle.run_turns.specs.Recording.{CanTake}
+use Rattle.run_turns.specs.inner.Courses.{past_of}
+use Rattle.run_turns.specs.inner.Recording.{CanTake}
 use Rattle.run_turns.proofs.InstructLaws.{cpus_of}
 use Rattle.run_turns.proofs.LoadCourse.{can_take, course_stands}
-use Rattle.run_turns.proofs.LoadEnds.{Takes, back_keeps, end_facts, grows_one, load_ends_here, load_ends_so, opened_can, own_last, took_in}
+use Rattle.run_turns.proofs.LoadEnds.{Takes, back_keeps, end_facts, grows_one, load_ends_here, load_ends_so, opened_can}
+use Rattle.run_turns.proofs.LoadEnds.{own_last, took_in}
 use Rattle.run_turns.proofs.LoadEnds.{took_past}
 use Rattle.run_turns.proofs.LoadPair.{back_done, end_last, first_stands, pair_grows, second_can, took_first}
 use Rattle.run_turns.proofs.course.Course.end_load.Goals as goal

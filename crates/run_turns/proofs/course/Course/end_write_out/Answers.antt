@@ -1,8 +1,8 @@
 use Rattle.std.proofs.Common.{subst, sym}
 use Rattle.turn_rules.specs.Machines.{machine_of}
-use Rattle.run_turns.specs.Courses.{past_of}
-use Rattle.paging_machine.specs.Parts.{state_of}
-use Rattle.run_turns.specs.Turns.{EndsOut}
+use Rattle.run_turns.specs.inner.Courses.{past_of}
+use Rattle.paging_machine.specs.inner.Parts.{state_of}
+use Rattle.run_turns.specs.inner.Turns.{EndsOut}
 use Rattle.run_turns.proofs.CallLaws.{stored_tells, stored_writes}
 use Rattle.run_turns.proofs.EndTurnLaws.{course_open, end_is_own, one_out}
 use Rattle.run_turns.proofs.FollowLaws.{course_ready}

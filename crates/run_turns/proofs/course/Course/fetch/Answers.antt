@@ -1,11 +1,12 @@
 use Rattle.std.proofs.Common.{◌≡◌, false, reverse, ◌∷◌, ◌++◌, [], inl, refl, ap, sym, subst, ◌∙◌, arith}
 use Rattle.fault_handler.specs.declared.answers.FaultAnswer.TheVariants as answers
-use Rattle.run_turns.specs.Courses.{KeepsCourse}
-use Rattle.run_turns.proofs.LoadFetch.{again_keeps, again_same, again_waits_by, fetched_of, here_keeps, here_same, here_waits_by, mid}
+use Rattle.run_turns.specs.inner.Courses.{KeepsCourse}
+use Rattle.run_turns.proofs.LoadFetch.{again_keeps, again_same, again_waits_by, fetched_of, here_keeps, here_same, here_waits_by}
+use Rattle.run_turns.proofs.LoadFetch.{mid}
 use Rattle.run_turns.proofs.LoadFetch.{start_can, start_turns, told_takes, told_turns}
 use Rattle.run_turns.proofs.RecordLaws.{longer_apart, newest, none_started_by}
-use Rattle.driver_calls.specs.Comes.{bus_of}
-use Rattle.driver_rules.specs.Stops.{started}
+use Rattle.driver_calls.specs.inner.Comes.{bus_of}
+use Rattle.driver_rules.specs.inner.Stops.{started}
 use Rattle.sgx_types.specs.declared.names.Actor.TheVariants as actors
 use Rattle.sgx_rules.specs.declared.entries.Entry.{Entry}
 use Rattle.run_turns.proofs.SameLaws.{same_keeps}

@@ -1,8 +1,8 @@
-use Rattle.reclaim_worker.specs.After.{kicked_past}
-use Rattle.run_turns.specs.Courses.{past_of}
+use Rattle.reclaim_worker.specs.inner.After.{kicked_past}
+use Rattle.run_turns.specs.inner.Courses.{past_of}
 use Rattle.std.proofs.Common.{◌≡◌, ℕ, List, [], length, refl, ap, subst, sym, ◌∙◌}
 use Rattle.driver_rules.specs.Dues.{Due, KicksAll}
-use Rattle.run_turns.specs.Passing.{FollowsBy, IsFollowed}
+use Rattle.run_turns.specs.inner.Passing.{FollowsBy, IsFollowed}
 use Rattle.run_turns.specs.declared.turn.Turn.TheVariants as turns
 use Rattle.run_turns.proofs.AnswerLaws.{did_by, own_by, sealed_by}
 use Rattle.run_turns.proofs.KickTurnLaws.{kicks_grow}

@@ -1,14 +1,14 @@
 use Rattle.std.proofs.Common.{◌≡◌, false, reverse, ◌≤◌, ◌∷◌, sym, subst, ap, refl, arith}
-use Rattle.driver_steps.specs.Carried.{Carries}
+use Rattle.driver_steps.specs.inner.Carried.{Carries}
 use Rattle.driver_tables.specs.declared.driver.Driver.{Driver}
-use Rattle.paging_machine.specs.Parts.{state_of}
-use Rattle.table_notes.specs.Arrays.{KeepsArrays}
+use Rattle.paging_machine.specs.inner.Parts.{state_of}
+use Rattle.table_notes.specs.inner.Arrays.{KeepsArrays}
 use Rattle.run_turns.specs.declared.course.Course.{Course}
-use Rattle.run_turns.specs.Courses.{past_of}
+use Rattle.run_turns.specs.inner.Courses.{past_of}
 use Rattle.run_turns.proofs.EndedLaws.{ends_told, none_fail}
 use Rattle.run_turns.proofs.InstructLaws.{none_started_of, acts, entered, lawful, notable, noted_by, plain_event}
 use Rattle.run_turns.proofs.KeepLaws.{grown_by_one, take_at}
-use Rattle.driver_rules.specs.Stops.{started}
+use Rattle.driver_rules.specs.inner.Stops.{started}
 use Rattle.run_turns.proofs.RecordLaws.{newest, plain_is_none}
 use Rattle.run_turns.proofs.course.Course.instruct.Goals as goal
 

@@ -1,7 +1,7 @@
 use Rattle.std.proofs.Common.{◌≡◌, ◌+◌, length, arith, refl, sym, ap, subst, ◌∙◌}
-use Rattle.run_steps.specs.Bits.{below}
+use Rattle.run_steps.specs.inner.Bits.{below}
 use Rattle.run_steps.proofs.BitLaws.{below_zero}
-use Rattle.run_turns.specs.Kicking.{HasKicked}
+use Rattle.run_turns.specs.inner.Kicking.{HasKicked}
 use Rattle.run_turns.proofs.KickTurnLaws.{all_kicked, few_below, kicked_next, next_kick, none_kicked}
 use Rattle.run_turns.proofs.course.Course.kick.Goals as goal
 

@@ -1,6 +1,6 @@
 use Rattle.std.proofs.Common.{◌≡◌, length}
-use Rattle.run_steps.specs.Bits.{below}
-use Rattle.run_turns.specs.Kicking.{CanKick, HasKicked}
+use Rattle.run_steps.specs.inner.Bits.{below}
+use Rattle.run_turns.specs.inner.Kicking.{CanKick, HasKicked}
 use Rattle.run_turns.proofs.course.Course.kick.Given as goal
 
 -- those below the number are kicked

@@ -1,4 +1,4 @@
-use Rattle.run_turns.specs.Courses.{past_of}
+use Rattle.run_turns.specs.inner.Courses.{past_of}
 use Rattle.run_turns.proofs.LoadCourse.{kept_room, open_waits}
 use Rattle.run_turns.proofs.course.Course.open_again.Goals as goal
 

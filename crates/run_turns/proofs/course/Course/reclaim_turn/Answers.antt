@@ -1,6 +1,6 @@
 use Rattle.std.proofs.Common.{sym, ◌∙◌}
-use Rattle.reclaim_worker.specs.Standing.{is_kicked}
-use Rattle.run_turns.specs.Courses.{past_of}
+use Rattle.reclaim_worker.specs.inner.Standing.{is_kicked}
+use Rattle.run_turns.specs.inner.Courses.{past_of}
 use Rattle.run_turns.proofs.KeepLaws.{same_self}
 use Rattle.run_turns.proofs.StartLaws.{finished_due}
 use Rattle.run_turns.proofs.course.Course.reclaim_turn.Goals as goal

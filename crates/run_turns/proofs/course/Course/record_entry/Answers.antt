@@ -1,13 +1,13 @@
 use Rattle.std.proofs.Common.{◌∷◌, sym, subst, arith}
 use Rattle.std.proofs.lemmas.List.{length-reverse}
 use Rattle.turn_rules.specs.Machines.{machine_of}
-use Rattle.active_list.specs.Active.{ActiveList}
-use Rattle.turn_tables.specs.Holding.{KeepsHolds}
+use Rattle.active_list.specs.inner.Active.{ActiveList}
+use Rattle.turn_tables.specs.inner.Holding.{KeepsHolds}
 use Rattle.turn_tables.proofs.FirstLaws.{counts_few}
-use Rattle.run_book.specs.Books.{KeepsBook}
+use Rattle.run_book.specs.inner.Books.{KeepsBook}
 use Rattle.run_book.proofs.BookLaws.{book_more}
 use Rattle.run_steps.proofs.EntryLaws.{can_hold, can_note}
-use Rattle.run_turns.specs.Courses.{past_of}
+use Rattle.run_turns.specs.inner.Courses.{past_of}
 use Rattle.run_turns.proofs.course.Course.record_entry.Goals as goal
 
 pub hold-requires : goal.hold-requires

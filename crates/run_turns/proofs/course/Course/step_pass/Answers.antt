@@ -1,6 +1,6 @@
 use Rattle.std.proofs.Common.{subst, sym}
 use Rattle.turn_rules.specs.Machines.{machine_of}
-use Rattle.run_turns.specs.Courses.{KeepsCourse, past_of}
+use Rattle.run_turns.specs.inner.Courses.{KeepsCourse, past_of}
 use Rattle.run_turns.proofs.CallLaws.{followed_waits, turn_tells}
 use Rattle.run_turns.proofs.AnswerLaws.{turn_answers, turn_keeps}
 use Rattle.run_turns.proofs.FollowLaws.{course_ready, follows_by}

@@ -1,11 +1,11 @@
 use Rattle.std.proofs.Common.{◌≡◌, ◌∷◌, ◌∙◌, sym, subst, ap}
 use Rattle.turn_rules.specs.Machines.{machine_of}
 use Rattle.driver_rules.specs.Passes.{pass, pass_after}
-use Rattle.reclaim_worker.specs.Standing.{StandsFor}
+use Rattle.reclaim_worker.specs.inner.Standing.{StandsFor}
 use Rattle.reclaim_worker.specs.declared.passes.Pass as passes
 use Rattle.run_steps.proofs.EntryLaws.{free_told}
 use Rattle.run_turns.specs.declared.course.Course.{Course}
-use Rattle.run_turns.specs.Courses.{past_of}
+use Rattle.run_turns.specs.inner.Courses.{past_of}
 use Rattle.run_turns.proofs.course.Course.take_in.Goals as goal
 
 pub returns-clause-book : goal.returns-clause-book

@@ -1,9 +1,9 @@
 use Rattle.std.proofs.Common.{refl, sym, ap, subst, ◌∙◌}
 use Rattle.turn_rules.specs.Machines.{machine_of}
 use Rattle.driver_rules.specs.Dues.{Makes}
-use Rattle.turn_tables.specs.Due.{due_in}
-use Rattle.run_turns.specs.Courses.{past_of}
-use Rattle.run_turns.specs.Turns.{IsWaitBy}
+use Rattle.turn_tables.specs.inner.Due.{due_in}
+use Rattle.run_turns.specs.inner.Courses.{past_of}
+use Rattle.run_turns.specs.inner.Turns.{IsWaitBy}
 use Rattle.run_turns.proofs.ReportLaws.{none_reports}
 use Rattle.run_turns.proofs.KeepLaws.{same_self}
 use Rattle.run_turns.proofs.LoadCourse.{ends_loads}

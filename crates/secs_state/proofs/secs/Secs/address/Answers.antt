@@ -1,5 +1,5 @@
 use Rattle.std.proofs.Common.{arith, rules, ◌+◌, ◌*◌, ◌<◌, ◌^◌}
-use Rattle.secs_state.specs.Kept.{secs_of}
+use Rattle.secs_state.specs.inner.Kept.{secs_of}
 use Rattle.secs_state.proofs.Addresses.{address_fits}
 use Rattle.secs_state.proofs.secs.Secs.address.Goals as goal
 

@@ -1,5 +1,5 @@
 use Rattle.std.proofs.Common.{◌∙◌, ap, arith}
-use Rattle.sgx_types.specs.Sealed.{record_bytes}
+use Rattle.sgx_types.specs.inner.Sealed.{record_bytes}
 use Rattle.sgx_types.proofs.Records.{read_parts, record_bytes-record_in, record_in-record_bytes}
 use Rattle.sgx_types.proofs.record.Record.from_bytes.Goals as goal
 

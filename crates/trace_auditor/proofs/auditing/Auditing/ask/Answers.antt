@@ -1,5 +1,5 @@
 use Rattle.std.proofs.Common.{sym, ◌∙◌, refl}
-use Rattle.seal_record.specs.Sealing.{made_by}
+use Rattle.seal_record.specs.inner.Sealing.{made_by}
 use Rattle.turn_rules.specs.Machines.{machine_of}
 use Rattle.trace_auditor.proofs.AskLaws.{note_of, noted}
 use Rattle.trace_auditor.proofs.auditing.Auditing.ask.Goals as goal

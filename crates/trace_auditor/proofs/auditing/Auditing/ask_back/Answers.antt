@@ -1,5 +1,5 @@
 use Rattle.std.proofs.Common.{sym, ◌∙◌}
-use Rattle.paging_machine.specs.Parts.{state_of}
+use Rattle.paging_machine.specs.inner.Parts.{state_of}
 use Rattle.trace_auditor.proofs.AskLaws.{away_back, broken_back, here_back, none_loaded, some_kept}
 use Rattle.trace_auditor.proofs.auditing.Auditing.ask_back.Goals as goal
 

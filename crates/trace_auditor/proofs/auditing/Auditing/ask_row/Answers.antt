@@ -1,7 +1,7 @@
 use Rattle.std.proofs.Common.{◌≡◌, ◌∙◌, true, refl, sym}
 use Rattle.std.proofs.lemmas.Bool.{false≢true}
-use Rattle.paging_laws.specs.Steps.{is_of_cpus}
-use Rattle.trace_auditor.specs.Asking.{is_cpu}
+use Rattle.paging_laws.specs.inner.Steps.{is_of_cpus}
+use Rattle.trace_auditor.specs.inner.Asking.{is_cpu}
 use Rattle.trace_auditor.proofs.AskLaws.{answered, applies, breaks, out_of, reclaimers}
 use Rattle.trace_auditor.proofs.auditing.Auditing.ask_row.Goals.{else-is_of_cpus-via-then-is_of_cpus+else-not-is_cpu}
 use Rattle.trace_auditor.proofs.auditing.Auditing.ask_row.Goals.{else-is_of_cpus-via-else-is_of_cpus}

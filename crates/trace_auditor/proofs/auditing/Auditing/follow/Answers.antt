@@ -1,5 +1,6 @@
 use Rattle.std.proofs.Common.{◌∙◌}
-use Rattle.trace_auditor.proofs.FollowLaws.{all_follows, among, can_follow, can_hold, can_note, few, followed_by, holds_by, settled_with}
+use Rattle.trace_auditor.proofs.FollowLaws.{all_follows, among, can_follow, can_hold, can_note, few, followed_by, holds_by}
+use Rattle.trace_auditor.proofs.FollowLaws.{settled_with}
 use Rattle.trace_auditor.proofs.FollowLaws.{with_list}
 use Rattle.trace_auditor.proofs.auditing.Auditing.follow.Goals as goal
 

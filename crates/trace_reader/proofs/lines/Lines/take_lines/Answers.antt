@@ -1,6 +1,6 @@
 -- A line more is taken, or refused.
 use Rattle.std.proofs.Common.{◌++◌}
-use Rattle.trace_reader.specs.Lines.{joined, taken}
+use Rattle.trace_reader.specs.inner.Lines.{joined, taken}
 use Rattle.trace_reader.proofs.FaultLaws.{front_trans}
 use Rattle.trace_reader.proofs.PieceLaws.{refused_more, taken_more}
 use Rattle.trace_reader.proofs.lines.Lines.take_lines.Goals as goal

@@ -1,6 +1,6 @@
 -- The lines that were taken and the rest are the text.
 use Rattle.std.proofs.Common.{◌≡◌, ◌++◌, length, take}
-use Rattle.trace_reader.specs.Lines.{IsKept, joined, taken}
+use Rattle.trace_reader.specs.inner.Lines.{IsKept, joined, taken}
 use Rattle.trace_reader.proofs.lines.Lines.take_lines.Given as goal
 
 abbrev pub invariant-loop-line : goal.invariant-loop-line

@@ -1,6 +1,6 @@
 -- All whole lines begin a trace.
 use Rattle.std.proofs.Common.{◌++◌}
-use Rattle.trace_reader.specs.Lines.{joined, taken}
+use Rattle.trace_reader.specs.inner.Lines.{joined, taken}
 use Rattle.trace_reader.proofs.FaultLaws.{taken_begun}
 use Rattle.trace_reader.proofs.FeedLaws.{feeds_ok}
 use Rattle.trace_reader.proofs.reader.TraceReader.feed.Goals as goal

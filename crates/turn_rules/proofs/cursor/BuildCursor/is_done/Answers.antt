@@ -1,6 +1,6 @@
 use Rattle.std.proofs.Common.{ap, arith, leb-false, length}
 use Rattle.std.proofs.lemmas.List.{length-map}
-use Rattle.job_grammar.specs.Jobs.{enclave_view}
+use Rattle.job_grammar.specs.inner.Jobs.{enclave_view}
 use Rattle.turn_rules.proofs.CursorLaws.{some_left}
 use Rattle.turn_rules.proofs.cursor.BuildCursor.is_done.Goals as goal
 

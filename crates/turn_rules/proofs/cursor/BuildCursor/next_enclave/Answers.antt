@@ -1,5 +1,5 @@
 use Rattle.std.proofs.Common.{◌≡◌, Some, refl, slice_get}
-use Rattle.job_grammar.specs.Jobs.{enclave_view}
+use Rattle.job_grammar.specs.inner.Jobs.{enclave_view}
 use Rattle.job_grammar.proofs.EnclaveLaws.{enclave-told}
 use Rattle.turn_rules.proofs.CursorLaws.{left_enclave}
 use Rattle.turn_rules.proofs.cursor.BuildCursor.next_enclave.Goals as goal

@@ -1,6 +1,6 @@
 use Rattle.std.proofs.Common.{◌-◌, ap, arith, length}
 use Rattle.std.proofs.lemmas.List.{length-map}
-use Rattle.job_grammar.specs.Jobs.{enclave_view}
+use Rattle.job_grammar.specs.inner.Jobs.{enclave_view}
 use Rattle.turn_rules.proofs.CursorLaws.{left_init, left_line, line_of, valid_of, view_at}
 use Rattle.turn_rules.proofs.cursor.BuildCursor.next_within.Goals as goal
 

@@ -1,5 +1,5 @@
 use Rattle.std.proofs.Common.{length, map, ap, arith}
-use Rattle.active_list.specs.Places.{IsPlaced}
+use Rattle.active_list.specs.inner.Places.{IsPlaced}
 use Rattle.turn_tables.proofs.TableLaws.{if_any, place_there}
 use Rattle.turn_tables.proofs.tcs_turns.TcsTurns.get.Goals as goal
 

@@ -1,7 +1,7 @@
 use Rattle.std.proofs.Common.{ap, ◌∙◌}
 use Rattle.job_grammar.specs.Jobs.{tcs_line}
-use Rattle.driver_tables.specs.Counts.{last_end}
-use Rattle.turn_tables.specs.TcsTurns.{tcs_by}
+use Rattle.driver_tables.specs.inner.Counts.{last_end}
+use Rattle.turn_tables.specs.inner.TcsTurns.{tcs_by}
 use Rattle.turn_tables.proofs.PlaceLaws.{table_pushed}
 use Rattle.turn_tables.proofs.tcs_turns.TcsTurns.new.Goals as goal
 

@@ -1,7 +1,7 @@
 use Rattle.std.proofs.Common.{map, take}
-use Rattle.job_grammar.specs.Jobs.{enclave_view}
-use Rattle.turn_tables.specs.TcsTurns.{IsNewTable}
-use Rattle.turn_tables.specs.TcsPlaces.{turns_in}
+use Rattle.job_grammar.specs.inner.Jobs.{enclave_view}
+use Rattle.turn_tables.specs.inner.TcsTurns.{IsNewTable}
+use Rattle.turn_tables.specs.inner.TcsPlaces.{turns_in}
 use Rattle.turn_tables.proofs.tcs_turns.TcsTurns.new.Given as goal
 
 abbrev pub invariant-loop-enclave : goal.invariant-loop-enclave

@@ -1,5 +1,5 @@
 use Rattle.std.proofs.Common.{ap, ◌∙◌}
-use Rattle.turn_tables.specs.Due.{building_in}
+use Rattle.turn_tables.specs.inner.Due.{building_in}
 use Rattle.turn_tables.proofs.DueLaws.{builder_is}
 use Rattle.turn_tables.proofs.LookLaws.{places_same}
 use Rattle.turn_tables.proofs.turns.Turns.builder_due.Goals as goal

@@ -1,5 +1,5 @@
 use Rattle.std.proofs.Common.{ap, ◌∙◌}
-use Rattle.turn_tables.specs.Due.{due_in}
+use Rattle.turn_tables.specs.inner.Due.{due_in}
 use Rattle.turn_tables.proofs.DueLaws.{cpu_is}
 use Rattle.turn_tables.proofs.LookLaws.{can_ask}
 use Rattle.turn_tables.proofs.turns.Turns.cpu_due.Goals as goal

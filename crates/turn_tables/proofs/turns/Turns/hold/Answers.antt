@@ -1,6 +1,6 @@
 use Rattle.std.proofs.Common.{◌≡◌, ◌∷◌, subst, sym}
-use Rattle.active_list.specs.Active.{ActiveList}
-use Rattle.turn_tables.specs.Holding.{KeepsHolds, held_after}
+use Rattle.active_list.specs.inner.Active.{ActiveList}
+use Rattle.turn_tables.specs.inner.Holding.{KeepsHolds, held_after}
 use Rattle.turn_tables.proofs.HoldLaws.{but_own, entry_fits, entry_keeps, entry_others}
 use Rattle.turn_tables.proofs.turns.Turns.hold.Goals as goal
 

@@ -1,7 +1,7 @@
 use Rattle.std.proofs.Common.{ap, ◌∙◌}
 use Rattle.sgx_types.specs.Pages.{page_at}
-use Rattle.turn_tables.specs.Asked.{frame_seen, last_save_of, resumes_by}
-use Rattle.turn_tables.specs.TcsTurns.{tcs_at}
+use Rattle.turn_tables.specs.inner.Asked.{frame_seen, last_save_of, resumes_by}
+use Rattle.turn_tables.specs.inner.TcsTurns.{tcs_at}
 use Rattle.turn_tables.proofs.turns.Turns.resumption.Goals as goal
 
 pub returns : goal.returns

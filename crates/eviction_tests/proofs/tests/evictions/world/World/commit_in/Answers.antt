@@ -1,5 +1,5 @@
 use Rattle.std.proofs.Common.{rules}
-use Rattle.evict_reload.specs.Sights.{added_in}
+use Rattle.evict_reload.specs.inner.Sights.{added_in}
 use Rattle.evict_reload.proofs.CallLaws.{after_commit_in}
 use Rattle.eviction_tests.proofs.tests.evictions.world.World.commit_in.Goals as goal
 

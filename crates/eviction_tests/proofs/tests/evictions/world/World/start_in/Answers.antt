@@ -1,4 +1,4 @@
-use Rattle.evict_reload.specs.Sights.{enclave_sight, is_added}
+use Rattle.evict_reload.specs.inner.Sights.{enclave_sight, is_added}
 use Rattle.evict_reload.proofs.CallLaws.{after_start_in}
 use Rattle.eviction_tests.proofs.tests.evictions.world.World.start_in.Goals as goal
 

@@ -1,4 +1,4 @@
-use Rattle.evict_reload.specs.Sights.{drain_sight}
+use Rattle.evict_reload.specs.inner.Sights.{drain_sight}
 use Rattle.evict_reload.proofs.CallLaws.{after_start_out}
 use Rattle.eviction_tests.proofs.tests.evictions.world.World.start_out.Goals as goal
 

@@ -1,0 +1,58 @@
+-- When the driver's tables can follow an entry of a trace, and what is so of them then.
+use Rattle.std.specs.Prelude.{◌≡◌, true, List, ◌∷◌, Option, None, Some}
+use Rattle.sgx_rules.specs.declared.entries.Action.{Action}
+use Rattle.sgx_rules.specs.declared.entries.Action.TheVariants.{Ewb, Eld}
+use Rattle.sgx_rules.specs.declared.entries.Entry.{Entry}
+use Rattle.sgx_rules.specs.declared.entries.Event.{Event}
+use Rattle.sgx_rules.specs.declared.entries.Event.TheVariants.{Did, Refused}
+use Rattle.sgx_types.specs.declared.names.Frame.{Frame}
+use Rattle.sgx_rules.specs.Starts.{open_start}
+use Rattle.sgx_rules.specs.inner.Starts.{bare_start}
+use Rattle.cached_translations.specs.declared.processor.Mode.{Mode}
+use Rattle.job_grammar.specs.Jobs.{JobView}
+use Rattle.turn_rules.specs.Script.{action_of}
+use Rattle.version_array.specs.inner.Keeper.{count_out}
+use Rattle.paging_laws.specs.inner.Steps.{IsStep}
+use Rattle.paging_machine.specs.declared.starts.Start as starts
+use Rattle.paging_machine.specs.inner.Parts.{Parts, start_of, state_of}
+use Rattle.driver_laws.specs.inner.Counted.{CountMoves}
+use Rattle.driver_tables.specs.declared.driver.Driver.{Driver}
+use Rattle.driver_tables.specs.inner.Tables.{ShowsTables}
+use Rattle.run_history.specs.inner.Histories.{GoesOn}
+use Rattle.turn_tables.specs.declared.turns.Turns.{Turns}
+use Rattle.turn_tables.specs.inner.Holding.{mode_of}
+use Rattle.table_notes.specs.inner.Arrays.{KeepsArrays}
+use Rattle.table_notes.specs.inner.Plain.{is_plain}
+use Rattle.audit_laws.specs.inner.Shown.{ShowsTrace}
+
+-- the frame of the start that an event ends
+abbrev pub frame_ended : Event → Option Frame
+frame_ended (Did (Ewb f) answer) = Some f
+frame_ended (Did (Eld f) answer) = Some f
+frame_ended (Refused (Eld f) refusal) = Some f
+frame_ended event = None
+
+-- an entry of a trace which keeps each rule with it. Before it the tables showed the trace; `start` is the open start that it ends
+pub record CanFollow (t : Turns) (d : Driver) (before : Mode) (start : Option starts.Start) (e : Entry) : Type 0 where
+  pub j : JobView
+  pub past : List Entry
+  -- the machine before it and behind it
+  pub m : Parts
+  pub m' : Parts
+  pub trace : ShowsTrace j past d m t
+  pub arrays : KeepsArrays j d.slots past
+  pub goes_on : GoesOn j (e ∷ past)
+  -- the machine made it, where it is an instruction that moves no page
+  pub step : (action : Action) → action_of e.event ≡ Some action → is_plain action ≡ true
+      → IsStep (state_of m) e.actor action e (state_of m')
+  pub stood : before ≡ mode_of m e.actor
+  pub opened : (f : Frame) → frame_ended e.event ≡ Some f → start_of start ≡ bare_start (open_start past f.0)
+
+-- the tables behind the entry
+pub record IsFollowed (j : JobView) (past : List Entry) (old : Driver) (e : Entry) (new : Driver) : Type 0 where
+  -- they show it
+  pub shows : ShowsTables j new (e ∷ past)
+  -- as many slots are out as pages have one, and who holds which pages is as before
+  pub counts : CountMoves e.event (count_out old.slots) (count_out new.slots)
+  pub own : new.active.own ≡ old.active.own
+  pub arrays : KeepsArrays j new.slots (e ∷ past)

@@ -1,0 +1,3 @@
+pub use Rattle.rounds.specs.inner.Views
+pub mod Actors
+pub mod Tallies

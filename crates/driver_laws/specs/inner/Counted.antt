@@ -1,0 +1,50 @@
+-- How many slots are out: as many as pages have one, as long as each entry is the driver's.
+use Rattle.std.specs.Prelude.{ℕ, ◌≡◌, ◌+◌, ◌≤◌, Bool, true, false, if◌then◌else◌, List, [], ◌∷◌, count_by}
+use Rattle.std.specs.Prelude.{is_some, length, take}
+use Rattle.sgx_rules.specs.declared.entries.Action.TheVariants.{Add, EwbStart, Eld}
+use Rattle.sgx_rules.specs.declared.entries.Entry.{Entry}
+use Rattle.sgx_rules.specs.declared.entries.Event.{Event}
+use Rattle.sgx_rules.specs.declared.entries.Event.TheVariants.{Did}
+use Rattle.sgx_types.specs.declared.names.Page.{Page}
+use Rattle.sgx_types.specs.Pages.{page_at}
+use Rattle.sgx_rules.specs.Frames.{added}
+use Rattle.version_array.specs.inner.Keeper.{Keeper, count_out}
+use Rattle.job_grammar.specs.Jobs.{JobView}
+use Rattle.turn_rules.specs.declared.steps.BuildStep.{BuildStep}
+use Rattle.turn_rules.specs.declared.steps.BuildStep.TheVariants as builds
+use Rattle.turn_rules.specs.Script.{build_of, built}
+use Rattle.driver_laws.specs.inner.Sound.{slot_of, times}
+
+abbrev pub with_added : Event → List Page → List Page
+with_added (Did (Add enclave number f kind perm init) answer) before = page_at enclave number ∷ before
+with_added _ before = before
+
+-- the pages that were added, the last first
+abbrev pub pages_added : List Entry → List Page
+pages_added [] = []
+pages_added (e ∷ past) = with_added e.event (pages_added past)
+
+-- a page has a slot: it is outside, or its write-out has started
+abbrev pub has_slot : List Entry → Page → Bool
+has_slot past g = is_some (slot_of past g)
+
+pub record CountsSlots (keeper : Keeper) (past : List Entry) : Type 0 where
+  -- each page was added once
+  pub once : (g : Page) → times (pages_added past) g ≡ (if is_some (added past g) then 1 else 0)
+  -- as many slots are out as of these have one
+  pub out : count_out keeper ≡ count_by (has_slot past) (pages_added past)
+
+-- a step of the build adds a page
+abbrev pub is_add_step : BuildStep → Bool
+is_add_step (builds.Add enclave number kind perm init) = true
+is_add_step _ = false
+
+-- no more pages were added than the builder's steps till now add
+abbrev pub AddsAreBuilt : JobView → List Entry → Type 0
+AddsAreBuilt j past = length (pages_added past) ≤ count_by is_add_step (take (built past) (build_of j))
+
+-- a write-out takes a slot, the end of a load gives one back, and every other entry leaves as many out
+abbrev pub CountMoves : Event → ℕ → ℕ → Type 0
+CountMoves (Did (EwbStart f slot) answer) old new = new ≡ old + 1
+CountMoves (Did (Eld f) answer) old new = new + 1 ≡ old
+CountMoves _ old new = new ≡ old

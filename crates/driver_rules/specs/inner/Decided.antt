@@ -1,0 +1,212 @@
+-- The rules Script, Age and Kick as tests.
+use Rattle.std.specs.Prelude.{ℕ, zero, suc, ◌≡◌, ◌==◌, ◌&&◌, ◌||◌, not, Bool, true, false, List, [], ◌∷◌, Option}
+use Rattle.std.specs.Prelude.{Some, None, length, nat_lt}
+use Rattle.sgx_rules.specs.declared.entries.Entry.{Entry}
+use Rattle.sgx_rules.specs.declared.entries.Event.{Event}
+use Rattle.sgx_rules.specs.declared.entries.Event.TheVariants.{Did, Refused, Age, Kick, Bus}
+use Rattle.sgx_types.specs.declared.names.Actor.{Actor}
+use Rattle.sgx_types.specs.declared.names.Actor.TheVariants as actors
+use Rattle.sgx_rules.specs.declared.entries.Action.{Action}
+use Rattle.sgx_rules.specs.declared.entries.Action.TheVariants.{Block, Track, EwbStart, Ewb, EldStart}
+use Rattle.sgx_rules.specs.declared.entries.BusWhy.{BusWhy}
+use Rattle.sgx_rules.specs.declared.entries.BusWhy.TheVariants as reasons
+use Rattle.sgx_rules.specs.declared.entries.Look.{Look}
+use Rattle.sgx_types.specs.declared.names.Page.{Page}
+use Rattle.sgx_types.specs.declared.names.SlotAt.{SlotAt}
+use Rattle.sgx_rules.specs.declared.refusals.Refusal.TheVariants as why
+use Rattle.sgx_types.specs.Pages.{same_page}
+use Rattle.sgx_rules.specs.Processors.{Stay, stay}
+use Rattle.job_grammar.specs.Jobs.{JobView}
+use Rattle.turn_rules.specs.Script.{action_of, build_of, built, frame_at, replied, script_of}
+use Rattle.driver_rules.specs.Ages.{head_of}
+use Rattle.driver_rules.specs.Dues.{Due, Ends, Fetches, KicksAll, LooksAt, Makes, Reports, TriesOut, is_look}
+use Rattle.driver_rules.specs.Holds.{is_held}
+use Rattle.driver_rules.specs.Passes.{Blocking, Between, First, Form, Kicks, Pass, Scan, Sealing, Second, Third, ToKick, ToTrack}
+use Rattle.driver_rules.specs.Passes.{Tries}
+use Rattle.driver_rules.specs.Passes.{keepers, pass}
+use Rattle.driver_rules.specs.Places.{Leaving, Place, active, is_young, place}
+use Rattle.driver_rules.specs.inner.Same.{same_action}
+use Rattle.driver_rules.specs.Scripts.{is_load}
+use Rattle.driver_rules.specs.Stops.{has_bus, is_spent}
+use Rattle.driver_rules.specs.Turns.{builder_due, cpu_due}
+
+-- a test passes exactly where something is so
+abbrev pub Tells : Bool → Type 0 → Type 0
+Tells test Is = (test ≡ true → Is) × (Is → test ≡ true)
+
+-- ---- Age
+
+abbrev pub is_some_page : Option Page → Page → Bool
+is_some_page None g = false
+is_some_page (Some page) g = same_page page g
+
+abbrev pub looks_at : JobView → List Entry → Page → Look → Bool
+looks_at j past page look = is_some_page (head_of (active past)) page && is_look (is_held j past page) (is_young past page) look
+
+abbrev pub is_leaving_in : Place → ℕ → Bool
+is_leaving_in (Leaving n) f = n == f
+is_leaving_in _ f = false
+
+abbrev pub is_next_block : List Entry → List Page → ℕ → Bool
+is_next_block past [] f = false
+is_next_block past (g ∷ gs) f = is_leaving_in (place past g) f
+
+abbrev pub is_in_tries : List Entry → Page → Event → Bool
+is_in_tries past g (Did (EwbStart f slot) answer) = is_leaving_in (place past g) f.0
+is_in_tries past g (Refused (EwbStart f slot) refusal) = is_leaving_in (place past g) f.0
+is_in_tries past g (Did (Ewb f) answer) = is_leaving_in (place past g) f.0
+is_in_tries past g (Refused (Ewb f) refusal) = is_leaving_in (place past g) f.0
+is_in_tries past g (Did (Track enclave) answer) = true
+is_in_tries past g (Refused (Track enclave) refusal) = true
+is_in_tries past g (Kick cpu) = true
+is_in_tries past g _ = false
+
+abbrev pub is_in_pass : List Entry → Pass → Event → Bool
+is_in_pass past (Between works) (Age page look) = works
+is_in_pass past (Scan left taken) (Age page look) = true
+is_in_pass past (Blocking due taken) (Did (Block f) answer) = is_next_block past due f.0
+is_in_pass past (Tries g rest form) event = is_in_tries past g event
+is_in_pass past _ event = false
+
+abbrev pub looks_of : JobView → List Entry → Actor → Event → Bool
+looks_of j past actors.Reclaimer (Age page look) = looks_at j past page look
+looks_of j past _ _ = true
+
+abbrev pub pass_of : List Entry → Pass → Actor → Event → Bool
+pass_of past at actors.Reclaimer event = is_in_pass past at event
+pass_of past at _ event = true
+
+abbrev pub keeps_age : JobView → List Entry → Entry → Bool
+keeps_age j past e = looks_of j past e.actor e.event && pass_of past (pass j past) e.actor e.event
+
+-- ---- Kick
+
+abbrev pub is_last_try : Event → Bool
+is_last_try (Did (EwbStart f slot) answer) = true
+is_last_try (Refused (EwbStart f slot) why.VersionSpent) = true
+is_last_try _ = false
+
+abbrev pub is_try : Event → Bool
+is_try (Refused (EwbStart f slot) (why.NotTracked epoch older)) = true
+is_try event = is_last_try event
+
+abbrev pub is_track_of : ℕ → Event → Bool
+is_track_of enclave (Did (Track e) answer) = e == enclave
+is_track_of enclave (Refused (Track e) why.EpochSpent) = e == enclave
+is_track_of enclave _ = false
+
+abbrev pub is_kick_of : List ℕ → Event → Bool
+is_kick_of (p ∷ ps) (Kick cpu) = cpu.0 == p
+is_kick_of _ _ = false
+
+abbrev pub is_kick_or_try : List ℕ → Event → Bool
+is_kick_or_try [] event = is_last_try event
+is_kick_or_try (p ∷ ps) event = is_kick_of (p ∷ ps) event
+
+abbrev pub is_end : Event → Bool
+is_end (Did (Ewb f) answer) = true
+is_end _ = false
+
+abbrev pub is_in_form : List Entry → Page → Form → Event → Bool
+is_in_form past g First event = is_try event
+is_in_form past g ToTrack event = is_track_of g.enclave event
+is_in_form past g Second event = is_try event
+is_in_form past g ToKick event = is_kick_or_try (keepers past g) event
+is_in_form past g (Kicks rest) event = is_kick_of rest event
+is_in_form past g Third event = is_last_try event
+is_in_form past g Sealing event = is_end event
+
+abbrev pub is_beside : Form → Bool
+is_beside (Kicks rest) = false
+is_beside _ = true
+
+abbrev pub form_of : List Entry → Pass → Actor → Event → Bool
+form_of past (Tries g rest form) actors.Reclaimer event = is_in_form past g form event
+form_of past _ _ event = true
+
+abbrev pub beside_of : Pass → Actor → Bool
+beside_of at actors.Reclaimer = true
+beside_of (Tries g rest form) _ = is_beside form
+beside_of _ _ = true
+
+abbrev pub keeps_kick : JobView → List Entry → Entry → Bool
+keeps_kick j past e = form_of past (pass j past) e.actor e.event && beside_of (pass j past) e.actor
+
+-- ---- Script
+
+abbrev pub is_action : Option Action → Action → Bool
+is_action None action = false
+is_action (Some done) action = same_action done action
+
+abbrev pub same_reason : BusWhy → BusWhy → Bool
+same_reason reasons.GetFailed reasons.GetFailed = true
+same_reason reasons.NoRecord reasons.NoRecord = true
+same_reason reasons.PutFailed reasons.PutFailed = true
+same_reason reasons.Mac reasons.Mac = true
+same_reason reasons.Header reasons.Header = true
+same_reason _ _ = false
+
+abbrev pub is_fetch : Page → SlotAt → Option ℕ → Event → Bool
+is_fetch g slot None (Bus page reasons.PutFailed) = same_page page g
+is_fetch g slot None event = false
+is_fetch g slot (Some f) (Bus page reasons.PutFailed) = same_page page g
+is_fetch g slot (Some f) (Bus page reasons.GetFailed) = same_page page g
+is_fetch g slot (Some f) (Bus page reasons.NoRecord) = same_page page g
+is_fetch g slot (Some f) (Did action answer) = same_action action (EldStart (frame_at f) g slot)
+is_fetch g slot (Some f) (Refused action refusal) = same_action action (EldStart (frame_at f) g slot)
+is_fetch g slot (Some f) event = false
+
+abbrev pub is_stop : Page → BusWhy → Event → Bool
+is_stop page reason (Bus g other) = same_page g page && same_reason other reason
+is_stop page reason _ = false
+
+abbrev pub is_look_of : Page → Bool → Bool → Event → Bool
+is_look_of page held young (Age g look) = same_page g page && is_look held young look
+is_look_of page held young _ = false
+
+abbrev pub is_try_of : ℕ → Event → Bool
+is_try_of n (Did (EwbStart f slot) answer) = f.0 == n
+is_try_of n (Refused (EwbStart f slot) refusal) = f.0 == n
+is_try_of n _ = false
+
+abbrev pub is_next : Due → Event → Bool
+is_next (Ends action) event = is_action (action_of event) action
+is_next (Makes action) event = is_action (action_of event) action
+is_next (Reports page reason) event = is_stop page reason event
+is_next (Fetches g slot free) event = is_fetch g slot free event
+is_next (LooksAt page held young) event = is_look_of page held young event
+is_next (TriesOut n) event = is_try_of n event
+is_next (KicksAll cpus) event = is_kick_of cpus event
+is_next _ event = false
+
+abbrev pub is_actors : JobView → List Entry → Actor → Event → Bool
+is_actors j past actors.Builder event = is_next (builder_due j past) event
+is_actors j past (actors.Cpu p) event = nat_lt p.0 (length j.scripts) && is_next (cpu_due j past p.0) event
+is_actors j past actors.Reclaimer event = not (is_load event)
+
+abbrev pub keeps_script : JobView → List Entry → Entry → Bool
+keeps_script j past e = not (is_spent past) && is_actors j past e.actor e.event
+
+-- ---- along a trace
+
+-- a test passes at each entry
+abbrev pub all_along : (List Entry → Entry → Bool) → List Entry → Bool
+all_along test [] = true
+all_along test (e ∷ past) = test past e && all_along test past
+
+-- ---- the end
+
+abbrev pub is_outside : Option Stay → Bool
+is_outside None = true
+is_outside (Some s) = false
+
+abbrev pub is_done : JobView → List Entry → ℕ → Bool
+is_done j past p = has_bus past p || ((replied past p == length (script_of j p)) && is_outside (stay past p))
+
+-- each of so many processors is done or was ended
+abbrev pub are_done : JobView → List Entry → ℕ → Bool
+are_done j past zero = true
+are_done j past (suc p) = is_done j past p && are_done j past p
+
+abbrev pub is_ended : JobView → List Entry → Bool
+is_ended j past = is_spent past || ((built past == length (build_of j)) && are_done j past (length j.scripts))

@@ -1,0 +1,17 @@
+pub mod Words
+pub mod KickTrace
+pub mod BusTrace
+pub mod SpentTrace
+pub mod PairTrace
+pub mod MeasuredTrace
+pub mod CrowdTrace
+pub mod ReloadTrace
+pub mod TimerTrace
+pub mod LostTrace
+pub mod RoomTrace
+pub mod ReplayTrace
+pub mod VersionTrace
+pub mod StoreCalls
+pub mod Lawful
+pub mod Settled
+pub mod Faults

@@ -1,0 +1,6 @@
+pub mod FreeMap
+pub mod EntryView
+pub mod Words
+pub mod Epc
+pub mod Kept
+pub mod Sights

@@ -1,0 +1,4 @@
+pub mod Resolving
+pub mod Finishing
+pub mod Repeating
+pub mod Due

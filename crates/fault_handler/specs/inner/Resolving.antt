@@ -1,0 +1,100 @@
+-- What the first half of a fault step does.
+use Rattle.std.specs.Prelude.{ℕ, ◌≡◌, false, if◌then◌else◌, List, Option, Some, None, Result, Ok, Err}
+use Rattle.sgx_rules.specs.declared.entries.Action.TheVariants as actions
+use Rattle.sgx_types.specs.declared.names.Actor.TheVariants as actors
+use Rattle.sgx_rules.specs.declared.entries.BusWhy.TheVariants as reasons
+use Rattle.sgx_rules.specs.declared.entries.Entry.{Entry}
+use Rattle.sgx_types.specs.declared.names.Cpu.{Cpu}
+use Rattle.sgx_types.specs.declared.names.Frame.{Frame}
+use Rattle.sgx_types.specs.declared.names.Page.{Page}
+use Rattle.sgx_types.specs.declared.names.SlotAt.{SlotAt}
+use Rattle.sgx_rules.specs.Frames.{least_free}
+use Rattle.sgx_types.specs.Sealed.{Sealed}
+use Rattle.sgx_rules.specs.inner.Starts.{BareStart}
+use Rattle.turn_rules.specs.Script.{frame_at}
+use Rattle.std.specs.Global.{Box}
+use Rattle.seal_record.specs.declared.unseal.UnsealWork.{UnsealWork}
+use Rattle.paging_laws.specs.inner.State.{State}
+use Rattle.paging_laws.specs.inner.Steps.{IsStep}
+use Rattle.paging_machine.specs.inner.Parts.{Parts, state_of}
+use Rattle.backing_store.specs.Calls.{Call}
+use Rattle.backing_store.specs.inner.Calls.{told_got}
+use Rattle.backing_store.specs.declared.backing.StoreFault.{StoreFault}
+use Rattle.backing_store.specs.declared.backing.StoreFault.TheVariants as faults
+use Rattle.active_list.specs.declared.page_states.PageState.{PageState}
+use Rattle.active_list.specs.declared.page_states.PageState.TheVariants as states
+use Rattle.driver_rules.specs.declared.waits.Why.TheVariants as waits
+use Rattle.driver_rules.specs.inner.Reclaims.{is_refused}
+use Rattle.driver_steps.specs.inner.Carried.{Carries}
+use Rattle.driver_tables.specs.declared.driver.Driver.{Driver}
+use Rattle.driver_tables.specs.inner.Moves.{with_load}
+use Rattle.fault_handler.specs.declared.answers.FaultAnswer.{FaultAnswer}
+use Rattle.fault_handler.specs.declared.answers.FaultAnswer.TheVariants as answers
+
+-- an answer that tells a failure of the store
+abbrev pub TellsFault : FaultAnswer → Type 0
+TellsFault (answers.Bus reasons.GetFailed) = Unit {0}
+TellsFault answer = ⊥
+
+-- an answer that changes nothing in the tables and in the machine
+pub record IsSaid (said : FaultAnswer) (d : Driver) (m : Parts) (answer : FaultAnswer) (d' : Driver) (m' : Parts) : Type 0 where
+  pub says : answer ≡ said
+  pub driver : d' ≡ d
+  pub machine : m' ≡ m
+
+-- the work opens this record by the machine's key and the version that the start found
+pub record IsToOpen (s : State) (f : ℕ) (rec : Sealed) (work : UnsealWork) : Type 0 where
+  pub brought : work.rec ≡ rec
+  pub key : work.key ≡ s.key
+  pub start : BareStart
+  pub opened : s.start f ≡ Some start
+  pub version : work.version ≡ start.version
+
+-- a load's start by its row: where it is done, tables and work are the load's; a refused one changes nothing
+pub record IsStarted (cpu : Cpu) (page : Page) (slot : SlotAt) (frame : Frame) (rec : Sealed) (d : Driver) (m : Parts)
+    (answer : FaultAnswer)
+    (d' : Driver) (m' : Parts) : Type 0 where
+  pub entry : Entry
+  pub work : Box UnsealWork
+  pub says : answer ≡ answers.Started entry work
+  pub step : IsStep (state_of m) (actors.Cpu cpu) (actions.EldStart frame page slot) entry (state_of m')
+  pub carries : Carries (state_of m) entry (state_of m')
+  pub driver : d' ≡ (if is_refused entry.event then d else with_load d cpu page slot frame rec)
+  pub work_is : is_refused entry.event ≡ false → IsToOpen (state_of m') frame.0 rec work.value
+
+-- by what the store gave
+abbrev pub IsGot : Cpu → Page → SlotAt → Frame → Result (Option Sealed) StoreFault → Driver → Parts → FaultAnswer → Driver → Parts → Type 0
+IsGot cpu page slot frame (Ok (Some rec)) d m answer d' m' = IsStarted cpu page slot frame rec d m answer d' m'
+IsGot cpu page slot frame (Ok None) d m answer d' m' = IsSaid (answers.Bus reasons.NoRecord) d m answer d' m'
+IsGot cpu page slot frame (Err faults.Failed) d m answer d' m' = IsSaid (answers.Bus reasons.GetFailed) d m answer d' m'
+IsGot cpu page slot frame (Err faults.Memory) d m answer d' m' = ⊥
+
+-- the store is asked once
+pub record IsAsked (cpu : Cpu) (page : Page) (slot : SlotAt) (frame : Frame) (d : Driver) (m : Parts) (told : Option (List Call))
+    (answer : FaultAnswer) (d' : Driver) (m' : Parts) (told' : Option (List Call)) : Type 0 where
+  pub got : Result (Option Sealed) StoreFault
+  pub calls : told' ≡ told_got page got told
+  pub does : IsGot cpu page slot frame got d m answer d' m'
+
+-- .. or not at all
+pub record IsSilent (said : FaultAnswer) (d : Driver) (m : Parts) (told : Option (List Call)) (answer : FaultAnswer) (d' : Driver)
+    (m' : Parts)
+    (told' : Option (List Call)) : Type 0 where
+  pub calls : told' ≡ told
+  pub does : IsSaid said d m answer d' m'
+
+-- a page that is away is asked for where a frame is free
+abbrev pub IsFetch : Cpu → Page → SlotAt → Option ℕ → Driver → Parts → Option (List Call) → FaultAnswer → Driver → Parts → Option
+    (List Call)
+    → Type 0
+IsFetch cpu page slot None d m told answer d' m' told' = IsSilent (answers.Again waits.NoFrame) d m told answer d' m' told'
+IsFetch cpu page slot (Some f) d m told answer d' m' told' = IsAsked cpu page slot (frame_at f) d m told answer d' m' told'
+
+-- by what became of the page
+abbrev pub IsResolved : Cpu → Page → PageState → Driver → Parts → Option (List Call) → FaultAnswer → Driver → Parts → Option (List Call)
+    → Type 0
+IsResolved cpu page (states.Here f) d m told answer d' m' told' = IsSilent answers.Here d m told answer d' m' told'
+IsResolved cpu page (states.Lost slot) d m told answer d' m' told' = IsSilent (answers.Bus reasons.PutFailed) d m told answer d' m' told'
+IsResolved cpu page (states.Away slot) d m told answer d' m' told' =
+    IsFetch cpu page slot (least_free (state_of m).frames (state_of m).content) d m told answer d' m' told'
+IsResolved cpu page _ d m told answer d' m' told' = IsSilent (answers.Again (waits.Busy page)) d m told answer d' m' told'

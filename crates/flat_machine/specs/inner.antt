@@ -1,0 +1,4 @@
+pub mod Parts
+pub mod Whole
+pub mod Step
+pub mod Bytes

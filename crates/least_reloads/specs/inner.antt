@@ -1,0 +1,5 @@
+pub mod Plans
+pub mod Sets
+pub mod Keys
+pub mod KeptPages
+pub mod Farthest

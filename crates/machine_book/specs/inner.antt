@@ -1,0 +1,2 @@
+pub use Rattle.run_turns.specs.inner.Views
+pub mod Words

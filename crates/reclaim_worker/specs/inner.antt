@@ -1,0 +1,17 @@
+pub mod Looked
+pub mod Asked
+pub mod Rests
+pub mod Stored
+pub mod Tables
+pub mod Answers
+pub mod Standing
+pub mod Tried
+pub mod Scans
+pub mod Moves
+pub mod Going
+pub mod Turning
+pub mod Ready
+pub mod Kept
+pub mod After
+pub mod Shown
+pub mod Ended

@@ -1,0 +1,2 @@
+pub use Rattle.machine_book.specs.inner.Views
+pub mod Rests

@@ -1,0 +1,7 @@
+pub mod Courses
+pub mod Recording
+pub mod Kicking
+pub mod Turns
+pub mod Passing
+pub mod Views
+pub mod Kept

@@ -1,0 +1,153 @@
+-- The book as its callers see it, and what is so of every book.
+use Rattle.std.specs.Prelude.{ℕ, zero, suc, ◌≡◌, ◌<◌, ◌++◌, ◌⊎◌, All, Bool, true, false, if◌then◌else◌, List}
+use Rattle.std.specs.Prelude.{[], Option, None, Some, IfSome, length}
+use Rattle.std.specs.Option.{IsSomeAnd}
+use Rattle.sgx_types.specs.declared.names.Actor.{Actor}
+use Rattle.sgx_types.specs.declared.names.Actor.TheVariants as actors
+use Rattle.sgx_rules.specs.declared.entries.Entry.{Entry}
+use Rattle.sgx_types.specs.declared.names.Cpu.{Cpu}
+use Rattle.sgx_types.specs.declared.names.Page.{Page}
+use Rattle.sgx_rules.specs.Flat.{bytes_at, header_at}
+use Rattle.sgx_rules.specs.Frames.{content, is_page}
+use Rattle.sgx_rules.specs.Rules.{Along, EvictRule, Fits, RisingRule, Stale}
+use Rattle.sgx_rules.specs.Starts.{Start, open_start}
+use Rattle.io_edges.specs.declared.plans.PlanLine.{PlanLine}
+use Rattle.job_grammar.specs.Jobs.{JobView}
+use Rattle.backing_store.specs.Calls.{Call}
+use Rattle.seal_record.specs.declared.seal.SealWork.{SealWork}
+use Rattle.seal_record.specs.declared.unseal.UnsealWork.{UnsealWork}
+use Rattle.driver_rules.specs.Ages.{AgeRule, KickRule}
+use Rattle.driver_rules.specs.Dues.{Due, Finished, KicksAll}
+use Rattle.driver_rules.specs.inner.Reclaims.{reclaimer_due}
+use Rattle.driver_rules.specs.Scripts.{IsEnded, ScriptRule}
+use Rattle.driver_rules.specs.Stops.{is_spent}
+use Rattle.driver_rules.specs.inner.Stops.{frame_started, last_event, started}
+use Rattle.driver_rules.specs.Turns.{Loads, builder_due, cpu_due, last_of}
+use Rattle.driver_laws.specs.inner.Agrees.{loaded_by}
+use Rattle.driver_laws.specs.inner.Tracking.{TrackingRule}
+use Rattle.run_history.specs.Given.{UnforgedRun, gift}
+use Rattle.run_history.specs.inner.Histories.{GoesOn}
+use Rattle.run_history.specs.Honest.{IsHonest}
+use Rattle.run_history.specs.Stored.{PutsAreFlat, StoreTrue}
+use Rattle.run_book.specs.Lost.{AllCameBack}
+use Rattle.run_turns.specs.declared.turn.Turn.{Turn}
+use Rattle.run_turns.specs.declared.turn.Turn.TheVariants as turns
+use Rattle.run_turns.specs.inner.Turns.{EndsLoad, EndsOut, IsWaitBy, MakesMany}
+
+-- the job, the entries so far, the newest first, what the store tells, and whether memory was refused to a worker
+pub record BookView : Type 0 where
+  pub job : JobView
+  pub past : List Entry
+  pub told : Option (List Call)
+  pub plans : List PlanLine
+  pub noted : Bool
+
+-- nothing more is done
+abbrev pub is_stopped : BookView → Bool
+is_stopped b = if b.noted then true else is_spent b.past
+
+-- whatever the store gave: who makes which entry, the reclaimer's looks and kicks, who is inside since which epoch, no frame twice, no
+-- stale translation, only drained pages go out, versions rise, and the store's calls are those of the entries
+pub record HoldsAnyhow (b : BookView) : Type 0 where
+  pub script : Along (ScriptRule b.job) b.past
+  pub age : Along (AgeRule b.job) b.past
+  pub kick : Along (KickRule b.job) b.past
+  pub tracking : Along (TrackingRule b.job.start_epoch) b.past
+  pub fits : Fits b.job.epc b.past
+  pub stale : Stale b.past
+  pub evict : Along EvictRule b.past
+  pub rising : Along (RisingRule b.job.start_version) b.past
+  pub store : StoreTrue b.job b.past b.plans b.told
+  -- where the builder and each processor have nothing more to do, the run is at its end
+  pub ended : builder_due b.job b.past ≡ Finished → ((p : ℕ) → p < length b.job.scripts → cpu_due b.job b.past p ≡ Finished)
+      → IsEnded b.job b.past
+  -- where the store failed nothing and gave each page's last record put, each page came back
+  pub honest : IfSome b.told (λ calls. IsHonest calls → AllCameBack b.past)
+
+-- where no record of the run was forged: all eleven rules, and each record that was put has the flat bytes of its page there
+abbrev pub HoldsUnforged : BookView → List Call → Type 0
+HoldsUnforged b calls = UnforgedRun b.job.key b.past calls → GoesOn b.job b.past × PutsAreFlat b.job.key b.past calls
+
+pub record Holds (b : BookView) : Type 0 where
+  pub anyhow : HoldsAnyhow b
+  pub unforged : IfSome b.told (HoldsUnforged b)
+
+-- so many entries more, all of this actor, of one job; no want of memory was noted
+pub record HasGrown (old : BookView) (by : Actor) (n : ℕ) (new : BookView) : Type 0 where
+  pub entries : List Entry
+  pub count : length entries ≡ n
+  pub actors : All (λ (e : Entry). e.actor ≡ by) entries
+  pub past : new.past ≡ entries ++ old.past
+  pub job : new.job ≡ old.job
+  pub noted : new.noted ≡ old.noted
+
+-- ---- turns
+
+-- a turn of the builder
+abbrev pub IsBuild : BookView → Turn → BookView → Type 0
+IsBuild old (turns.Did n) new = (n ≡ 1) × HasGrown old actors.Builder 1 new
+IsBuild old (turns.Again why) new = IsWaitBy (builder_due old.job old.past) why × (new ≡ old)
+IsBuild old turns.Finished new = (builder_due old.job old.past ≡ Finished) × (new ≡ old)
+IsBuild old turns.Stopped new = (is_stopped old ≡ true) × (new ≡ old)
+IsBuild old _ new = ⊥
+
+-- the record that the store gave for a processor's started load, under the job's key and the version that the start found
+pub record OpensLoad (b : BookView) (cpu : Cpu) (work : UnsealWork) : Type 0 where
+  pub key : work.key ≡ b.job.key
+  pub frame : ℕ
+  pub page : Page
+  pub loads : last_of b.past cpu.0 ≡ Loads frame page
+  pub version : IsSomeAnd (open_start b.past frame) (λ start. work.version ≡ start.version)
+  pub given : IfSome b.told (λ calls. gift b.past calls frame ≡ Some work.rec)
+
+-- a turn of a processor. By an entry it starts nothing; or a load has started in it, or was open before
+abbrev pub IsRun : BookView → Cpu → Turn → BookView → Type 0
+IsRun old cpu (turns.Did n) new = (n ≡ 1) × (started new.past (actors.Cpu cpu) ≡ false) × HasGrown old (actors.Cpu cpu) 1 new
+IsRun old cpu (turns.Unseal work) new = OpensLoad new cpu work.value × (HasGrown old (actors.Cpu cpu) 1 new ⊎ (new ≡ old))
+IsRun old cpu (turns.Again why) new = IsWaitBy (cpu_due old.job old.past cpu.0) why × (new ≡ old)
+IsRun old cpu turns.Finished new = (cpu_due old.job old.past cpu.0 ≡ Finished) × (new ≡ old)
+IsRun old cpu turns.Stopped new = (is_stopped old ≡ true) × (new ≡ old)
+IsRun old cpu _ new = ⊥
+
+-- the end of a processor's started load
+abbrev pub IsLoadEnd : BookView → Cpu → Turn → BookView → Type 0
+IsLoadEnd old cpu (turns.Did zero) new = (loaded_by (last_of old.past cpu.0) ≡ None) × (new ≡ old)
+IsLoadEnd old cpu (turns.Did (suc n)) new = EndsLoad (suc n) new.past × HasGrown old (actors.Cpu cpu) (suc n) new
+IsLoadEnd old cpu turns.Stopped new = (is_stopped old ≡ true) × (new ≡ old)
+IsLoadEnd old cpu _ new = ⊥
+
+-- the page that has started to go out: its bytes and its header, under the job's key and the version that its start drew. Where no record
+-- was forged, the bytes are those of flat memory
+pub record SealsPageOut (b : BookView) (work : SealWork) : Type 0 where
+  pub key : work.key ≡ b.job.key
+  pub frame : ℕ
+  pub start : Start
+  pub opened : open_start b.past frame ≡ Some start
+  pub version : work.version ≡ start.version
+  pub page : Page
+  pub held : is_page (content b.past frame) page ≡ true
+  pub header : header_at b.past page ≡ Some work.header
+  pub bytes : IfSome b.told (λ calls. UnforgedRun b.job.key b.past calls → work.plain.items ≡ bytes_at b.past page)
+
+-- what is due to the reclaimer. Where a turn of kicks has nobody to kick, no entry tells whether it was made: what comes
+-- behind it may be due
+abbrev pub IsDueNow : BookView → Due → Type 0
+IsDueNow b due = (due ≡ reclaimer_due b.job b.past false)
+    ⊎ ((reclaimer_due b.job b.past false ≡ KicksAll []) × (due ≡ reclaimer_due b.job b.past true))
+
+-- a turn of the reclaimer. By entries it starts nothing; or a write-out has started in it, or was open before
+abbrev pub IsReclaim : BookView → Turn → BookView → Type 0
+IsReclaim old (turns.Did n) new =
+    ((due : Due) × IsDueNow old due × MakesMany due n) × (started new.past actors.Reclaimer ≡ false) × HasGrown old actors.Reclaimer n new
+IsReclaim old (turns.Seal work) new = SealsPageOut new work.value × (HasGrown old actors.Reclaimer 1 new ⊎ (new ≡ old))
+IsReclaim old (turns.Again why) new = ((due : Due) × IsDueNow old due × IsWaitBy due why) × (new ≡ old)
+IsReclaim old turns.Finished new = IsDueNow old Finished × (new ≡ old)
+IsReclaim old turns.Stopped new = (is_stopped old ≡ true) × (new ≡ old)
+IsReclaim old _ new = ⊥
+
+-- the end of the started write-out
+abbrev pub IsOutEnd : BookView → Turn → BookView → Type 0
+IsOutEnd old (turns.Did zero) new = (frame_started (last_event old.past actors.Reclaimer) ≡ None) × (new ≡ old)
+IsOutEnd old (turns.Did (suc n)) new = (n ≡ 0) × EndsOut new.past × HasGrown old actors.Reclaimer 1 new
+IsOutEnd old turns.Stopped new = (is_stopped old ≡ true) × (new ≡ old)
+IsOutEnd old _ new = ⊥

@@ -1,0 +1,5 @@
+pub mod Secs
+pub mod Kept
+pub mod Table
+pub mod Lending
+pub mod Sights

@@ -1,0 +1,4 @@
+pub mod Plain
+pub mod Arrays
+pub mod Noting
+pub mod Noted

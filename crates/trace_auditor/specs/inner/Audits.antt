@@ -1,0 +1,100 @@
+-- What an auditor keeps between two entries of a trace, and what it says of the next one.
+use Rattle.std.specs.Prelude.{◌≡◌, ◌<◌, ◌^◌, true, List, ◌∷◌, Option, None, Some, length}
+use Rattle.sgx_rules.specs.declared.entries.Action.{Action}
+use Rattle.sgx_rules.specs.declared.entries.Entry.{Entry}
+use Rattle.sgx_types.specs.declared.names.Frame.{Frame}
+use Rattle.sgx_rules.specs.Starts.{open_start}
+use Rattle.sgx_rules.specs.inner.Starts.{bare_start}
+use Rattle.cached_translations.specs.declared.processor.Mode.{Mode}
+use Rattle.seal_record.specs.inner.Sealing.{made_by}
+use Rattle.job_grammar.specs.Jobs.{JobView}
+use Rattle.turn_rules.specs.Machines.{machine_of}
+use Rattle.turn_rules.specs.Script.{action_of}
+use Rattle.paging_laws.specs.inner.Histories.{StandsWithAllRules}
+use Rattle.paging_laws.specs.inner.Steps.{IsStep}
+use Rattle.paging_machine.specs.declared.starts.Start as starts
+use Rattle.paging_machine.specs.inner.Parts.{Parts, start_of, state_of}
+use Rattle.driver_rules.specs.Scripts.{ScriptRule}
+use Rattle.run_history.specs.declared.rules.Rule.{Rule}
+use Rattle.run_history.specs.Histories.{FailsHere}
+use Rattle.run_history.specs.inner.Histories.{GoesOn}
+use Rattle.table_notes.specs.inner.Arrays.{KeepsArrays}
+use Rattle.table_notes.specs.inner.Plain.{is_plain}
+use Rattle.turn_tables.specs.inner.Entries.{EntersApart}
+use Rattle.turn_tables.specs.inner.Holding.{mode_of}
+use Rattle.audit_laws.specs.inner.Shown.{ShowsTrace}
+use Rattle.audit_pass.specs.inner.Noted.{gone_by}
+use Rattle.audit_pass.specs.inner.Standing.{StandsAt}
+use Rattle.audit_pass.specs.inner.Viewed.{TraceView}
+use Rattle.audit_records.specs.inner.Kept.{KeepsRecords, records_of}
+use Rattle.audit_tables.specs.inner.Followed.{frame_ended}
+use Rattle.trace_auditor.specs.declared.auditing.Auditing.{Auditing}
+
+-- each part stands for the entries so far, which keep each rule
+pub record KeepsAudit (j : JobView) (past : List Entry) (a : Auditing) : Type 0 where
+  pub trace : ShowsTrace j past a.driver a.machine a.turns
+  -- the keeper of the slots has room for the version array pages that are still to be made
+  pub arrays : KeepsArrays j a.driver.slots past
+  -- the reclaimer's pass is as far as the entries are
+  pub pass : StandsAt j.start_epoch j past a.pass
+  -- each page that is outside has the record with which it went out last
+  pub records : KeepsRecords j.key past (records_of a.records)
+
+pub record IsAuditing (j : JobView) (a : Auditing) : Type 0 where
+  pub past : List Entry
+  pub keeps : KeepsAudit j past a
+  pub few : length past < 2 ^ 63
+
+-- ---- the next entry
+
+-- the entry keeps each rule, and all stands for the longer list; or it breaks this rule first
+abbrev pub IsJudged : JobView → List Entry → Entry → Auditing → Option Rule → Type 0
+IsJudged j past e new None = KeepsAudit j (e ∷ past) new
+IsJudged j past e new (Some rule) = FailsHere j past (Some e) rule
+
+-- ---- what is asked of the machine
+
+-- an entry that its actor may make. The pass may have noted it
+pub record CanAsk (a : Auditing) (e : Entry) : Type 0 where
+  pub j : JobView
+  pub past : List Entry
+  pub trace : ShowsTrace j past a.driver a.machine a.turns
+  pub records : KeepsRecords j.key past (records_of a.records)
+  pub script : ScriptRule j past e
+
+-- the machine stands in all for the entries with this one, which is its own
+pub record IsTaken (j : JobView) (past : List Entry) (old : Parts) (e : Entry) (new : Parts) : Type 0 where
+  pub stands : StandsWithAllRules (machine_of j) (state_of new) (e ∷ past) (made_by j.key (e ∷ past))
+  pub cpus : length new.cpus ≡ length old.cpus
+  pub step : (action : Action) → action_of e.event ≡ Some action → is_plain action ≡ true
+      → IsStep (state_of old) e.actor action e (state_of new)
+  -- who enters names two frames
+  pub enters : EntersApart e.event
+
+-- .. and where the entry keeps the other rules too, the records are those of the pages that are outside then
+pub record IsAsked (j : JobView) (past : List Entry) (old : Auditing) (e : Entry) (new : Auditing) : Type 0 where
+  pub taken : IsTaken j past old.machine e new.machine
+  pub records : GoesOn j (e ∷ past) → KeepsRecords j.key (e ∷ past) (records_of new.records)
+
+abbrev pub IsAnswered : JobView → List Entry → Auditing → Entry → Auditing → Option Rule → Type 0
+IsAnswered j past old e new None = IsAsked j past old e new
+IsAnswered j past old e new (Some rule) = FailsHere j past (Some e) rule
+
+-- ---- an entry that keeps each rule
+
+-- machine, pass and records have gone on with it, and the tables stand before it still
+pub record CanFollow (j : JobView) (a : Auditing) (before : Mode) (start : Option starts.Start) (e : Entry) : Type 0 where
+  pub past : List Entry
+  -- the machine and the pass before it
+  pub m : Parts
+  pub v : TraceView
+  pub trace : ShowsTrace j past a.driver m a.turns
+  pub arrays : KeepsArrays j a.driver.slots past
+  pub taken : IsTaken j past m e a.machine
+  pub pass : StandsAt j.start_epoch j past v
+  pub gone : a.pass ≡ gone_by a.driver m e.actor e.event v
+  pub goes_on : GoesOn j (e ∷ past)
+  pub records : KeepsRecords j.key (e ∷ past) (records_of a.records)
+  pub stood : before ≡ mode_of m e.actor
+  pub opened : (f : Frame) → frame_ended e.event ≡ Some f → start_of start ≡ bare_start (open_start past f.0)
+  pub few : length past < 2 ^ 63

@@ -1,0 +1,3 @@
+pub mod Tracking
+pub mod Counters
+pub mod Tracks

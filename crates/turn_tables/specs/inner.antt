@@ -1,0 +1,10 @@
+pub mod CpuTurns
+pub mod TcsTurns
+pub mod TcsPlaces
+pub mod Shown
+pub mod Noting
+pub mod Entries
+pub mod Due
+pub mod Asked
+pub mod Ending
+pub mod Holding

@@ -1,0 +1,2 @@
+pub mod Evictions
+pub mod Traces
