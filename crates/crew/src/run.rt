@@ -62,7 +62,7 @@ pub fn run_workers<R: Threads + Wait + Sync, B: Backing + Send, G: Gate + Sync>(
     ensures ended { IfOk result (λ made. IsEnded made.book.job made.book.past) }
 {
     let mut book = run_named::<Brand, R, B, G>(rt, alloc, book, words, pass, gate);
-    if book.noted() {
+    if book.out_of_memory() {
         return Err(Memory);
     }
     run(rt, alloc, &mut book, words)?;

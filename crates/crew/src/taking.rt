@@ -14,7 +14,8 @@ const PAUSES: u32 = 16;
 // So often it looks, before it sleeps even where the others make nothing: whoever holds the lock was put aside, or takes long.
 const LOOKS: u32 = 32;
 
-/// Takes the lock. To whoever makes turn after turn it is left for a while: each time that it goes from hand to hand costs more than a turn.
+/// Takes the lock. To whoever makes turn after turn it is left for a while: each time that it goes from hand to hand costs more than a
+/// turn.
 /// Nobody sleeps here at the lock itself, for then whoever frees it has to wake the sleeper, who finds it taken again.
 pub(crate) fn take<'b, R: Wait, B: Backing, N: Run>(
     rt: &R,

@@ -72,7 +72,7 @@ fn wait<R: Wait>(rt: &R, made: &Made, words: &Words, pass: &mut Option<Pass>, va
     }
 }
 
-// A turn between the two calls of the gate. Want of memory is noted.
+// A turn between the two calls of the gate. The book is told of refused memory.
 fn gated_turn<R: Wait, B: Backing, G: Gate, N: Run>(
     rt: &R,
     alloc: Global,

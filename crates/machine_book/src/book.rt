@@ -4,7 +4,7 @@ ghost use Rattle.std.specs.Prelude.{◌≡◌, ◌≤◌, ◌<◌, [], false, tr
 ghost use Rattle.epoch_words.specs.inner.Known.{enclaves};
 ghost use Rattle.epoch_words.specs.inner.Seen.{starting_at};
 ghost use Rattle.epoch_notes.specs.inner.Notes.{TellsEntries};
-ghost use Rattle.run_turns.specs.inner.Views.{Holds, IsBuild, IsLoadEnd, IsOutEnd, IsReclaim, IsRun};
+ghost use Rattle.run_turns.specs.inner.Views.{Holds, IsBuild, IsLoadEnd, IsOutEnd, IsReclaim, IsRun, is_stopped, tells_stop};
 
 use backing_store::backing::Backing;
 use epoch_notes::notes::EpochNotes;
@@ -54,7 +54,7 @@ impl<B: Backing> MachineBook<B> {
         ensures job { IfOk result (λ made. made.book.job ≡ job) }
         ensures past { IfOk result (λ made. made.book.past ≡ []) }
         ensures told { IfOk result (λ made. made.book.told ≡ B.told store) }
-        ensures noted { IfOk result (λ made. made.book.noted ≡ false) }
+        ensures out_of_memory { IfOk result (λ made. made.book.out_of_memory ≡ false) }
         ensures words { IfOk result (λ made. made.words ≡ seat.words) }
     {
         let book = Book::start(alloc, job, store)?;
@@ -62,9 +62,11 @@ impl<B: Backing> MachineBook<B> {
         Ok(MachineBook { book, notes })
     }
 
-    /// A turn of the builder. After Memory nothing has changed.
+    /// A turn of the builder. After Memory nothing has changed. Stopped exactly where memory was refused to a worker, or an
+    /// epoch or a version was used up; the book is as it was then.
     pub fn build_turn(&mut self, alloc: Global) -> Result<Turn, Memory>
         ensures turn { IfOk result (λ turn. IsBuild self.old.book turn self.new.book) }
+        ensures stopped { IfOk result (λ turn. tells_stop turn ≡ is_stopped self.old.book) }
         ensures memory { OnErr result (self.new ≡ self.old) }
         ensures words { self.new.words ≡ self.old.words }
     {
@@ -73,11 +75,15 @@ impl<B: Backing> MachineBook<B> {
         Ok(turn)
     }
 
-    /// A turn of a processor of the job. After Memory nothing has changed.
+    /// A turn of a processor of the job. After Memory nothing has changed. Stopped exactly where memory was refused to a worker, or an
+    /// epoch or a version was used up; the book is as it was then.
     pub fn turn(&mut self, alloc: Global, words: &Words, cpu: Cpu) -> Result<Turn, Memory>
         requires cpu { cpu.0 < length self.old.book.job.scripts }
         requires words { self.old.words ≡ words.now }
         ensures turn { IfOk result (λ turn. IsRun self.old.book cpu turn self.new.book) }
+        ensures stopped { IfOk result (λ turn. tells_stop turn ≡ is_stopped self.old.book) }
+        // Its started load is given again, and no entry is made.
+        ensures again { is_some (loaded_by (last_of self.old.book.past cpu.0)) ≡ true → self.new.book ≡ self.old.book }
         ensures memory { OnErr result (self.new ≡ self.old) }
         ensures words { self.new.words ≡ self.old.words }
     {
@@ -88,10 +94,14 @@ impl<B: Backing> MachineBook<B> {
         Ok(turn)
     }
 
-    /// A turn of the reclaimer. After Memory nothing has changed.
+    /// A turn of the reclaimer. After Memory nothing has changed. Stopped exactly where memory was refused to a worker, or an
+    /// epoch or a version was used up; the book is as it was then.
     pub fn reclaim_turn(&mut self, alloc: Global, words: &Words) -> Result<Turn, Memory>
         requires { self.old.words ≡ words.now }
         ensures turn { IfOk result (λ turn. IsReclaim self.old.book turn self.new.book) }
+        ensures stopped { IfOk result (λ turn. tells_stop turn ≡ is_stopped self.old.book) }
+        // Its started write-out is given again, and no entry is made.
+        ensures again { is_some (frame_started (last_event self.old.book.past actors.Reclaimer)) ≡ true → self.new.book ≡ self.old.book }
         ensures memory { OnErr result (self.new ≡ self.old) }
         ensures words { self.new.words ≡ self.old.words }
     {
@@ -103,18 +113,21 @@ impl<B: Backing> MachineBook<B> {
     }
 
     /// Ends the started write-out, whatever work is handed in. Where none has started nothing changes. Takes no memory.
+    /// Stopped as a turn is.
     pub fn commit_sealed(&mut self, work: SealedWork) -> Turn
         ensures turn { IsOutEnd self.old.book result self.new.book }
+        ensures stopped { tells_stop result ≡ is_stopped self.old.book }
         ensures words { self.new.words ≡ self.old.words }
     {
         self.book.commit_sealed(work)
     }
 
     /// Ends the started load of a processor of the job, whatever work is handed in. Where none has started nothing changes. Takes no
-    /// memory.
+    /// memory. Stopped as a turn is.
     pub fn commit_opened(&mut self, cpu: Cpu, work: UnsealedWork) -> Turn
         requires { cpu.0 < length self.old.book.job.scripts }
         ensures turn { IsLoadEnd self.old.book cpu result self.new.book }
+        ensures stopped { tells_stop result ≡ is_stopped self.old.book }
         ensures words { self.new.words ≡ self.old.words }
     {
         self.book.commit_opened(cpu, work)
@@ -122,17 +135,17 @@ impl<B: Backing> MachineBook<B> {
 
     /// Keeps in mind that memory was refused to a worker: no turn does anything from now on.
     pub fn stop_for_memory(&mut self)
-        ensures book { self.new.book ≡ record self.old.book { noted = true } }
+        ensures book { self.new.book ≡ record self.old.book { out_of_memory = true } }
         ensures words { self.new.words ≡ self.old.words }
     {
         self.book.stop_for_memory();
     }
 
     /// Whether memory was refused to a worker.
-    pub fn noted(&self) -> bool
-        ensures { result ≡ self.now.book.noted }
+    pub fn out_of_memory(&self) -> bool
+        ensures { result ≡ self.now.book.out_of_memory }
     {
-        self.book.noted()
+        self.book.out_of_memory()
     }
 
     /// The entries so far, oldest first.

@@ -18,12 +18,10 @@ use io_edges::sinks::Sink;
 use io_edges::sources::Source;
 use job_grammar::jobs::Job;
 use job_lines::kinds::JobKind;
-use job_text::reader::read_job;
+use job_text::reader::{MOST_BYTES, read_job};
 use job_text::refusals::{Fault, JobRefusal};
 use std::alloc::Global;
 use trace_pieces::ungiven::Ungiven;
-
-const MOST_BYTES: usize = 1 << 24;
 
 /// Why there is no job.
 pub(crate) enum Unread {

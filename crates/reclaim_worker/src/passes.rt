@@ -1,4 +1,15 @@
 //! A pass of the reclaimer, one turn at a time.
+//!
+//! 1. Look at the head of the list, one page a turn. A held page, and else a young one, goes to the tail. For any other the store makes
+//!    room, so that putting its record later asks for no memory, and the page is taken off the list.
+//! 2. Block each taken page. From then on no processor takes a translation of it.
+//! 3. Try each, in order. A try is refused while a processor inside may hold a translation from before the block.
+//! 4. Track the page's enclave, once. Who enters behind the track holds no such translation, so only who was inside before it counts.
+//! 5. Try again. All of them may have left by themselves.
+//! 6. Kick exactly those who keep the page back. They are asked for behind the track: before it, one who entered meanwhile would be
+//!    missed.
+//! 7. The third try waits until all of them have left. It starts the write-out, and the page's bytes are sealed outside the lock.
+//! 8. The end of the write-out gives the record, and then it is put. A record that was put before could be of a page that stays.
 
 ghost use Rattle.std.specs.Prelude.{◌≡◌, ◌≢◌, ◌+◌, ◌++◌, ◌≤◌, ◌<◌, ◌∷◌, ℕ, [], false, List, length};
 ghost use Rattle.std.specs.Prelude.{IfOk, OnErr, vec_len, vec_capacity};

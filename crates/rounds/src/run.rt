@@ -21,11 +21,11 @@ pub fn run<R: Wait, B: Backing>(
     book: &mut MachineBook<B>,
     words: &Words,
 ) -> Result<(), Memory>
-    requires noted { book.old.book.noted ≡ false }
+    requires out_of_memory { book.old.book.out_of_memory ≡ false }
     requires words { book.old.words ≡ words.now }
     ensures job { book.new.book.job ≡ book.old.book.job }
     ensures words { book.new.words ≡ book.old.words }
-    ensures noted { book.new.book.noted ≡ false }
+    ensures out_of_memory { book.new.book.out_of_memory ≡ false }
     ensures ended { OnOk result (IsEnded book.new.book.job book.new.book.past) }
 {
     for _ in rt.forever() {
@@ -42,7 +42,7 @@ fn is_last_round<B: Backing>(
     book: &mut MachineBook<B>,
     words: &Words,
 ) -> Result<bool, Memory>
-    requires noted { book.old.book.noted ≡ false }
+    requires out_of_memory { book.old.book.out_of_memory ≡ false }
     requires words { book.old.words ≡ words.now }
     ensures run { IsSameRun book.old book.new }
     ensures ended { IfOk result (λ is_last. is_last ≡ true → IsEnded book.new.book.job book.new.book.past) }
@@ -60,7 +60,7 @@ fn run_cpus<B: Backing>(
     book: &mut MachineBook<B>,
     words: &Words,
 ) -> Result<bool, Memory>
-    requires noted { book.old.book.noted ≡ false }
+    requires out_of_memory { book.old.book.out_of_memory ≡ false }
     requires words { book.old.words ≡ words.now }
     ensures run { IsSameRun book.old book.new }
     ensures rest { IfOk result (λ is_done. is_done ≡ true

@@ -13,7 +13,7 @@ use std::alloc::Global;
 
 /// A turn of the builder. Whether it has nothing more to do.
 pub(crate) fn build<B: Backing>(alloc: Global, book: &mut MachineBook<B>) -> Result<bool, Memory>
-    requires { book.old.book.noted ≡ false }
+    requires { book.old.book.out_of_memory ≡ false }
     ensures run { IsSameRun book.old book.new }
     ensures rests { IfOk result (λ is_built. is_built ≡ true → (book.new.book ≡ book.old.book) × BuilderRests book.new.book) }
 {
@@ -29,7 +29,7 @@ pub(crate) fn reclaim<B: Backing>(
     book: &mut MachineBook<B>,
     words: &Words,
 ) -> Result<bool, Memory>
-    requires noted { book.old.book.noted ≡ false }
+    requires out_of_memory { book.old.book.out_of_memory ≡ false }
     requires words { book.old.words ≡ words.now }
     ensures run { IsSameRun book.old book.new }
     ensures rests { IfOk result (λ is_calm. is_calm ≡ true → book.new.book ≡ book.old.book) }
@@ -51,7 +51,7 @@ pub(crate) fn run_cpu<B: Backing>(
     words: &Words,
     cpu: Cpu,
 ) -> Result<bool, Memory>
-    requires noted { book.old.book.noted ≡ false }
+    requires out_of_memory { book.old.book.out_of_memory ≡ false }
     requires words { book.old.words ≡ words.now }
     requires low { cpu.0 < length book.old.book.job.scripts }
     ensures run { IsSameRun book.old book.new }

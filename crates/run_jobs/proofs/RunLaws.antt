@@ -11,7 +11,6 @@ use Rattle.run_book.specs.Lost.{AllCameBack}
 use Rattle.run_history.specs.Given.{UnforgedRun}
 use Rattle.run_history.specs.Histories.{History}
 use Rattle.run_history.specs.inner.Histories.{GoesOn}
-use Rattle.run_history.specs.Honest.{IsHonest}
 use Rattle.run_history.specs.Stored.{PutsAreFlat}
 use Rattle.crew.specs.inner.Views.{BookView, Holds}
 use Rattle.run_jobs.specs.Ends.{IsEndOf}
@@ -41,15 +40,11 @@ histories : (j : JobView) (past : List Entry) (told : Option (List Call)) → Is
 histories j past None ended holds = tt
 histories j past (Some calls) ended holds = λ unforged. let both = holds unforged in (at_end j past both.0 ended, both.1)
 
-no_bus : (past : List Entry) (end : End) → IsEndOf past end → AllCameBack past → end ≢ ends.Bus
+-- where each page came back, no processor was ended by one
+pub no_bus : (past : List Entry) (end : End) → IsEndOf past end → AllCameBack past → end ≢ ends.Bus
 no_bus past ends.Done is back = λ same. cc
 no_bus past ends.Bus is back = λ same. is.1 back
 no_bus past ends.Spent is back = λ same. cc
-
-honestly : (past : List Entry) (told : Option (List Call)) (end : End) → IsEndOf past end
-    → IfSome told (λ calls. IsHonest calls → AllCameBack past) → IfSome told (λ calls. IsHonest calls → end ≢ ends.Bus)
-honestly past None end is back = tt
-honestly past (Some calls) end is back = λ honest. no_bus past end is (back honest)
 
 done_of : (j : JobView) (past : List Entry) (end : End) → IsEnded j past → IsEndOf past end → end ≡ ends.Done
     → (p : ℕ) → p < length j.scripts → IsDone j past p
@@ -70,7 +65,7 @@ whole b end holds ended is = record {
   history = histories b.job b.past b.told ended holds.unforged;
   end_is = is;
   done = done_of b.job b.past end ended is;
-  honest = honestly b.past b.told end is holds.anyhow.honest;
+  honest = holds.anyhow.honest;
 }
 
 -- .. and what was taken apart of it is that run

@@ -1,5 +1,5 @@
 -- A whole run of a job: what is so of each, whatever it was that the store gave, and for every order of turns.
-use Rattle.std.specs.Prelude.{ℕ, ◌≡◌, ◌≢◌, ◌<◌, List, Option, IfSome, length}
+use Rattle.std.specs.Prelude.{ℕ, ◌≡◌, ◌<◌, List, Option, IfSome, length}
 use Rattle.sgx_rules.specs.declared.entries.Entry.{Entry}
 use Rattle.sgx_rules.specs.Rules.{Along, EvictRule, Fits, RisingRule, Stale}
 use Rattle.io_edges.specs.declared.plans.PlanLine.{PlanLine}
@@ -7,6 +7,7 @@ use Rattle.job_grammar.specs.Jobs.{JobView}
 use Rattle.backing_store.specs.Calls.{Call}
 use Rattle.driver_rules.specs.Ages.{AgeRule, KickRule}
 use Rattle.driver_rules.specs.Scripts.{IsDone, Script}
+use Rattle.run_book.specs.Lost.{AllCameBack}
 use Rattle.run_history.specs.Given.{UnforgedRun}
 use Rattle.run_history.specs.Histories.{History}
 use Rattle.run_history.specs.Honest.{IsHonest}
@@ -34,5 +35,6 @@ pub record WholeRun (j : JobView) (past : List Entry) (end : End) (told : Option
   pub end_is : IsEndOf past end
   -- at Done each operation of each script has its reply, and each processor is outside
   pub done : end ≡ ends.Done → (p : ℕ) → p < length j.scripts → IsDone j past p
-  -- a store that failed nothing and gave each page's last record put ends no processor. This supposes nothing of forged records
-  pub honest : IfSome told (λ calls. IsHonest calls → end ≢ ends.Bus)
+  -- over a store that failed nothing and gave each page's last record put, no page was lost, however the run ended. This supposes nothing
+  -- of forged records
+  pub honest : IfSome told (λ calls. IsHonest calls → AllCameBack past)

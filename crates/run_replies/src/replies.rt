@@ -255,8 +255,8 @@ impl Replies {
 
     // What an entry of its own adds.
     fn note(&mut self, event: &Event) -> Result<(), Memory>
-        ensures { OnOk result ((past : List Entry) (p : ℕ) (e : Entry) → e.event ≡ event.now → is_by p e.actor ≡ true → IsReplies past p self.old
-            → IsReplies (e ∷ past) p self.new) }
+        ensures { OnOk result ((past : List Entry) (p : ℕ) (e : Entry) → e.event ≡ event.now → is_by p e.actor ≡ true
+            → IsReplies past p self.old → IsReplies (e ∷ past) p self.new) }
     {
         if is_reply(self.is_interrupted, event) {
             push_reply(event, &mut self.lines)?;

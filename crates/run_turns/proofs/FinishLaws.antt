@@ -69,7 +69,8 @@ build_end_is (builders.Waits reason) = refl
 build_end_is (builders.Makes action) = refl
 
 -- so it is for the builder
-pub built_is : (j : JobView) (past : List Entry) (due : BuilderDue) (b : Bool) → is_spent past ≡ false → building_in due ≡ builder_due j past
+pub built_is : (j : JobView) (past : List Entry) (due : BuilderDue) (b : Bool) → is_spent past ≡ false
+    → building_in due ≡ builder_due j past
     → is_building due ≡ b → is_built j past ≡ not b
 built_is j past due b going told left = sym (builder_is j past going) ∙ ap is_finished (sym told) ∙ build_end_is due ∙ ap not left
 

@@ -29,3 +29,5 @@ pub mod PutLaws
 pub mod OpenViewLaws
 pub mod CallLaws
 pub mod ReclaimViewLaws
+pub mod StopLaws
+pub mod IdleLaws

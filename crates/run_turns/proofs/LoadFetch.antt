@@ -165,7 +165,8 @@ module _ {s : Course} {entries : Vec Entry} {d' : Driver} {m' : Parts} {told tol
       (right_of s entries d' m' told told' spare cpu page before (answers.Started e work) f) f.cpus (λ reason same. cc)
 
   -- it can be taken in
-  abbrev pub start_can : (e : Entry) (work : Box UnsealWork) → Fetched s entries d' m' told told' spare cpu page before (answers.Started e work)
+  abbrev pub start_can : (e : Entry) (work : Box UnsealWork)
+      → Fetched s entries d' m' told told' spare cpu page before (answers.Started e work)
       → CanTake (mid s entries d' m') before e
   start_can e work f =
       can_take (mid s entries d' m') (past_of s) told told' spare s.driver s.machine before e

@@ -227,7 +227,8 @@ fault_made j past told told' d d' m m' t taken phase cpu page answer k stands go
     by_answer (answers.Again why) r left next flat store bytes = tt
 
 -- the work of a load that has begun is that of the kept record, whoever holds which pages
-pub begun_opens : (j : JobView) (past : List Entry) (cpu : Cpu) (page : Page) (d d' : Driver) (m' : Parts) (e : Entry) (work : Box UnsealWork)
+pub begun_opens : (j : JobView) (past : List Entry) (cpu : Cpu) (page : Page) (d d' : Driver) (m' : Parts) (e : Entry)
+    (work : Box UnsealWork)
     (own : List (List Page)) → ShowsTables j d past → IsPlaced d.states.counts page → cpu.0 < length d.kept → is_refused e.event ≡ false
     → IsBegun cpu page d d' m' e work → IsAgain cpu (with_own d' own) m' (Some work)
 begun_opens j past cpu page d d' m' e work own shows placed room done is =

@@ -55,11 +55,12 @@ module _ (c : Course) (told : Option (List Call)) (spare : ℕ) (cpu : Cpu) (wor
   given (Some calls) n page kept tells last at brought =
       sym (tells.gifts cpu.0 n page last) ∙ ap record_kept at ∙ ap Some (sym brought)
 
-  pub opens_seen : (plans : List PlanLine) (noted : Bool) → OpensFor c cpu work → OpensLoad (view_of c told plans noted) cpu work.value
-  opens_seen plans noted opens = by_kept (kept_at c.driver.kept cpu.0) refl opens
+  pub opens_seen : (plans : List PlanLine) (out_of_memory : Bool) → OpensFor c cpu work
+      → OpensLoad (view_of c told plans out_of_memory) cpu work.value
+  opens_seen plans out_of_memory opens = by_kept (kept_at c.driver.kept cpu.0) refl opens
     where
       by_kept : (o : Option Kept) → kept_at c.driver.kept cpu.0 ≡ o → IsWorkFor c.driver c.machine o (Some work)
-          → OpensLoad (view_of c told plans noted) cpu work.value
+          → OpensLoad (view_of c told plans out_of_memory) cpu work.value
       by_kept None at w = absurd w
       by_kept (Some kept) at w =
           let r = k.book.agrees in
@@ -83,7 +84,7 @@ module _ (c : Course) (told : Option (List Call)) (spare : ℕ) (cpu : Cpu) (wor
 
 -- ---- turns
 
--- a turn of a book to which no want of memory was noted, behind which the store tells these calls
+-- a turn of a book to which no refused memory was told, behind which the store tells these calls
 module _ (c c' : Course) (told told' : Option (List Call)) (plans plans' : List PlanLine) (spare' : ℕ) (cpu : Cpu)
     (k : KeepsCourse c' told' spare') (same_plans : plans' ≡ plans) where
   -- where nothing has changed, the book is the one that it was

@@ -99,9 +99,10 @@ all_back past None keeps = tt
 all_back past (Some calls) keeps = λ honest. (keeps honest).0
 
 -- the rules that no page's bytes decide, the driver's, and the store's calls
-holds_anyhow : (c : Course) (told : Option (List Call)) (plans : List PlanLine) (spare : ℕ) (noted : Bool) → IsKept c told plans spare
-    → HoldsAnyhow (view_of c told plans noted)
-holds_anyhow c told plans spare noted kept =
+holds_anyhow : (c : Course) (told : Option (List Call)) (plans : List PlanLine) (spare : ℕ) (out_of_memory : Bool)
+    → IsKept c told plans spare
+    → HoldsAnyhow (view_of c told plans out_of_memory)
+holds_anyhow c told plans spare out_of_memory kept =
     let book = kept.keeps.book in
     record {
       script = book.script;
@@ -120,18 +121,19 @@ holds_anyhow c told plans spare noted kept =
 -- ---- together
 
 -- what a course keeps gives all that is so of every book
-pub promises : (c : Course) (told : Option (List Call)) (plans : List PlanLine) (spare : ℕ) (noted : Bool) → IsKept c told plans spare
-    → Holds (view_of c told plans noted)
-promises c told plans spare noted kept =
+pub promises : (c : Course) (told : Option (List Call)) (plans : List PlanLine) (spare : ℕ) (out_of_memory : Bool)
+    → IsKept c told plans spare
+    → Holds (view_of c told plans out_of_memory)
+promises c told plans spare out_of_memory kept =
     let book = kept.keeps.book in
     record {
-      anyhow = holds_anyhow c told plans spare noted kept;
+      anyhow = holds_anyhow c told plans spare out_of_memory kept;
       unforged = both told (goes_unforged c.job (past_of c) told c.machine book.script book.age book.kick book.bytes)
           (puts_are_flat c told plans spare kept);
     }
   where
     both : (o : Option (List Call)) → IfSome o (λ calls. UnforgedRun c.job.key (past_of c) calls → GoesOn c.job (past_of c))
         → IfSome o (λ calls. UnforgedRun c.job.key (past_of c) calls → PutsAreFlat c.job.key (past_of c) calls)
-        → IfSome o (HoldsUnforged (view_of c told plans noted))
+        → IfSome o (HoldsUnforged (view_of c told plans out_of_memory))
     both None goes flat = tt
     both (Some calls) goes flat = λ unforged. (goes unforged, flat unforged)

@@ -51,9 +51,9 @@ use Rattle.run_turns.proofs.ViewLaws.{grown_seen, plans_told}
 -- ---- works
 
 -- the work is of a page that has started to go out
-seals_seen : (c : Course) (told : Option (List Call)) (spare : ℕ) (work : SealWork) (plans : List PlanLine) (noted : Bool)
-    → KeepsCourse c told spare → SealsFor c work → SealsPageOut (view_of c told plans noted) work
-seals_seen c told spare work plans noted k = by_phase c.pass.phase
+seals_seen : (c : Course) (told : Option (List Call)) (spare : ℕ) (work : SealWork) (plans : List PlanLine) (out_of_memory : Bool)
+    → KeepsCourse c told spare → SealsFor c work → SealsPageOut (view_of c told plans out_of_memory) work
+seals_seen c told spare work plans out_of_memory k = by_phase c.pass.phase
   where
     bytes_seen : (o : Option (List Call)) (n : ℕ) (g : Page) (kind : Kind) (perm : Perm) (w : SealWork)
         → (state_of c.machine).content n ≡ Holds g kind perm → w.plain.items ≡ bytes_of ((state_of c.machine).words n)
@@ -65,7 +65,7 @@ seals_seen c told spare work plans noted k = by_phase c.pass.phase
 
     by_one : (o : Option Taken)
         → IsSomeAnd o (λ one. SealsPage (state_of c.machine) one.frame.0 work.key work.version work.header work.plain.items)
-        → SealsPageOut (view_of c told plans noted) work
+        → SealsPageOut (view_of c told plans out_of_memory) work
     by_one None s = absurd s
     by_one (Some one) s =
         let shape = k.book.agrees.follows.shape in
@@ -86,7 +86,7 @@ seals_seen c told spare work plans noted k = by_phase c.pass.phase
 
     by_phase : (phase : Phase)
         → IsToSeal c.pass.taken.items phase (state_of c.machine) work.key work.version work.header work.plain.items
-        → SealsPageOut (view_of c told plans noted) work
+        → SealsPageOut (view_of c told plans out_of_memory) work
     by_phase (phases.Sealing next slot) s = by_one (slice_get c.pass.taken.items next) s
     by_phase (phases.Idle works) s = absurd s
     by_phase (phases.Scan left) s = absurd s
@@ -158,7 +158,7 @@ module _ (c c' : Course) (told told' : Option (List Call)) (plans plans' : List 
     past = reverse (items i);
     told = calm i;
     plans = same_plans i;
-    noted = false;
+    out_of_memory = false;
   }
 
   -- a work for it is of a write-out that is open

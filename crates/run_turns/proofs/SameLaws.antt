@@ -59,8 +59,8 @@ same_keeps c c' told spare s k =
     }
 
 -- .. as a book shows it
-pub same_view : (c c' : Course) (told : Option (List Call)) (plans : List PlanLine) (noted : Bool) → IsSame c c'
-    → view_of c' told plans noted ≡ view_of c told plans noted
-same_view c c' told plans noted s =
-    by_parts c c' s (λ j h d m t taken phase. ◌≡◌ {A = BookView} (record { job = j; past = h; told = told; plans = plans; noted = noted })
-    (view_of c told plans noted)) refl
+pub same_view : (c c' : Course) (told : Option (List Call)) (plans : List PlanLine) (out_of_memory : Bool) → IsSame c c'
+    → view_of c' told plans out_of_memory ≡ view_of c told plans out_of_memory
+same_view c c' told plans out_of_memory s =
+    by_parts c c' s (λ j h d m t taken phase. ◌≡◌ {A = BookView}
+    (record { job = j; past = h; told = told; plans = plans; out_of_memory = out_of_memory }) (view_of c told plans out_of_memory)) refl

@@ -21,9 +21,10 @@ use Rattle.run_turns.proofs.ReportLaws.{builder_stopped}
 
 -- entries more
 pub grown_seen : (c c' : Course) (by : Actor) (n : ℕ) (told told' longer : Option (List Call)) (plans plans' : List PlanLine) (spare : ℕ)
-    (noted : Bool) → Grows c by n c' longer spare → HasGrown (view_of c told plans noted) by n (view_of c' told' plans' noted)
-grown_seen c c' by n told told' longer plans plans' spare noted g =
-    record { entries = g.entries; count = g.count; actors = g.actors; past = g.past; job = g.job; noted = refl }
+    (out_of_memory : Bool) → Grows c by n c' longer spare
+    → HasGrown (view_of c told plans out_of_memory) by n (view_of c' told' plans' out_of_memory)
+grown_seen c c' by n told told' longer plans plans' spare out_of_memory g =
+    record { entries = g.entries; count = g.count; actors = g.actors; past = g.past; job = g.job; out_of_memory = refl }
 
 -- a course of the same job that keeps what it has to
 abbrev pub GoesOn : Course → Course → Option (List Call) → ℕ → Type 0
@@ -54,7 +55,7 @@ plans_begin (Some calls) plans lines wanted h same = h ∙ same
 -- ---- the builder
 
 module _ (c : Course) (told : Option (List Call)) (plans : List PlanLine) (spare : ℕ) where
-  -- a turn of a book to which no want of memory was noted
+  -- a turn of a book to which no refused memory was told
   build_seen : (c' : Course) (turn : Turn) → IsBuilderTurn c turn c' told spare
       → IsBuild (view_of c told plans false) turn (view_of c' told plans false)
   build_seen c' (turns.Did n) (one, g) = (one, grown_seen c c' actors.Builder 1 told told told plans plans spare false g)

@@ -1,8 +1,12 @@
 //! The book of a run.
 
-ghost use Rattle.std.specs.Prelude.{◌≡◌, ◌<◌, [], false, true, IfOk, IfSome, OnErr, length, reverse};
+ghost use Rattle.std.specs.Prelude.{◌≡◌, ◌<◌, [], false, true, IfOk, IfSome, OnErr, is_some, length, reverse};
+ghost use Rattle.driver_laws.specs.inner.Agrees.{loaded_by};
+ghost use Rattle.driver_rules.specs.Turns.{last_of};
+ghost use Rattle.driver_rules.specs.inner.Stops.{frame_started, last_event};
 ghost use Rattle.job_grammar.specs.inner.Valid.{IsValid};
-ghost use Rattle.run_turns.specs.inner.Views.{Holds, IsBuild, IsLoadEnd, IsOutEnd, IsReclaim, IsRun};
+ghost use Rattle.sgx_types.specs.declared.names.Actor.TheVariants as actors;
+ghost use Rattle.run_turns.specs.inner.Views.{Holds, IsBuild, IsLoadEnd, IsOutEnd, IsReclaim, IsRun, is_stopped, tells_stop};
 
 use crate::course::Course;
 use crate::turn::Turn;
@@ -22,7 +26,7 @@ use std::marker::Model;
 pub struct Book<B: Backing> {
     course: Box<Course>,
     store: B,
-    noted: bool,
+    out_of_memory: bool,
 }
 
 impl<B: Backing> Model for Book<B> {
@@ -32,7 +36,7 @@ impl<B: Backing> Model for Book<B> {
 
     ghost use Rattle.run_turns.specs.inner.Kept.{IsKept, view_of};
 
-    ghost view = { λ b. view_of b.course.value (B.told b.store) (B.plans b.store) b.noted };
+    ghost view = { λ b. view_of b.course.value (B.told b.store) (B.plans b.store) b.out_of_memory };
 
     ghost invariant = { λ b. IsKept b.course.value (B.told b.store) (B.plans b.store) (B.spare b.store) };
 }
@@ -44,7 +48,7 @@ impl<B: Backing> Book<B> {
         ensures job { IfOk result (λ book. book.job ≡ job) }
         ensures past { IfOk result (λ book. book.past ≡ []) }
         ensures told { IfOk result (λ book. book.told ≡ B.told store) }
-        ensures noted { IfOk result (λ book. book.noted ≡ false) }
+        ensures out_of_memory { IfOk result (λ book. book.out_of_memory ≡ false) }
     {
         let mut store = store;
         store.plan(alloc, job.plans())?;
@@ -52,78 +56,98 @@ impl<B: Backing> Book<B> {
         Ok(Book {
             course,
             store,
-            noted: false,
+            out_of_memory: false,
         })
     }
 
-    /// A turn of the builder. After Memory nothing has changed.
+    /// A turn of the builder. After Memory nothing has changed. Stopped exactly where memory was refused to a worker, or an
+    /// epoch or a version was used up; the book is as it was then.
     pub fn build_turn(&mut self, alloc: Global) -> Result<Turn, Memory>
         ensures turn { IfOk result (λ turn. IsBuild self.old turn self.new) }
+        ensures stopped { IfOk result (λ turn. tells_stop turn ≡ is_stopped self.old) }
         ensures memory { OnErr result (self.new ≡ self.old) }
     {
-        if self.noted {
+        if self.is_stopped() {
             return Ok(Turn::Stopped);
         }
         self.course.build_turn(alloc)
     }
 
-    /// A turn of a processor of the job. After Memory nothing has changed.
+    /// A turn of a processor of the job. After Memory nothing has changed. Stopped exactly where memory was refused to a worker, or an
+    /// epoch or a version was used up; the book is as it was then.
     pub fn turn(&mut self, alloc: Global, cpu: Cpu) -> Result<Turn, Memory>
         requires { cpu.0 < length self.old.job.scripts }
         ensures turn { IfOk result (λ turn. IsRun self.old cpu turn self.new) }
+        ensures stopped { IfOk result (λ turn. tells_stop turn ≡ is_stopped self.old) }
+        // Its started load is given again, and no entry is made.
+        ensures again { is_some (loaded_by (last_of self.old.past cpu.0)) ≡ true → self.new ≡ self.old }
         ensures memory { OnErr result (self.new ≡ self.old) }
     {
-        if self.noted {
+        if self.is_stopped() {
             return Ok(Turn::Stopped);
         }
         self.course.turn(alloc, &mut self.store, cpu)
     }
 
-    /// A turn of the reclaimer. After Memory nothing has changed.
+    /// A turn of the reclaimer. After Memory nothing has changed. Stopped exactly where memory was refused to a worker, or an
+    /// epoch or a version was used up; the book is as it was then.
     pub fn reclaim_turn(&mut self, alloc: Global) -> Result<Turn, Memory>
         ensures turn { IfOk result (λ turn. IsReclaim self.old turn self.new) }
+        ensures stopped { IfOk result (λ turn. tells_stop turn ≡ is_stopped self.old) }
+        // Its started write-out is given again, and no entry is made.
+        ensures again { is_some (frame_started (last_event self.old.past actors.Reclaimer)) ≡ true → self.new ≡ self.old }
         ensures memory { OnErr result (self.new ≡ self.old) }
     {
-        if self.noted {
+        if self.is_stopped() {
             return Ok(Turn::Stopped);
         }
         self.course.reclaim_turn(alloc, &mut self.store)
     }
 
     /// Ends the started write-out, whatever work is handed in. Where none has started nothing changes. Takes no memory.
+    /// Stopped as a turn is.
     pub fn commit_sealed(&mut self, work: SealedWork) -> Turn
-        ensures { IsOutEnd self.old result self.new }
+        ensures turn { IsOutEnd self.old result self.new }
+        ensures stopped { tells_stop result ≡ is_stopped self.old }
     {
-        if self.noted {
+        if self.is_stopped() {
             return Turn::Stopped;
         }
         self.course.commit_sealed(&mut self.store, work)
     }
 
     /// Ends the started load of a processor of the job, whatever work is handed in. Where none has started nothing changes. Takes no
-    /// memory.
+    /// memory. Stopped as a turn is.
     pub fn commit_opened(&mut self, cpu: Cpu, work: UnsealedWork) -> Turn
         requires { cpu.0 < length self.old.job.scripts }
-        ensures { IsLoadEnd self.old cpu result self.new }
+        ensures turn { IsLoadEnd self.old cpu result self.new }
+        ensures stopped { tells_stop result ≡ is_stopped self.old }
     {
-        if self.noted {
+        if self.is_stopped() {
             return Turn::Stopped;
         }
         self.course.commit_opened(cpu, work)
     }
 
+    // Nothing is done any more: memory was refused to a worker, or an epoch or a version was used up.
+    fn is_stopped(&self) -> bool
+        ensures { result ≡ is_stopped self.now }
+    {
+        self.out_of_memory || self.course.turns.is_spent
+    }
+
     /// Keeps in mind that memory was refused to a worker: no turn does anything from now on.
     pub fn stop_for_memory(&mut self)
-        ensures { self.new ≡ record self.old { noted = true } }
+        ensures { self.new ≡ record self.old { out_of_memory = true } }
     {
-        self.noted = true;
+        self.out_of_memory = true;
     }
 
     /// Whether memory was refused to a worker.
-    pub fn noted(&self) -> bool
-        ensures { result ≡ self.now.noted }
+    pub fn out_of_memory(&self) -> bool
+        ensures { result ≡ self.now.out_of_memory }
     {
-        self.noted
+        self.out_of_memory
     }
 
     /// The entries so far, oldest first.

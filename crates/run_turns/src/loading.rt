@@ -40,6 +40,7 @@ impl Course {
         ensures plans { S.plans store.new ≡ S.plans store.old }
         ensures calm { IfOk result (λ turn. past_of self.new ≡ past_of self.old → S.told store.new ≡ S.told store.old) }
         ensures tells { is_some (S.told store.new) ≡ is_some (S.told store.old) }
+        ensures again { is_some (loaded_by (last_of (past_of self.old) cpu.0)) ≡ true → IsSame self.old self.new × (store.new ≡ store.old) }
     {
         let due = self
             .turns

@@ -10,6 +10,6 @@ ghost use Rattle.run_turns.specs.inner.Views.{Holds};
 /// What a course keeps gives all that is so of every book: whatever the store gave, the rules that no page's bytes decide and the store's
 /// calls; and where no record was forged, all eleven rules, and that each record that was put has the flat bytes of its page.
 pub fn courses_keep_their_promises()
-    ensures { (c : Course) (told : Option (List Call)) (plans : List PlanLine) (spare : ℕ) (noted : Bool) → IsKept c told plans spare
-        → Holds (view_of c told plans noted) }
+    ensures { (c : Course) (told : Option (List Call)) (plans : List PlanLine) (spare : ℕ) (out_of_memory : Bool)
+        → IsKept c told plans spare → Holds (view_of c told plans out_of_memory) }
 {}

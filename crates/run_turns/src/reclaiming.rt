@@ -33,7 +33,7 @@ impl Course {
         ensures memory { OnErr result (IsSame self.old self.new × (store.new ≡ store.old)) }
         ensures plans { S.plans store.new ≡ S.plans store.old }
         ensures rests { IfOk result (λ turn. IsWaiting turn → store.new ≡ store.old) }
-        ensures again { is_sealing self.old.pass.phase ≡ true → store.new ≡ store.old }
+        ensures again { is_sealing self.old.pass.phase ≡ true → IsSame self.old self.new × (store.new ≡ store.old) }
         ensures tells { is_some (S.told store.new) ≡ is_some (S.told store.old) }
     {
         if self.turns.is_spent {

@@ -198,7 +198,8 @@ fn write_entering(
     onto: &mut Vec<u8>,
 )
     requires { HasRoom (length name.now + 300) onto.old }
-    ensures text { onto.new.items ≡ with_words onto.old.items (name.now ∷ enclave_word enclave ∷ decimal tcs ∷ decimal tcs_frame.0 ∷ decimal ssa_frame.0 ∷ []) }
+    ensures text { onto.new.items
+        ≡ with_words onto.old.items (name.now ∷ enclave_word enclave ∷ decimal tcs ∷ decimal tcs_frame.0 ∷ decimal ssa_frame.0 ∷ []) }
     ensures room { UsesRoom (length name.now + 300) onto.old onto.new }
 {
     write_words(

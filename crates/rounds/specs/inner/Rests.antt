@@ -6,11 +6,11 @@ use Rattle.driver_rules.specs.Turns.{builder_due, cpu_due}
 use Rattle.machine_book.specs.inner.Views.{BookView}
 use Rattle.machine_book.specs.inner.Words.{MachineView}
 
--- a book of the same job and of the same words, to which no want of memory was noted
+-- a book of the same job and of the same words, to which no refused memory was told
 pub record IsSameRun (old new : MachineView) : Type 0 where
   pub job : new.book.job ≡ old.book.job
   pub words : new.words ≡ old.words
-  pub noted : new.book.noted ≡ false
+  pub out_of_memory : new.book.out_of_memory ≡ false
 
 -- the builder has nothing more to do, unless the run was stopped
 abbrev pub BuilderRests : BookView → Type 0

@@ -8,7 +8,7 @@ use Rattle.run_turns.specs.inner.Views.{BookView}
 
 -- a course over a store that tells these calls, was handed these plan lines and has so many places
 abbrev pub view_of : Course → Option (List Call) → List PlanLine → Bool → BookView
-view_of c told plans noted = record { job = c.job; past = past_of c; told = told; plans = plans; noted = noted }
+view_of c told plans out_of_memory = record { job = c.job; past = past_of c; told = told; plans = plans; out_of_memory = out_of_memory }
 
 pub record IsKept (c : Course) (told : Option (List Call)) (plans : List PlanLine) (spare : ℕ) : Type 0 where
   pub keeps : KeepsCourse c told spare

@@ -139,7 +139,8 @@ MakesMany due n = ⊥
 abbrev pub IsReclaimerTurn : Course → Turn → Course → Option (List Call) → ℕ → Type 0
 IsReclaimerTurn old (turns.Did n) new told spare =
     MakesMany (due_of old) n × (started (past_of new) actors.Reclaimer ≡ false) × Grows old actors.Reclaimer n new told spare
-IsReclaimerTurn old (turns.Seal work) new told spare = SealsFor new work.value × (Grows old actors.Reclaimer 1 new told spare ⊎ IsSame old new)
+IsReclaimerTurn old (turns.Seal work) new told spare =
+    SealsFor new work.value × (Grows old actors.Reclaimer 1 new told spare ⊎ IsSame old new)
 IsReclaimerTurn old (turns.Again why) new told spare = IsWaitBy (due_of old) why × IsAtRest old new
 IsReclaimerTurn old turns.Finished new told spare = (due_of old ≡ Finished) × IsSame old new
 IsReclaimerTurn old turns.Stopped new told spare = (is_spent (past_of old) ≡ true) × IsSame old new

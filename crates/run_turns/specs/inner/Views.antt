@@ -40,11 +40,16 @@ pub record BookView : Type 0 where
   pub past : List Entry
   pub told : Option (List Call)
   pub plans : List PlanLine
-  pub noted : Bool
+  pub out_of_memory : Bool
 
 -- nothing more is done
 abbrev pub is_stopped : BookView → Bool
-is_stopped b = if b.noted then true else is_spent b.past
+is_stopped b = if b.out_of_memory then true else is_spent b.past
+
+-- a turn answers that nothing is done any more
+abbrev pub tells_stop : Turn → Bool
+tells_stop turns.Stopped = true
+tells_stop _ = false
 
 -- whatever the store gave: who makes which entry, the reclaimer's looks and kicks, who is inside since which epoch, no frame twice, no
 -- stale translation, only drained pages go out, versions rise, and the store's calls are those of the entries
@@ -72,14 +77,14 @@ pub record Holds (b : BookView) : Type 0 where
   pub anyhow : HoldsAnyhow b
   pub unforged : IfSome b.told (HoldsUnforged b)
 
--- so many entries more, all of this actor, of one job; no want of memory was noted
+-- so many entries more, all of this actor, of one job; whether memory was refused to a worker is as before
 pub record HasGrown (old : BookView) (by : Actor) (n : ℕ) (new : BookView) : Type 0 where
   pub entries : List Entry
   pub count : length entries ≡ n
   pub actors : All (λ (e : Entry). e.actor ≡ by) entries
   pub past : new.past ≡ entries ++ old.past
   pub job : new.job ≡ old.job
-  pub noted : new.noted ≡ old.noted
+  pub out_of_memory : new.out_of_memory ≡ old.out_of_memory
 
 -- ---- turns
 

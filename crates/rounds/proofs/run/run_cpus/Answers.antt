@@ -10,7 +10,7 @@ loop-number-preserved g c = (
   record {
     job = c.in_ok-run_cpu.ensures.run.job ∙ c.loop-number.invariant.0.job;
     words = c.in_ok-run_cpu.ensures.run.words ∙ c.loop-number.invariant.0.words;
-    noted = c.in_ok-run_cpu.ensures.run.noted;
+    out_of_memory = c.in_ok-run_cpu.ensures.run.out_of_memory;
   },
   elim c.if-not-branch.branch [
     | then-not-branch w ↦ λ done. absurd (false≢true (sym w.is_done-is ∙ done))

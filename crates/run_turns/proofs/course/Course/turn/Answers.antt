@@ -57,7 +57,8 @@ pub returns-in-Finished-clause-turn : goal.returns-in-Finished-clause-turn
 returns-in-Finished-clause-turn g c =
     let s = c.args.self.now in
     let k = c.requires.keeps.book in (
-      sym (c.cpu_due-due.ensures (machine_of s.job) (past_of s) k.agrees k.orderly k.turns) ∙ ap (due_in s.job (past_of s)) c.in-Finished.is,
+      sym (c.cpu_due-due.ensures (machine_of s.job) (past_of s) k.agrees k.orderly k.turns)
+          ∙ ap (due_in s.job (past_of s)) c.in-Finished.is,
       same_self s,
     )
 
