@@ -82,6 +82,12 @@ module _ (c : Course) (told : Option (List Call)) (spare : ℕ) (cpu : Cpu) (wor
             given = given told loads.0 kept.page kept k.book.store loads.1 at w.opens.brought;
           }
 
+-- where nothing has changed, course and store, the book is the one that it was
+pub again_seen : (c c' : Course) (told told' : Option (List Call)) (plans plans' : List PlanLine) (out_of_memory : Bool) → IsSame c c'
+    → told' ≡ told → plans' ≡ plans → view_of c' told' plans' out_of_memory ≡ view_of c told plans out_of_memory
+again_seen c c' told told' plans plans' out_of_memory s calm lines =
+    same_view c c' told' plans' out_of_memory s ∙ (λ i. view_of c (calm i) (lines i) out_of_memory)
+
 -- ---- turns
 
 -- a turn of a book to which no refused memory was told, behind which the store tells these calls

@@ -2,6 +2,7 @@
 use Rattle.std.proofs.Common.{◌≡◌, ℕ, zero, suc, ◌⊎◌, Bool, true, false, List, [], Option, Some, None, is_some, Result, Ok}
 use Rattle.std.proofs.Common.{Err, IfOk, OnErr, IfSome, reverse, slice_get, refl, sym, ap, subst, ◌∙◌, inl, inr}
 use Rattle.std.specs.Option.{IsSomeAnd}
+use Rattle.std.proofs.lemmas.Bool.{false≢true}
 use Rattle.sgx_types.specs.declared.names.Actor.TheVariants as actors
 use Rattle.sgx_rules.specs.declared.entries.Entry.{Entry}
 use Rattle.sgx_types.specs.declared.names.Memory.{Memory}
@@ -147,6 +148,17 @@ due_now c told spare plans k = by_phase c.pass.phase k.stands
     by_phase (phases.Tries next code.Third block) stands =
         let w = stands.0 in
         behind (either_due j past (with_page w.one.page (pages_in w.rest) w.to w.same w.fits.0))
+
+-- a write-out that has started is the one that the pass waits for
+pub open_seals : (c : Course) (told : Option (List Call)) (spare : ℕ) → KeepsCourse c told spare
+    → is_some (frame_started (last_event (past_of c) actors.Reclaimer)) ≡ true → is_sealing c.pass.phase ≡ true
+open_seals c told spare k open = by (is_sealing c.pass.phase) refl
+  where
+    by : (b : Bool) → is_sealing c.pass.phase ≡ b → b ≡ true
+    by true at = refl
+    by false at =
+        absurd (false≢true (rw (none_started c.job.start_epoch c.job (past_of c) c.pass.taken.items c.pass.phase k.stands k.book.age at)
+        at open))
 
 module _ (c c' : Course) (told told' : Option (List Call)) (plans plans' : List PlanLine) (spare' : ℕ) (k : KeepsCourse c' told' spare')
     (same_plans : plans' ≡ plans) where

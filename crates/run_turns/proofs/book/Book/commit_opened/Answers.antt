@@ -1,4 +1,7 @@
+use Rattle.std.proofs.Common.{◌≡◌, false, sym, subst, ◌∙◌}
+use Rattle.run_turns.specs.inner.Views.{BookView, is_stopped}
 use Rattle.run_turns.proofs.OpenViewLaws.{opened_kept, opened_seen}
+use Rattle.run_turns.proofs.StopLaws.{first_false, load_goes}
 use Rattle.run_turns.proofs.book.Book.commit_opened.Goals as goal
 
 pub invariant_of-self : goal.invariant_of-self
@@ -11,9 +14,10 @@ invariant_of-self g c =
       keeps = c.self.invariant.keeps;
     }))
 
-pub returns : goal.returns
-returns g c =
-    rw (← c.self.view_is, c.if-self.false)
+pub returns-clause-turn : goal.returns-clause-turn
+returns-clause-turn g c =
+    let going = subst (λ (b : BookView). is_stopped b ≡ false) (sym c.self.view_is) (sym c.is_stopped.ensures ∙ c.if-is_stopped.false) in
+    rw (← c.self.view_is, first_false c.self.inside.out_of_memory _ going)
     (opened_seen c.self.inside.course.value c.commit_opened.new.self (g.B.Backing.told c.self.inside.store)
     (g.B.Backing.plans c.self.inside.store) (g.B.Backing.spare c.self.inside.store) c.args.cpu c.commit_opened.result
     ((rw c.deref_mut.ensures.value at c.commit_opened.ensures) (record {
@@ -21,3 +25,7 @@ returns g c =
       spare = g.B.Backing.spare c.self.inside.store;
       keeps = c.self.invariant.keeps;
     })))
+
+pub returns-clause-stopped : goal.returns-clause-stopped
+returns-clause-stopped g c =
+    load_goes c.args.self.now _ (sym c.is_stopped.ensures ∙ c.if-is_stopped.false) c.args.cpu c.commit_opened.result (returns-clause-turn g c)

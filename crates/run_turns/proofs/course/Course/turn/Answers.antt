@@ -1,10 +1,13 @@
 use Rattle.std.proofs.Common.{refl, sym, ap, subst, ◌∙◌}
 use Rattle.turn_rules.specs.Machines.{machine_of}
 use Rattle.driver_rules.specs.Dues.{Makes}
+use Rattle.driver_rules.specs.Places.{place}
 use Rattle.turn_tables.specs.inner.Due.{due_in}
-use Rattle.run_turns.specs.inner.Courses.{past_of}
+use Rattle.run_turns.specs.declared.course.Course.{Course}
+use Rattle.run_turns.specs.inner.Courses.{IsSame, past_of}
 use Rattle.run_turns.specs.inner.Turns.{IsWaitBy}
 use Rattle.run_turns.proofs.ReportLaws.{none_reports}
+use Rattle.run_turns.proofs.IdleLaws.{fetches_none, makes_none}
 use Rattle.run_turns.proofs.KeepLaws.{same_self}
 use Rattle.run_turns.proofs.LoadCourse.{ends_loads}
 use Rattle.run_turns.proofs.LoadTurn.{made_keeps, made_turn}
@@ -103,3 +106,32 @@ returns-in-Makes-clause-keeps g c =
             ∙ ap (due_in s.job (past_of s)) c.in-Makes.is ∙ ap Makes (sym c.action.ensures),
       );
     }) c.instruct.ensures.more c.instruct.ensures.memory
+
+pub returns-in-Stopped-clause-again : goal.returns-in-Stopped-clause-again
+returns-in-Stopped-clause-again g c = λ open. (same_self c.args.self.now, refl)
+
+pub returns-in-Finished-clause-again : goal.returns-in-Finished-clause-again
+returns-in-Finished-clause-again g c = λ open. (same_self c.args.self.now, refl)
+
+pub returns-in-Waits-clause-again : goal.returns-in-Waits-clause-again
+returns-in-Waits-clause-again g c = λ open. (same_self c.args.self.now, refl)
+
+pub returns-in-Ends-clause-again : goal.returns-in-Ends-clause-again
+returns-in-Ends-clause-again g c = λ open.
+    (subst (λ (x : Course). IsSame c.args.self.now x) (sym c.open_again.ensures.same) (same_self c.args.self.now), c.open_again.ensures.store)
+
+pub returns-in-Makes-clause-again : goal.returns-in-Makes-clause-again
+returns-in-Makes-clause-again g c = λ open.
+    (let s = c.args.self.now in
+    let k = c.requires.keeps.book in
+    absurd (makes_none s.job (past_of s) c.args.cpu.0 c.action.result
+    (sym (c.cpu_due-due.ensures (machine_of s.job) (past_of s) k.agrees k.orderly k.turns)
+    ∙ ap (due_in s.job (past_of s)) c.in-Makes.is ∙ ap Makes (sym c.action.ensures)) open))
+
+pub returns-in-Needs-clause-again : goal.returns-in-Needs-clause-again
+returns-in-Needs-clause-again g c = λ open.
+    (let s = c.args.self.now in
+    let k = c.requires.keeps.book in
+    absurd (fetches_none s.job (past_of s) c.args.cpu.0 s.job.epc c.in-Needs.page (place (past_of s) c.in-Needs.page)
+    (sym (c.cpu_due-due.ensures (machine_of s.job) (past_of s) k.agrees k.orderly k.turns) ∙ ap (due_in s.job (past_of s)) c.in-Needs.is)
+    open))
