@@ -2,6 +2,4 @@
 #![tactic(auto)]
 
 pub mod giving;
-#[cfg(test)]
-mod tests;
 pub mod verdicts;

@@ -12,6 +12,8 @@ mod cut_jobs;
 #[cfg(test)]
 mod fault_tests;
 #[cfg(test)]
+mod gate_tests;
+#[cfg(test)]
 mod least_tests;
 #[cfg(test)]
 mod paged_jobs;
@@ -19,6 +21,8 @@ mod paged_jobs;
 mod reply_tests;
 #[cfg(test)]
 mod run_tests;
+#[cfg(test)]
+mod verdict_tests;
 #[cfg(test)]
 mod word_tests;
 #[cfg(test)]

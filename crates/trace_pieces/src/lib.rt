@@ -2,6 +2,4 @@
 #![tactic(auto)]
 
 pub mod pieces;
-#[cfg(test)]
-mod tests;
 pub mod ungiven;

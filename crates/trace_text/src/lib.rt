@@ -4,6 +4,4 @@
 mod actions;
 pub mod names;
 pub mod room;
-#[cfg(test)]
-mod tests;
 pub mod trace;

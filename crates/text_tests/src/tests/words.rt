@@ -1,6 +1,6 @@
 //! Words of the command line, and the commands that they name.
 
-use crate::command::{Command, command_of};
+use command_words::command::{Command, command_of};
 use sgx_types::names::Memory;
 use std::alloc::Global;
 use std::test::Fail;

@@ -1,10 +1,9 @@
 //! The lines of verdicts.
 
-use crate::verdicts::print_verdict;
+use audit_command::verdicts::Verdict::{self, No};
+use audit_command::verdicts::print_verdict;
 use run_history::rules::Rule;
 use std::test::Fail;
-use trace_auditor::verdict::Verdict;
-use trace_auditor::verdict::Verdict::No;
 
 // Verdicts, and the line on each.
 const ROWS: [(Verdict, &[u8]); 13] = [

@@ -1,19 +1,14 @@
 //! Texts of entries and of traces.
 
-mod building;
-mod paging;
-mod rows;
-mod running;
-
-use crate::room::LONGEST_LINE;
-use crate::tests::building::{OTHER_PAGES, TEXT, WHOLE};
-use crate::tests::paging::{PAGING, REFUSED};
-use crate::tests::rows::Row;
-use crate::tests::running::PROCESSORS;
-use crate::trace::{print_entry, print_trace};
+use super::building::{OTHER_PAGES, TEXT, WHOLE};
+use super::paging::{PAGING, REFUSED};
+use super::rows::Row;
+use super::running::PROCESSORS;
 use std::process::Abort;
 use std::str;
 use std::test::Fail;
+use trace_text::room::LONGEST_LINE;
+use trace_text::trace::{print_entry, print_trace};
 
 // The entry of each row has the row's line, and a line feed behind it.
 fn are_printed(rt: &impl Abort, rows: &[Row], text: &mut Vec<u8>) -> Result<(), Fail> {

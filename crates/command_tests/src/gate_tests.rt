@@ -1,6 +1,6 @@
 //! The run of the gate's command.
 
-use crate::counts::give_counts;
+use gate_command::counts::give_counts;
 use io_edges::mem_sink::MemSink;
 use std::test::Fail;
 use trace_pieces::ungiven::Ungiven;

@@ -1,11 +1,11 @@
 //! A trace that is given in pieces.
 
-use crate::pieces::{PIECE, give_trace};
-use crate::ungiven::Ungiven;
 use io_edges::mem_sink::MemSink;
 use sgx_rules::entries::{Action, Answer, Entry, Event};
 use sgx_types::names::Actor;
 use std::test::Fail;
+use trace_pieces::pieces::{PIECE, give_trace};
+use trace_pieces::ungiven::Ungiven;
 use trace_text::trace::print_trace;
 
 const ENTRY: Entry = Entry {

@@ -1,0 +1,9 @@
+//! Texts that are given, and words that are read.
+
+mod building;
+mod paging;
+mod pieces;
+mod rows;
+mod running;
+mod traces;
+mod words;
