@@ -1,10 +1,10 @@
-# What the benches over jobs share. They are read into this: it makes the folder `work`, and builds the program where that has
-# to be done, so that a bench measures the program and not its build.
+# What the benches over jobs share. They are read into this: it makes the folder `work`, and proves and builds the program where that
+# has to be done, so that a bench measures the program, and no trial.
 root=$(cd "$(dirname "$0")/.." && pwd)
-program=$root/crates/sgxpage/out/sgxpage
+program=$root/out/sgxpage
 work=$(mktemp -d)
 trap 'rm -r "$work"' EXIT
-"$root/sgxpage" run /dev/null < "$root/jobs/first.job" > /dev/null
+"$root/sgxpage" --prove
 
 # Runs the job.
 run_job() {
