@@ -27,7 +27,7 @@ pub fn broken_outside(machine: &Machine, entry: &Entry, action: &Action) -> Rule
     rule_outside(machine.refusal_outside(action), &entry.event)
 }
 
-// .. by the first case of the row that holds.
+// The rule that is broken, by the first case of the row that holds, and by how the entry ended.
 fn rule_outside(first: Option<Refusal>, event: &Event) -> Rule
     ensures { result ≡ rule_outside first event.now }
 {

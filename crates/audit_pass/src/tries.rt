@@ -50,7 +50,7 @@ pub(crate) fn is_last_try(event: Event) -> bool
     }
 }
 
-/// .. or the refusal for want of a track.
+/// Whether an event is a start of a write-out, or the refusal of one: for want of a track, or of a version.
 pub(crate) fn is_try(event: Event) -> bool
     ensures { result ≡ is_try event }
 {

@@ -52,7 +52,7 @@ fn rule_of_done(action: Action, answer: Answer, right: Answer) -> Rule
     }
 }
 
-// .. of an instruction that its row decides.
+// Both are done, and their instruction is not the end of a write-out or of a load.
 fn rule_of_answer(action: Action, answer: Answer) -> Rule
     ensures { result ≡ rule_of_answer action answer }
 {

@@ -14,14 +14,14 @@ pub fn room_fails(plans: &[PlanLine], number: u64) -> bool
     plans.iter().any(|line| matches!(line, PlanLine::FailRoom { k } if *k == number))
 }
 
-/// .. the put of this number, among all puts.
+/// Whether a line lets the put of this number fail, counted from 1 among all puts.
 pub fn put_fails(plans: &[PlanLine], number: u64) -> bool
     ensures { result ≡ list_any (fails_put number) plans.now }
 {
     plans.iter().any(|line| matches!(line, PlanLine::FailPut { k } if *k == number))
 }
 
-/// .. the get of this number, among all gets.
+/// Whether a line lets the get of this number fail, counted from 1 among all gets.
 pub fn get_fails(plans: &[PlanLine], number: u64) -> bool
     ensures { result ≡ list_any (fails_get number) plans.now }
 {

@@ -69,7 +69,7 @@ pub fn run_workers<R: Threads + Wait + Sync, B: Backing + Send, G: Gate + Sync>(
     Ok(book)
 }
 
-// The same under a name, which fixes the job and the words.
+// A run under a name, which fixes the job and the words.
 fn run_named<N: Run + Send + Sync, R: Threads + Wait + Sync, B: Backing + Send, G: Gate + Sync>(
     rt: &R,
     alloc: Global,

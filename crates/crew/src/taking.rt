@@ -6,17 +6,17 @@ use backing_store::backing::Backing;
 use std::hint::spin_loop;
 use std::sync::{Mutex, MutexGuard, Wait};
 
-// A worker that finds the lock taken tries so often, with so many pauses between two tries, before it looks at what the others make.
+// How often a worker that finds the lock taken tries, before it looks at what the others make.
 const TRIES: u32 = 4;
 
+// How many pauses it makes between two tries.
 const PAUSES: u32 = 16;
 
-// So often it looks, before it sleeps even where the others make nothing: whoever holds the lock was put aside, or takes long.
+// How often it looks before it sleeps even where the others make nothing: whoever holds the lock was put aside, or takes long.
 const LOOKS: u32 = 32;
 
-/// Takes the lock. To whoever makes turn after turn it is left for a while: each time that it goes from hand to hand costs more than a
-/// turn.
-/// Nobody sleeps here at the lock itself, for then whoever frees it has to wake the sleeper, who finds it taken again.
+/// Takes the lock. It is left for a while to whoever makes turn after turn: each time that it goes from hand to hand costs more than a
+/// turn. Nobody sleeps here at the lock itself, for then whoever frees it has to wake the sleeper, who finds it taken again.
 pub(crate) fn take<'b, R: Wait, B: Backing, N: Run>(
     rt: &R,
     shared: &'b Mutex<Locked<B, N>>,

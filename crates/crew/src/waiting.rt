@@ -8,16 +8,17 @@ use std::sync::atomic::{AtomicBool, AtomicU64, Ordering};
 use std::thread;
 use std::time::Duration;
 
-// A worker that waits looks so often at most.
+// How often a worker that waits looks, at most.
 const LOOKS: u32 = 64;
 
-// Who had nothing to do so many times one after another sleeps between two turns, so that it takes neither a processor nor the lock from
-// those who work.
+// After how many turns with nothing to do, one after another, a worker sleeps between two turns. So it takes neither a processor nor the
+// lock from those who work.
 const AWAKE: u32 = 7;
 
-// So long it sleeps, in microseconds, and each time twice as long, so many times.
+// The shortest sleep, in microseconds. Each further one is twice as long.
 const NAP: u64 = 50;
 
+// How often the sleep may double.
 const LONGER: u32 = 4;
 
 // Who waits for processors to leave an enclave looks at its word so often at most.

@@ -86,7 +86,7 @@ pub fn kicks_go_by_epochs()
         → keepers past g ≡ processors_noting first past g.enclave b }
 {}
 
-/// In a history places, the list and the slots are sound, slots stay used, a pass keeps what it says of tracks and of its pages, each open
+/// In a history, places, the list and the slots are sound, slots stay used, a pass keeps what it says of tracks and of its pages, each open
 /// start of a load is one processor's, no more pages are added than the build has steps for, and three holds suffice.
 pub fn histories_are_sound()
     ensures sound { (k : Making) (j : JobView) (past : List Entry) → 1 ≤ k.first_version → IsDriven k j past → IsSound past }

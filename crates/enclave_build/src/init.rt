@@ -19,7 +19,7 @@ use sgx_rules::refusals::Refusal;
 /// signature, token or attribute is looked at, which is this project's own.
 pub fn einit(secs: &mut Secs, log: &Measure, expect: Option<[u8; 32]>) -> Result<[u8; 32], Refusal>
     ensures row { unless_measured (refusal_in result) ≡ first_of_row (init_row (Some (sight_of secs.old))) }
-    // .. and with the measurement as its last case.
+    // The row with one case more behind its others: that another digest is expected.
     ensures measured { (bytes : List ℕ) → HoldsLog log.now bytes
         → refusal_in result ≡ first_of_row (measured_row (sight_of secs.old) expect (measurement_of bytes)) }
     ensures expected { AgreesWith expect result }

@@ -194,7 +194,7 @@ pub fn run_gate<R: Threads + Wait + Sync>(
     Ok(())
 }
 
-/// The entries of all seats, each of which has entered so often.
+/// How often all seats have entered together, each of them so often.
 fn sum_entered(procs: &[ProcSeat], rounds: u32) -> u64
     requires few { length procs.now ≤ PROCESSORS }
     requires each { (k : ℕ) (d : _) → k < length procs.now → (slice_index_or procs.now k d).visit.entries ≡ rounds }
@@ -207,7 +207,7 @@ fn sum_entered(procs: &[ProcSeat], rounds: u32) -> u64
     sum
 }
 
-/// Runs new seats, and answers the entries of all.
+/// Runs new seats, and answers how often all of them entered.
 fn run_new<R: Threads + Wait + Sync>(
     rt: &R,
     gate: &FrameGate,
@@ -224,7 +224,7 @@ fn run_new<R: Threads + Wait + Sync>(
     Ok(sum_entered(procs, rounds))
 }
 
-/// Many rounds on a new gate with so many frames and processors. It answers the entries of all.
+/// Many rounds on a new gate with so many frames and processors. It answers how often all processors entered.
 pub fn count_entries<R: Threads + Wait + Sync>(
     rt: &R,
     alloc: Global,

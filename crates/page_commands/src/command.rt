@@ -43,7 +43,7 @@ use turn_gate::gate::Gate;
 /// the file at that path, and then its replies go to `out`. Where the text is no job's, `out` gets its first faulty line and what is wrong
 /// there. A job of more than 2^24 bytes is refused as line 0, and is read no further than one byte past them. `make NUMBER SIZE` gives the
 /// text of the job that is made of these to `out`. `demo NUMBER SIZE` runs that job, and gives the summary of the run to `out`.
-/// `gate ROUNDS` lets processors and a pager make so many rounds at a gate with no lock, and gives to `out` how many entries there were.
+/// `gate ROUNDS` lets processors and a pager make so many rounds at a gate with no lock, and gives to `out` how often they entered.
 ///
 /// `least PATH` reads the job and then, behind a valid one, a trace from `old`, which is the file at that path. It gives to `out` how
 /// many accesses the trace has, how many frames the job leaves for them, the fewest loads for these, and how many reloads the trace

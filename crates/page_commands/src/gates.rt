@@ -13,7 +13,7 @@ use std::sync::Wait;
 use std::thread::Threads;
 use trace_pieces::ungiven::Ungiven;
 
-/// Lets four processors and a pager make so many rounds at a new gate, and gives how many entries there were.
+/// Lets four processors and a pager make so many rounds at a new gate, and gives how often they entered.
 pub(crate) fn rounds_command<R: Threads + Wait + Sync, K: Sink>(
     rt: &R,
     alloc: Global,

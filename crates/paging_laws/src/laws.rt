@@ -25,8 +25,8 @@ pub fn every_run_is_shaped()
         → ShapeWithRules (making_of s) s past }
 {}
 
-/// .. and where none of the records that the loads looked at was forged, it stands in all for its entries and for the records that
-/// its write-outs gave: flat memory is what its frames and records hold, and the entries keep every rule of the machine.
+/// Of a run of a fresh machine, where none of the records that the loads looked at was forged: flat memory is what its frames and the
+/// records that its write-outs gave hold, and the entries keep every rule of the machine.
 pub fn every_run_stands()
     ensures { (s : State) (past : List Entry) (made : List Made) (given : List Given) → Run s past made given
         → 1 ≤ s.first_version → Unforged s.key made given → StandsWithAllRules (making_of s) s past made }

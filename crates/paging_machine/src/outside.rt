@@ -47,7 +47,7 @@ impl Machine {
         }
     }
 
-    // .. of the two ways into an enclave.
+    // The first case that holds of the row of a way into an enclave, as it is seen from outside.
     fn entry_refusal(
         &self,
         way: WayIn,

@@ -46,14 +46,14 @@ pub fn steps_carry_bytes()
         → Carries (state_of m) e (state_of m') → writes_out e.event ≡ false → CarriesBytes made j past m e m' longer }
 {}
 
-/// So does an instruction of the builder or of a processor that moves no page out or back: it is no write-out.
+/// An instruction of the builder or of a processor that moves no page out or back makes no record either, since it is no write-out.
 pub fn instructions_carry_bytes()
     ensures { (made : Making) (j : JobView) (past : List Entry) (m m' : Parts) (actor : Actor) (action : Action) (e : Entry)
         (longer : List Call) → is_plain action ≡ true → IsStep (state_of m) actor action e (state_of m')
         → Carries (state_of m) e (state_of m') → CarriesBytes made j past m e m' longer }
 {}
 
-/// So does an entry of no instruction, with which the machine stays as it was.
+/// An entry of no instruction makes no record, and the machine stays as it was.
 pub fn notes_carry_bytes()
     ensures { (made : Making) (j : JobView) (past : List Entry) (m : Parts) (e : Entry) (longer : List Call) → IsNote e.event
         → StaysWith (state_of m) e → CarriesBytes made j past m e m longer }

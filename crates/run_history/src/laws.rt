@@ -38,8 +38,8 @@ pub fn histories_fail_nowhere()
     ensures shorter { (j : JobView) (e : Entry) (past : List Entry) → GoesOn j (e ∷ past) → GoesOn j past }
 {}
 
-/// In a history that goes on places, the list and the slots are sound, a pass keeps what it says of tracks and of its pages, and three
-/// holds suffice.
+/// In a trace that is a history so far, places, the list and the slots are sound, a pass keeps what it says of tracks and of its pages, and
+/// three holds suffice.
 pub fn histories_are_driven()
     ensures driven { (j : JobView) (past : List Entry) → GoesOn j past → IsDriven (machine_of j) j past }
     ensures sound { (j : JobView) (past : List Entry) → 1 ≤ j.start_version → GoesOn j past → IsSound past }
@@ -74,8 +74,8 @@ pub fn flat_memory_has_the_pages()
     ensures { (past : List Entry) → Along FlatRule past → EnclavesAreFlat past }
 {}
 
-/// Of a look, of a kick, and of why a page did not come back, the rules but Script, Age and Kick say nothing. So a history goes on with one
-/// that keeps these three.
+/// Only Script, Age and Kick say something of a look, of a kick, and of why a page did not come back. So a trace that is a history so far
+/// is one with such an entry too, where the entry keeps these three.
 pub fn entries_of_no_instruction()
     ensures says { (j : JobView) (past : List Entry) (a : Actor) (ev : Event) (rule : Rule) → is_note ev ≡ true → is_machines rule ≡ true
         → Says j rule past None → Says j rule past (Some (record { actor = a; event = ev })) }

@@ -53,32 +53,32 @@ pub fn steps_keep_enclaves_flat()
         → IsStep s actor action e t → EnclavesAreFlat past → EnclavesAreFlat (e ∷ past) }
 {}
 
-/// .. and with any entry that is no done create, add or init.
+/// Flat memory goes on to have each enclave and page as the entries made it, with any entry that is no done create, add or init.
 pub fn other_entries_keep_enclaves_flat()
     ensures { (past : List Entry) (e : Entry) → is_building e.event ≡ false → EnclavesAreFlat past → EnclavesAreFlat (e ∷ past) }
 {}
 
-/// .. so with the entry of a fault step.
+/// Flat memory goes on to have each enclave and page as the entries made it, with the entry of a fault step.
 pub fn fault_steps_keep_enclaves_flat()
     ensures { (past : List Entry) (cpu : Cpu) (page : Page) (d d' : Driver) (m m' : Parts) (told told' : Option (List Call))
         (answer : FaultAnswer) → IsResolved cpu page (page_state d.states page) d m told answer d' m' told' → EnclavesAreFlat past
         → OfAnswer cpu page answer (λ e. EnclavesAreFlat (e ∷ past)) }
 {}
 
-/// .. with the end of a load, and the bus behind one that is refused.
+/// Flat memory goes on to have each enclave and page with the end of a load, and with the bus behind one that is refused.
 pub fn ends_of_loads_keep_enclaves_flat()
     ensures { (past : List Entry) (d d' : Driver) (m m' : Parts) (cpu : Cpu) (page : Page) (loaded : Loaded) (can : CanFinish cpu page d m)
         → IsFinished cpu page can.slot can.frame can.kept d (state_of m) loaded d' (state_of m') → EnclavesAreFlat past
         → EnclavesAreFlat (entry_in loaded ∷ past) × OfBus cpu page loaded (λ e bus. EnclavesAreFlat (bus ∷ e ∷ past)) }
 {}
 
-/// .. with the entry of a turn of a pass.
+/// Flat memory goes on to have each enclave and page with the entry of a turn of a pass.
 pub fn turns_of_a_pass_keep_enclaves_flat()
     ensures { (past : List Entry) (taken taken' : List Taken) (phase phase' : Phase) (d d' : Driver) (m m' : Parts) (turn : PassTurn)
         → TurnSays taken phase d m turn taken' phase' d' m' → EnclavesAreFlat past → OfEntry turn (λ e. EnclavesAreFlat (e ∷ past)) }
 {}
 
-/// .. and with the end of a write-out.
+/// Flat memory goes on to have each enclave and page with the end of a write-out.
 pub fn write_outs_keep_enclaves_flat()
     ensures { (past : List Entry) (taken : List Taken) (phase : Phase) (d d' : Driver) (m m' : Parts) (told told' : Option (List Call))
         (faults faults' : ℕ) (e : Entry) → StoredSays taken phase (state_of m) d told faults e (state_of m') d' told' faults'

@@ -16,7 +16,7 @@ use turn_tables::turns::Turns;
 /// Brings the driver's tables to the entry of an instruction that moves no page out or back, before the entry is noted in `turns`. `before`
 /// is how the entry's processor stood before it. A version array page that was made gives its slots, a page that was added is here and
 /// listed as the last, and the pages that a processor uses are young: that of a translation or of an access, and the TCS page and the state
-/// save page of an entry or a resumption. A refused instruction changes nothing. Constant time.
+/// save page by which it enters or resumes. A refused instruction changes nothing. Constant time.
 #[inline(always)]
 pub fn note_tables(turns: &Turns, driver: &mut Driver, before: Mode, entry: &Entry)
     requires { CanNoteTables turns.now driver.old before entry.now }
@@ -26,7 +26,7 @@ pub fn note_tables(turns: &Turns, driver: &mut Driver, before: Mode, entry: &Ent
     note_event(turns, driver, before, &entry.event);
 }
 
-// .. by its event.
+// Brings the tables to an entry with this event. A refused instruction changes nothing.
 fn note_event(turns: &Turns, driver: &mut Driver, before: Mode, event: &Event)
     requires { FitsEvent turns.now before event.now driver.old }
     ensures { DoesEvent turns.now before event.now driver.old driver.new }

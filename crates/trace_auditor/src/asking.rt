@@ -35,7 +35,7 @@ impl Auditing {
         self.ask_action(alloc, entry, &action)
     }
 
-    // .. of an instruction.
+    // Asks for an entry of an instruction.
     fn ask_action(
         &mut self,
         alloc: Global,
@@ -55,7 +55,7 @@ impl Auditing {
         }
     }
 
-    // .. of an instruction that its row decides.
+    // Asks for an entry of an instruction that is not the end of a write-out or of a load.
     fn ask_row(
         &mut self,
         alloc: Global,
@@ -75,7 +75,7 @@ impl Auditing {
         ask(alloc, &mut self.machine, entry, action)
     }
 
-    // .. of the end of a write-out.
+    // Asks for an entry of the end of a write-out.
     fn ask_out(
         &mut self,
         alloc: Global,
@@ -99,7 +99,7 @@ impl Auditing {
         }
     }
 
-    // .. of the end of a load. No page can come back for which the frame does not wait.
+    // Asks for an entry of the end of a load. No page can come back for which the frame does not wait.
     fn ask_back(
         &mut self,
         alloc: Global,

@@ -22,7 +22,7 @@ pub fn audit(alloc: Global, job: &Job, entries: &[Entry]) -> Result<Verdict, Mem
     audit_with(&mut auditing, alloc, job, entries)
 }
 
-// .. with what stands for no entry yet.
+// Judges the trace with a machine and tables that stand for an empty trace.
 fn audit_with(
     auditing: &mut Auditing,
     alloc: Global,

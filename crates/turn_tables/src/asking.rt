@@ -40,7 +40,7 @@ impl Turns {
         self.cpu_due_by(job, driver, machine, cpu)
     }
 
-    // .. by what the tables show.
+    // What a processor does next, by what machine and tables show.
     fn cpu_due_by(&self, job: &Job, driver: &Driver, machine: &Machine, cpu: Cpu) -> CpuDue
         requires cursor { IsCursor job.now self.now.cursor }
         requires can { CanAsk driver.now machine.now self.now cpu.0 }

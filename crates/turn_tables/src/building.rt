@@ -31,7 +31,7 @@ impl Turns {
         self.builder_due_by(job, driver, machine)
     }
 
-    // .. by what the tables show.
+    // What the builder does next, by what machine and tables show.
     fn builder_due_by(&self, job: &Job, driver: &Driver, machine: &Machine) -> BuilderDue
         requires cursor { IsCursor job.now self.now.cursor }
         requires places { map length self.now.tcs ≡ driver.now.states.counts }

@@ -64,7 +64,7 @@ impl Turns {
         self.hold_by(job, active, before, entry);
     }
 
-    // .. by how the entry's processor stood before it.
+    // Each actor has its own holds; the reclaimer has none.
     fn hold_by(&self, job: &Job, active: &mut Active, before: Mode, entry: &Entry)
         requires { FitsEntry job.now self.now before entry.now.actor entry.now.event active.old }
         ensures { active.new ≡ held_after job.now self.now before entry.now.actor entry.now.event active.old }

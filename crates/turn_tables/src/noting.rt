@@ -60,7 +60,7 @@ impl Turns {
         }
     }
 
-    // .. to each table.
+    // Notes an entry in each table.
     fn note_each(&mut self, job: &Job, before: Mode, entry: &Entry)
         requires cursor { IsCursor job.now self.old.cursor }
         requires cpu { IsAmong (length self.old.cpus) entry.now.actor }
