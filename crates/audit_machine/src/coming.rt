@@ -21,7 +21,7 @@ use sgx_types::record::{Header, Record};
 use std::alloc::Global;
 
 /// What came of the end of a load.
-#[derive(Debug, Drop)]
+#[derive(Drop)]
 pub enum Back {
     /// The entry breaks this rule first.
     Broken(Rule),

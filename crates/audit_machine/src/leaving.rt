@@ -19,7 +19,7 @@ use sgx_types::record::Record;
 use std::alloc::Global;
 
 /// What came of the end of a write-out.
-#[derive(Debug, Drop)]
+#[derive(Drop)]
 pub enum Out {
     /// The entry breaks this rule first.
     Broken(Rule),

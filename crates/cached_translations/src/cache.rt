@@ -23,7 +23,7 @@ pub struct Translation {
 }
 
 /// The translations of one processor. Contracts see them as a list, oldest first, in which no page stands twice.
-#[derive(Debug, Drop)]
+#[derive(Drop)]
 pub struct Cache {
     places: Vec<Translation>,
     oldest: usize,

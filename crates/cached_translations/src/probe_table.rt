@@ -8,7 +8,7 @@ ghost use Rattle.cached_translations.specs.inner.Probe.{Leads, IsProbed, IsGappe
 pub const SLOTS: usize = 128;
 
 /// A place of the table that is in use: a page by its number, and where its translation stands.
-#[derive(Clone, Copy, Debug)]
+#[derive(Clone, Copy)]
 pub struct Slot {
     pub number: u32,
     pub place: u8,
@@ -16,7 +16,7 @@ pub struct Slot {
 
 /// A table that leads from a page to the place of its translation, by linear probing from the page's number on. Between a
 /// page's number mod 128 and the place where it stands, around the table's end, no place is free.
-#[derive(Debug, Drop)]
+#[derive(Drop)]
 pub struct ProbeTable {
     pub slots: [Option<Slot>; SLOTS],
     pub ghost probed: { IsProbed slots },

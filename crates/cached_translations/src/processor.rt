@@ -42,7 +42,7 @@ impl Mode {
 
 /// A logical processor: its mode, the accumulator that enclave code works on, and its translations. The translations
 /// of the pages that its mode names stand there and not in the cache.
-#[derive(Debug, Drop)]
+#[derive(Drop)]
 pub struct Processor {
     pub mode: Mode,
     pub acc: u64,

@@ -8,7 +8,7 @@ use sgx_types::names::{Actor, Memory};
 use std::alloc::Global;
 
 /// How many entries of a trace each actor made.
-#[derive(Debug, Drop)]
+#[derive(Drop)]
 pub struct Tally {
     pub builder: u64,
     /// One number for each processor of the job.

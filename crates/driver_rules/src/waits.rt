@@ -3,7 +3,7 @@
 use sgx_types::names::Page;
 
 /// Why an actor has to wait. A turn that waits makes no entry and changes nothing.
-#[derive(Clone, Copy, Debug, PartialEq, Eq)]
+#[derive(Clone, Copy)]
 pub enum Why {
     /// The builder has not made all its entries yet.
     Building,

@@ -17,7 +17,7 @@ use sgx_types::names::{Frame, PROCESSORS};
 use track_epoch::track::Track;
 
 /// The two ways into an enclave: with a new state, or with the one that was saved last.
-#[derive(Clone, Copy, Debug, PartialEq, Eq)]
+#[derive(Clone, Copy)]
 pub enum WayIn {
     Enter,
     Resume,

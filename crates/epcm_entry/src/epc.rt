@@ -15,7 +15,7 @@ use std::alloc::Global;
 use std::marker::Model;
 
 /// The EPC with its EPCM: frames of 4096 bytes, each with an entry.
-#[derive(Debug, Drop)]
+#[derive(Drop)]
 pub struct Epc {
     entries: Vec<EntryView>,
     // The words of each frame, low byte first.

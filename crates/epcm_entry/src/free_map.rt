@@ -8,7 +8,7 @@ use std::alloc::{AllocError, Global};
 use std::marker::Model;
 
 /// A set of frames, one bit for each, which looks at one machine word for 64 frames to find the least.
-#[derive(Debug, Drop)]
+#[derive(Drop)]
 pub struct FreeMap {
     marks: Vec<u64>,
     len: u32,

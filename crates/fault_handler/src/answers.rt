@@ -21,7 +21,7 @@ pub enum FaultAnswer {
 }
 
 /// What comes of the end of a load.
-#[derive(Clone, Copy, Debug, PartialEq, Eq)]
+#[derive(Clone, Copy)]
 pub enum Loaded {
     /// The page is back by this entry.
     Here(Entry),

@@ -19,7 +19,7 @@ use std::marker::Model;
 const PLACES: usize = 9;
 
 /// What is known of a created enclave: its base and size in bytes, and whether it is initialised.
-#[derive(Clone, Copy, Debug, PartialEq, Eq)]
+#[derive(Clone, Copy)]
 pub(crate) struct Enclave {
     pub base: u64,
     pub size: u64,
@@ -27,21 +27,21 @@ pub(crate) struct Enclave {
 }
 
 /// How a processor stands: outside, or inside an enclave by a TCS page.
-#[derive(Clone, Copy, Debug, PartialEq, Eq)]
+#[derive(Clone, Copy)]
 pub(crate) enum Mode {
     Outside,
     Inside { enclave: u16, tcs: u32 },
 }
 
 /// A processor: how it stands, and its accumulator.
-#[derive(Clone, Copy, Debug, PartialEq, Eq)]
+#[derive(Clone, Copy)]
 pub(crate) struct Processor {
     pub mode: Mode,
     pub acc: u64,
 }
 
 /// Plain enclave memory that is never evicted, with 16 processors and enclaves from 1 to 8.
-#[derive(Debug, Drop)]
+#[derive(Drop)]
 pub struct Flat {
     // By the enclave's number.
     pub(crate) enclaves: Vec<Option<Enclave>>,

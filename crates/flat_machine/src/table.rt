@@ -12,14 +12,14 @@ use std::alloc::Global;
 use std::marker::Model;
 
 /// With which type and permissions a page was added.
-#[derive(Clone, Copy, Debug, PartialEq, Eq)]
+#[derive(Clone, Copy)]
 pub(crate) struct Added {
     pub kind: Kind,
     pub perm: Perm,
 }
 
 /// A page that was added, and whether a processor is inside by it.
-#[derive(Debug, Drop)]
+#[derive(Drop)]
 pub(crate) struct PlainPage {
     pub kind: Kind,
     pub perm: Perm,
@@ -28,7 +28,7 @@ pub(crate) struct PlainPage {
 }
 
 /// The pages of an enclave by their numbers.
-#[derive(Debug, Drop)]
+#[derive(Drop)]
 pub(crate) struct Table {
     pages: Vec<Option<PlainPage>>,
 }

@@ -13,7 +13,7 @@ use std::marker::Model;
 pub(crate) const WORDS: usize = 512;
 
 /// The words of a page.
-#[derive(Debug, Drop)]
+#[derive(Drop)]
 pub(crate) struct Words {
     items: Box<[u64; WORDS]>,
 }

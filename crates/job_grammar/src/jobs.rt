@@ -100,7 +100,7 @@ impl PageLine {
 }
 
 /// An enclave: its base and size in bytes, its pages, and the measurement that is expected of it.
-#[derive(Debug, Drop)]
+#[derive(Drop)]
 pub struct EnclaveJob {
     pub base: u64,
     pub size: u64,
@@ -126,7 +126,7 @@ pub enum Op {
 
 /// The parts of a job: the number of EPC frames, the reclaimer's marks, the sealing key, the first epoch of each enclave
 /// and the first version, the enclaves from number 1 on, what the store does, and a script for each processor from 0 on.
-#[derive(Debug, Drop)]
+#[derive(Drop)]
 pub struct JobParts {
     pub epc: u32,
     pub marks: Marks,
@@ -139,7 +139,7 @@ pub struct JobParts {
 }
 
 /// What to run. A job is always valid.
-#[derive(Debug, Drop)]
+#[derive(Drop)]
 pub struct Job {
     parts: JobParts,
 }

@@ -1,7 +1,7 @@
 //! The words that a line may begin with.
 
 /// The first word of a line.
-#[derive(Clone, Copy, Debug, PartialEq, Eq)]
+#[derive(Clone, Copy)]
 pub enum Keyword {
     Epc,
     Marks,
@@ -26,7 +26,7 @@ pub enum Keyword {
 }
 
 /// The second word of a store line.
-#[derive(Clone, Copy, Debug, PartialEq, Eq)]
+#[derive(Clone, Copy)]
 pub enum PlanWord {
     Fail,
     Drop,
@@ -36,7 +36,7 @@ pub enum PlanWord {
 }
 
 /// The call that a `store fail` line names.
-#[derive(Clone, Copy, Debug, PartialEq, Eq)]
+#[derive(Clone, Copy)]
 pub enum CallWord {
     Room,
     Put,

@@ -3,21 +3,21 @@
 use sgx_types::names::Perm;
 
 /// The first epoch of each enclave, and the first version.
-#[derive(Clone, Copy, Debug, PartialEq, Eq)]
+#[derive(Clone, Copy)]
 pub struct Start {
     pub epoch: u64,
     pub version: u64,
 }
 
 /// A page that a line names, whether it is added or not.
-#[derive(Clone, Copy, Debug, PartialEq, Eq)]
+#[derive(Clone, Copy)]
 pub struct NamedPage {
     pub enclave: u16,
     pub number: u64,
 }
 
 /// What a store line says.
-#[derive(Clone, Copy, Debug, PartialEq, Eq)]
+#[derive(Clone, Copy)]
 pub enum Plan {
     FailRoom { k: u64 },
     FailPut { k: u64 },
@@ -29,7 +29,7 @@ pub enum Plan {
 }
 
 /// What the line of an operation says.
-#[derive(Clone, Copy, Debug, PartialEq, Eq)]
+#[derive(Clone, Copy)]
 pub enum Operation {
     Enter { tcs: NamedPage },
     Resume { tcs: NamedPage },
@@ -45,7 +45,7 @@ pub enum Operation {
 }
 
 /// What a line says, before any of its numbers is looked at.
-#[derive(Clone, Copy, Debug, PartialEq, Eq)]
+#[derive(Clone, Copy)]
 pub enum Statement {
     Epc {
         frames: u64,

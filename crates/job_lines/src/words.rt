@@ -10,6 +10,7 @@ use crate::keywords::{CallWord, Keyword, PlanWord};
 use crate::kinds::JobKind;
 use sgx_types::names::Perm;
 use std::alloc::AllocError;
+use text_words::names::by_name;
 use text_words::readers;
 
 /// A line without the carriage return at its end.
@@ -54,59 +55,62 @@ pub fn is_skipped(words: &[&[u8]]) -> bool
     }
 }
 
+const KEYWORDS: &[(&[u8], Keyword)] = &[
+    (b"epc", Keyword::Epc),
+    (b"marks", Keyword::Marks),
+    (b"key", Keyword::Key),
+    (b"start", Keyword::Start),
+    (b"enclave", Keyword::Enclave),
+    (b"tcs", Keyword::Tcs),
+    (b"reg", Keyword::Reg),
+    (b"expect", Keyword::Expect),
+    (b"store", Keyword::Store),
+    (b"cpu", Keyword::Cpu),
+    (b"eenter", Keyword::Enter),
+    (b"eresume", Keyword::Resume),
+    (b"eexit", Keyword::Exit),
+    (b"timer", Keyword::Timer),
+    (b"load", Keyword::Load),
+    (b"xadd", Keyword::Xadd),
+    (b"set", Keyword::Set),
+    (b"plus", Keyword::Plus),
+    (b"outload", Keyword::OutLoad),
+    (b"outstore", Keyword::OutStore),
+];
+
 #[tactic(auto, unfolding(crate::specs::Words::keyword_of))]
 pub fn keyword_of(word: &[u8]) -> Option<Keyword>
     ensures { result ≡ keyword_of word.now }
 {
-    match word {
-        b"epc" => Some(Keyword::Epc),
-        b"marks" => Some(Keyword::Marks),
-        b"key" => Some(Keyword::Key),
-        b"start" => Some(Keyword::Start),
-        b"enclave" => Some(Keyword::Enclave),
-        b"tcs" => Some(Keyword::Tcs),
-        b"reg" => Some(Keyword::Reg),
-        b"expect" => Some(Keyword::Expect),
-        b"store" => Some(Keyword::Store),
-        b"cpu" => Some(Keyword::Cpu),
-        b"eenter" => Some(Keyword::Enter),
-        b"eresume" => Some(Keyword::Resume),
-        b"eexit" => Some(Keyword::Exit),
-        b"timer" => Some(Keyword::Timer),
-        b"load" => Some(Keyword::Load),
-        b"xadd" => Some(Keyword::Xadd),
-        b"set" => Some(Keyword::Set),
-        b"plus" => Some(Keyword::Plus),
-        b"outload" => Some(Keyword::OutLoad),
-        b"outstore" => Some(Keyword::OutStore),
-        _ => None,
-    }
+    by_name(KEYWORDS, word)
 }
+
+const PLAN_WORDS: &[(&[u8], PlanWord)] = &[
+    (b"fail", PlanWord::Fail),
+    (b"drop", PlanWord::Drop),
+    (b"flip", PlanWord::Flip),
+    (b"replay", PlanWord::Replay),
+    (b"swap", PlanWord::Swap),
+];
 
 #[tactic(auto, unfolding(crate::specs::Words::plan_word_of))]
 pub fn plan_word_of(word: &[u8]) -> Option<PlanWord>
     ensures { result ≡ plan_word_of word.now }
 {
-    match word {
-        b"fail" => Some(PlanWord::Fail),
-        b"drop" => Some(PlanWord::Drop),
-        b"flip" => Some(PlanWord::Flip),
-        b"replay" => Some(PlanWord::Replay),
-        b"swap" => Some(PlanWord::Swap),
-        _ => None,
-    }
+    by_name(PLAN_WORDS, word)
 }
+
+const CALL_WORDS: &[(&[u8], CallWord)] = &[
+    (b"room", CallWord::Room),
+    (b"put", CallWord::Put),
+    (b"get", CallWord::Get),
+];
 
 #[tactic(auto, unfolding(crate::specs::Words::call_word_of))]
 pub fn call_word_of(word: &[u8]) -> Option<CallWord>
     ensures { result ≡ call_word_of word.now }
 {
-    match word {
-        b"room" => Some(CallWord::Room),
-        b"put" => Some(CallWord::Put),
-        b"get" => Some(CallWord::Get),
-        _ => None,
-    }
+    by_name(CALL_WORDS, word)
 }
 
 /// The number that a word is.
@@ -128,18 +132,20 @@ pub fn letter(word: &[u8]) -> Result<u16, JobKind>
     }
 }
 
+// Whether W and X stand in permissions, beside R.
+const PERMS: &[(&[u8], (bool, bool))] = &[
+    (b"r", (false, false)),
+    (b"rw", (true, false)),
+    (b"rx", (false, true)),
+    (b"rwx", (true, true)),
+];
+
 #[tactic(auto, unfolding(crate::specs::Words::perm_of))]
 pub fn perm(word: &[u8]) -> Result<Perm, JobKind>
     ensures reads { result ≡ as_perm word.now }
     ensures readable { IfOk result (λ perm. perm.r ≡ true) }
 {
-    let (w, x) = match word {
-        b"r" => (false, false),
-        b"rw" => (true, false),
-        b"rx" => (false, true),
-        b"rwx" => (true, true),
-        _ => return Err(JobKind::Word),
-    };
+    let (w, x) = by_name(PERMS, word).ok_or(JobKind::Word)?;
     Ok(Perm { r: true, w, x })
 }
 

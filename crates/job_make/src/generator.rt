@@ -10,7 +10,7 @@ const MULTIPLIER: u64 = 6364136223846793005;
 const INCREMENT: u64 = 1442695040888963407;
 
 /// A linear congruential generator mod 2^64, of which a draw gives the upper 31 bits.
-#[derive(Debug, Drop)]
+#[derive(Drop)]
 pub(crate) struct Generator {
     pub(crate) state: u64,
 }

@@ -14,7 +14,7 @@ use std::marker::Model;
 const PLACES: usize = 9 * 4096;
 
 /// The scripts as their lines are read, with a table of the TCS pages that they name.
-#[derive(Debug, Drop)]
+#[derive(Drop)]
 pub(crate) struct Scripts {
     scripts: Vec<Vec<Op>>,
 

@@ -1,7 +1,7 @@
 //! The `tcs` lines of a job, as the checks of the whole need them.
 
 /// A `tcs` line: its number among the lines, its enclave, and its state save pages.
-#[derive(Clone, Copy, Debug, PartialEq, Eq)]
+#[derive(Clone, Copy)]
 pub struct TcsLine {
     pub line: u32,
     pub enclave: usize,

@@ -15,7 +15,7 @@ use text_words::words::Word::{Decimal, Name};
 use text_words::words::push_line;
 
 /// How far a trace's reloads were from the fewest.
-#[derive(Clone, Copy, Debug, PartialEq, Eq)]
+#[derive(Clone, Copy)]
 pub struct Numbers {
     /// How many accesses of enclave code were done.
     pub accesses: u64,

@@ -5,7 +5,7 @@ use std::marker::Model;
 
 /// What happens before an access: the pages of `out` leave their frames, and then the pages of `load` are loaded. Any two
 /// lists of pages can be a step; `check` tells whether a plan's can be done.
-#[derive(Debug, Drop)]
+#[derive(Drop)]
 pub struct Step {
     pub out: Vec<Page>,
     pub load: Vec<Page>,
@@ -20,7 +20,7 @@ impl Model for Step {
 }
 
 /// Steps, one for each access, and how many loads they make in all.
-#[derive(Debug, Drop)]
+#[derive(Drop)]
 pub struct LoadPlan {
     pub steps: Vec<Step>,
     pub loads: u64,

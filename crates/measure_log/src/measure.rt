@@ -9,7 +9,7 @@ use sha2::{Digest, Sha256};
 
 /// The measurement of an enclave while it is built: SHA-256 (FIPS 180-4) of the blocks that its build appended. The
 /// layout of the blocks is this project's own, after Intel SDM volume 3D, ECREATE, EADD and EEXTEND.
-#[derive(Debug, Drop)]
+#[derive(Drop)]
 pub struct Measure {
     hasher: Sha256,
 }

@@ -5,14 +5,14 @@ use sgx_rules::entries::Entry;
 use sgx_types::names::{Frame, Page, SlotAt};
 
 /// A page that was taken off the list, and the frame that it leaves.
-#[derive(Clone, Copy, Debug, PartialEq, Eq)]
+#[derive(Clone, Copy)]
 pub struct Taken {
     pub page: Page,
     pub frame: Frame,
 }
 
 /// How far a pass is with one page.
-#[derive(Clone, Copy, Debug, PartialEq, Eq)]
+#[derive(Clone, Copy)]
 pub enum Form {
     First,
     Track,
@@ -24,7 +24,7 @@ pub enum Form {
 /// How far a pass is: between two passes; looking, with so many looks left; blocking the pages from one on; writing out one,
 /// which was blocked at an epoch that the first refusal told; or waiting until the bytes of one are sealed, which goes out into
 /// a slot.
-#[derive(Clone, Copy, Debug, PartialEq, Eq)]
+#[derive(Clone, Copy)]
 pub enum Phase {
     Idle { works: bool },
     Scan { left: u32 },
@@ -34,7 +34,7 @@ pub enum Phase {
 }
 
 /// What a turn of a pass did.
-#[derive(Clone, Copy, Debug, PartialEq, Eq)]
+#[derive(Clone, Copy)]
 pub enum PassTurn {
     One(Entry),
     /// A kick of each of these processors, one bit each.

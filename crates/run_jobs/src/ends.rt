@@ -8,7 +8,7 @@ use sgx_rules::entries::{Entry, Event};
 use sgx_rules::refusals::Refusal;
 
 /// How a run ended (this project's own).
-#[derive(Clone, Copy, Debug, PartialEq, Eq)]
+#[derive(Clone, Copy)]
 pub enum End {
     /// Each operation of each script has its reply.
     Done,

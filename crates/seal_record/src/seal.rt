@@ -11,7 +11,7 @@ use sgx_types::record::{Header, Record};
 use std::alloc::Global;
 
 /// A page to be sealed: its 4096 bytes, and room for as many cipher bytes.
-#[derive(Debug, Drop)]
+#[derive(Drop)]
 pub struct SealWork {
     pub key: [u8; 32],
     pub version: u64,
@@ -23,7 +23,7 @@ pub struct SealWork {
 }
 
 /// A sealed page: its 4096 bytes, and their record under this key and version.
-#[derive(Debug, Drop)]
+#[derive(Drop)]
 pub struct SealedWork {
     pub key: [u8; 32],
     pub version: u64,

@@ -11,7 +11,7 @@ use sgx_types::record::Record;
 use std::alloc::Global;
 
 /// A record to be opened, and room for the page's 4096 bytes.
-#[derive(Debug, Drop)]
+#[derive(Drop)]
 pub struct UnsealWork {
     pub key: [u8; 32],
     pub version: u64,
@@ -22,7 +22,7 @@ pub struct UnsealWork {
 
 /// An opened record: the 4096 bytes that its cipher gives under this key and version, and the tag of its header and cipher
 /// under them. The record fits exactly where `computed` is the tag that it carries.
-#[derive(Debug, Drop)]
+#[derive(Drop)]
 pub struct UnsealedWork {
     pub key: [u8; 32],
     pub version: u64,

@@ -12,7 +12,7 @@ use std::marker::Model;
 
 /// The state of one enclave, as its SECS keeps it (Intel SDM volume 3D, SECS): its range in bytes, which pages were
 /// added with which kind and permissions, which TCS pages are busy, and how many pages are resident.
-#[derive(Debug, Drop)]
+#[derive(Drop)]
 pub struct Secs {
     enclave: u16,
     base: u64,

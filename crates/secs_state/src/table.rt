@@ -10,7 +10,7 @@ use crate::secs::Secs;
 use std::marker::Model;
 
 /// The enclaves that were created, of A to H, which have the numbers 1 to 8.
-#[derive(Debug, Default, Drop)]
+#[derive(Default, Drop)]
 pub struct SecsTable {
     // Fields and no array: what a borrower of an array's element writes back could not be stated.
     a: Option<Secs>,

@@ -15,7 +15,7 @@ use std::marker::Model;
 /// is this project's own. A processor notes the enclave's epoch when it enters. Each track begins a new epoch, and
 /// is refused while a processor inside has an older one: so each noted epoch is the present one or the one before,
 /// and two counts are all that has to be kept. Contracts see the epoch and the noted epochs as a rising list.
-#[derive(Debug, Drop)]
+#[derive(Drop)]
 pub struct Track {
     epoch: u64,
     older: u32,

@@ -13,7 +13,7 @@ use std::marker::Model;
 pub const ENCLAVES: usize = 8;
 
 /// The tracks of all enclaves. Contracts see them as a list, enclave 1 first.
-#[derive(Debug, Drop)]
+#[derive(Drop)]
 pub struct Tracks {
     each: [Track; ENCLAVES],
 }

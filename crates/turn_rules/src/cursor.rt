@@ -13,7 +13,7 @@ use sgx_types::names::{Kind, Perm};
 
 /// How far the builder is in its job: what is left are `vas` version arrays, then the rest of the enclave that was created
 /// last, and then the enclaves behind it.
-#[derive(Clone, Copy, Debug)]
+#[derive(Clone, Copy)]
 pub struct BuildCursor {
     vas: u32,
     // The number of the enclave that was created last, 0 where none was.
@@ -27,7 +27,7 @@ pub struct BuildCursor {
 
 // What is left of a line: of the page that was added last the chunks from `chunk` on, and then `count` pages from `number`
 // on.
-#[derive(Clone, Copy, Debug)]
+#[derive(Clone, Copy)]
 struct PageRun {
     added: u32,
     chunk: u8,

@@ -4,7 +4,7 @@ use sgx_types::lawful::PageInit;
 use sgx_types::names::{Kind, Perm};
 
 /// A step of the builder, which is one instruction. Those that make a page (`Va`, `Create` and `Add`) take a free frame.
-#[derive(Clone, Copy, Debug)]
+#[derive(Clone, Copy)]
 pub enum BuildStep {
     /// A version array page.
     Va,

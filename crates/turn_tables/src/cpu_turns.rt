@@ -10,7 +10,7 @@ use std::marker::Model;
 
 /// An exit that no operation of the script asked for, after which the processor has still to resume: by which TCS page it was
 /// inside, and whether it left for the page of its access.
-#[derive(Clone, Copy, Debug, PartialEq, Eq)]
+#[derive(Clone, Copy)]
 pub struct Interruption {
     pub enclave: u16,
     pub tcs: u32,
@@ -18,7 +18,7 @@ pub struct Interruption {
 }
 
 /// How its last entry left a processor.
-#[derive(Clone, Copy, Debug, PartialEq, Eq)]
+#[derive(Clone, Copy)]
 pub enum Last {
     /// It loads a page into a frame.
     Loads { frame: Frame, page: Page },
@@ -35,7 +35,7 @@ pub enum Last {
 
 /// What stands of a processor: to how many operations of its script it has replies, whether a kick is pending, the interruption
 /// after which it has still to resume, and how its last entry left it.
-#[derive(Clone, Copy, Debug, PartialEq, Eq)]
+#[derive(Clone, Copy)]
 pub struct CpuTurn {
     pub replied: u64,
     pub is_kicked: bool,
@@ -52,7 +52,7 @@ const FIRST: CpuTurn = CpuTurn {
 };
 
 /// What stands of each processor, by its number.
-#[derive(Debug, Drop)]
+#[derive(Drop)]
 pub struct CpuTurns {
     turns: Vec<CpuTurn>,
 }

@@ -6,7 +6,7 @@ use sgx_rules::entries::{Action, BusWhy};
 use sgx_types::names::{Frame, Page};
 
 /// What is due to the builder.
-#[derive(Clone, Copy, Debug, PartialEq, Eq)]
+#[derive(Clone, Copy)]
 pub enum BuilderDue {
     /// Nothing, since the run was stopped.
     Stopped,
@@ -23,7 +23,7 @@ pub enum BuilderDue {
 
 /// What is due to a processor. Where a page is needed that is not here, the fault step says what comes of it. It is handed on by each
 /// turn, so its parts stand where no other part lies across two of them.
-#[derive(Clone, Copy, Debug, PartialEq, Eq)]
+#[derive(Clone, Copy)]
 pub enum CpuDue {
     /// Nothing, since the run was stopped.
     Stopped,

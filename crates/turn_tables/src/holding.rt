@@ -29,7 +29,7 @@ use turn_rules::replies::is_reply;
 use turn_rules::steps::BuildStep;
 
 /// The pages that a processor begins to hold by an entry, at most three.
-#[derive(Clone, Copy, Debug)]
+#[derive(Clone, Copy)]
 pub(crate) struct HeldPages {
     pub first: Option<Page>,
     pub second: Option<Page>,
@@ -37,7 +37,7 @@ pub(crate) struct HeldPages {
 }
 
 /// The TCS page and the state save page that a processor outside needs.
-#[derive(Clone, Copy, Debug)]
+#[derive(Clone, Copy)]
 pub(crate) struct Needed {
     pub tcs: Page,
     pub save: Option<Page>,

@@ -8,7 +8,7 @@ use sgx_types::names::Frame;
 
 /// An instruction of a processor, with its operands as `Action` has them: one of those that are no other actor's. It takes 24 bytes,
 /// where an `Action` has room for a measurement.
-#[derive(Clone, Copy, Debug, PartialEq, Eq)]
+#[derive(Clone, Copy)]
 pub enum CpuStep {
     Enter {
         enclave: u16,

@@ -15,7 +15,7 @@ use std::alloc::Global;
 use std::marker::Model;
 
 /// The state save pages of a TCS page: `nssa` pages from page `ossa` on, of which so many are in use.
-#[derive(Clone, Copy, Debug, PartialEq, Eq)]
+#[derive(Clone, Copy)]
 pub struct TcsTurn {
     pub ossa: u32,
     pub nssa: u32,
@@ -23,7 +23,7 @@ pub struct TcsTurn {
 }
 
 /// Those of each TCS page of a job. There is a place for each page that the job's lines name, and for those below it.
-#[derive(Debug, Drop)]
+#[derive(Drop)]
 pub struct TcsTurns {
     // By enclave, and then by page number; there is no enclave 0.
     pages: Vec<Vec<Option<TcsTurn>>>,

@@ -15,7 +15,7 @@ use std::marker::Model;
 
 /// Which slots of version array pages are in use: it hands them out, each to one user at a time. A slot that was
 /// taken is out until it is given back.
-#[derive(Debug, Drop)]
+#[derive(Drop)]
 pub struct SlotKeeper {
     frames: Vec<Frame>,
     // A page has 512 keys, in the order of the slots. A key is taken where its slot is out, and where its page was
