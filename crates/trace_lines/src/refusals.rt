@@ -14,15 +14,18 @@ fn with_one(name: &[u8], field: &[u8]) -> Option<Refusal>
     ensures read { result ≡ one_of name.now field.now }
     ensures fits { IfSome result FitsRefusal }
 {
-    match name {
-        b"PrevTrk" => Some(Refusal::PrevTrk {
+    if name == b"PrevTrk".as_slice() {
+        Some(Refusal::PrevTrk {
             older: small(field)?,
-        }),
-        b"SlotOccupied" => Some(Refusal::SlotOccupied {
+        })
+    } else if name == b"SlotOccupied".as_slice() {
+        Some(Refusal::SlotOccupied {
             version: number(field)?,
-        }),
-        b"BadMeasure" => Some(Refusal::BadMeasure { made: tag(field)? }),
-        _ => None,
+        })
+    } else if name == b"BadMeasure".as_slice() {
+        Some(Refusal::BadMeasure { made: tag(field)? })
+    } else {
+        None
     }
 }
 
@@ -31,16 +34,18 @@ fn with_two(name: &[u8], first: &[u8], second: &[u8]) -> Option<Refusal>
     ensures read { result ≡ two_of name.now first.now second.now }
     ensures fits { IfSome result FitsRefusal }
 {
-    match name {
-        b"NotTracked" => Some(Refusal::NotTracked {
+    if name == b"NotTracked".as_slice() {
+        Some(Refusal::NotTracked {
             epoch: number(first)?,
             older: small(second)?,
-        }),
-        b"MacFail" => Some(Refusal::MacFail {
+        })
+    } else if name == b"MacFail".as_slice() {
+        Some(Refusal::MacFail {
             given: tag(first)?,
             computed: tag(second)?,
-        }),
-        _ => None,
+        })
+    } else {
+        None
     }
 }
 
@@ -49,13 +54,14 @@ fn with_three(name: &[u8], enclave: &[u8], address: &[u8], flags: &[u8]) -> Opti
     ensures read { result ≡ three_of name.now enclave.now address.now flags.now }
     ensures fits { IfSome result FitsRefusal }
 {
-    match name {
-        b"BadHeader" => Some(Refusal::BadHeader {
+    if name == b"BadHeader".as_slice() {
+        Some(Refusal::BadHeader {
             enclave: number(enclave)?,
             address: number(address)?,
             flags: number(flags)?,
-        }),
-        _ => None,
+        })
+    } else {
+        None
     }
 }
 
