@@ -11,7 +11,7 @@ use Rattle.sgx_types.specs.declared.lawful.PageInit.{PageInit}
 use Rattle.sgx_types.specs.declared.lawful.PageInit.TheVariants as inits
 use Rattle.sgx_types.specs.Pages.{same_page, page_at}
 use Rattle.sgx_rules.specs.Table as table
-use Rattle.sgx_types.specs.Lawful as lawful
+use Rattle.sgx_types.specs.Lawful as limits
 use Rattle.sgx_rules.specs.Table.{first_of_row, create_row, add_row}
 use Rattle.sgx_rules.specs.Flat.{FlatMemory, FlatPage, FlatEnclave, open_frame, enclave_sight_of, marked, initialised}
 use Rattle.sgx_rules.specs.Flat.{with_enclave}
@@ -70,7 +70,7 @@ pub creates : (enclaves : List (Option Enclave)) (e base size : ℕ)
     → first_of_row (create_row e base size (is_some (enclave_of (get_or enclaves e None))) open_frame) ≡ None → Creates enclaves e
 creates enclaves e base size allowed =
     let none = none_holds (create_row e base size (is_some (enclave_of (get_or enclaves e None))) open_frame) allowed in
-    let range = neither (not (lawful.is_enclave e)) (not (lawful.is_lawful base size)) none.0 in
+    let range = neither (not (limits.is_enclave e)) (not (limits.is_lawful base size)) none.0 in
     record { numbered = leb-true _ _ (both_true _ _ (not_false _ range.0)).1; new = no_enclave (get_or enclaves e None) none.1.0 }
 
 pub memory_created : (d : FlatParts) (e base size k : ℕ) → Creates d.enclaves e → length d.enclaves ≡ 9 → length d.tables ≡ 9
@@ -106,7 +106,7 @@ memory_created d e base size k creates places tables pages =
 
 -- ---- add
 
-is_within_below : (size number : ℕ) (init : PageInit) → lawful.is_within size number init ≡ true → number < size / 4096
+is_within_below : (size number : ℕ) (init : PageInit) → limits.is_within size number init ≡ true → number < size / 4096
 is_within_below size number (inits.Words v) h = ltb-true _ _ h
 is_within_below size number (inits.Tcs ossa nssa) h = ltb-true _ _ (both_true _ _ (both_true _ _ h).0).0
 

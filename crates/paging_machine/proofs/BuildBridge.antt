@@ -14,7 +14,7 @@ use Rattle.sgx_types.specs.declared.names.SlotAt.{SlotAt}
 use Rattle.sgx_types.specs.Pages.{page_at}
 use Rattle.sgx_rules.specs.Frames.{Free, Holds, IsVa}
 use Rattle.sgx_rules.specs.Table as table
-use Rattle.sgx_types.specs.Lawful as lawful
+use Rattle.sgx_types.specs.Lawful as limits
 use Rattle.sgx_rules.specs.Table.{epa_row, create_row, add_row, first_of_row}
 use Rattle.sgx_rules.specs.Flat.{first_words, marked}
 use Rattle.sgx_rules.proofs.Contents.{free_there}
@@ -155,14 +155,14 @@ pub record Creates (epc : List EpcFrame) (f e base size : ℕ) : Type 0 where
   pub takes : Takes epc f
   pub first : 1 ≤ e
   pub last : e ≤ 8
-  pub lawful : lawful.is_lawful base size ≡ true
+  pub lawful : limits.is_lawful base size ≡ true
 
 pub creates : (epc : List EpcFrame) (f e base size : ℕ) (b : Bool) → first_of_row (create_row e base size b (sight_in epc f)) ≡ None
     → Creates epc f e base size
 creates epc f e base size b allowed =
     let none = none_holds (create_row e base size b (sight_in epc f)) allowed in
-    let outer = neither (leb (length epc) f || not (lawful.is_enclave e)) (not (lawful.is_lawful base size)) none.0 in
-    let inner = neither (leb (length epc) f) (not (lawful.is_enclave e)) outer.0 in
+    let outer = neither (leb (length epc) f || not (limits.is_enclave e)) (not (limits.is_lawful base size)) none.0 in
+    let inner = neither (leb (length epc) f) (not (limits.is_enclave e)) outer.0 in
     let number = both_true (leb 1 e) (leb e 8) (not_false _ inner.1) in
     record {
       takes = takes epc f inner.0 none.1.1.0 none.1.1.1.0;
@@ -171,7 +171,7 @@ creates epc f e base size b allowed =
       lawful = not_false _ outer.1;
     }
 
-pub created_own : (e base size : ℕ) → lawful.is_lawful base size ≡ true → IsSecsOf e (created e base size)
+pub created_own : (e base size : ℕ) → limits.is_lawful base size ≡ true → IsSecsOf e (created e base size)
 created_own e base size h = record {
   number = refl;
   sound = record { lawful = h; pages = length-replicate (page_count size) None; busy = length-replicate (page_count size) false };
@@ -216,10 +216,10 @@ no_enclave (Some x) h = cc
 -- what the row of `add` shows of a created enclave
 pub record Adds (epc : List EpcFrame) (f number : ℕ) (kind : Kind) (init : PageInit) (x : SecsState) : Type 0 where
   pub takes : Takes epc f
-  pub addable : lawful.is_addable kind init ≡ true
+  pub addable : limits.is_addable kind init ≡ true
   pub within : number < page_count x.size
 
-is_within_below : (size number : ℕ) (init : PageInit) → lawful.is_within size number init ≡ true → number < size / 4096
+is_within_below : (size number : ℕ) (init : PageInit) → limits.is_within size number init ≡ true → number < size / 4096
 is_within_below size number (inits.Words v) h = ltb-true _ _ h
 is_within_below size number (inits.Tcs ossa nssa) h = ltb-true _ _ (both_true _ _ (both_true _ _ h).0).0
 
@@ -234,7 +234,7 @@ adds epc f number kind perm init b x allowed =
     }
 
 -- a page that can be added is held as that page
-holds_added : (g : Page) (kind : Kind) (perm : Perm) (init : PageInit) → lawful.is_addable kind init ≡ true
+holds_added : (g : Page) (kind : Kind) (perm : Perm) (init : PageInit) → limits.is_addable kind init ≡ true
     → content_of g kind perm ≡ Holds g kind perm
 holds_added g kinds.Tcs perm init h = refl
 holds_added g kinds.Reg perm init h = refl
@@ -242,7 +242,7 @@ holds_added g kinds.Secs perm init h = cc
 holds_added g kinds.Va perm init h = cc
 
 -- a page that can be added is a TCS or a REG page
-pub paged : (kind : Kind) (init : PageInit) → lawful.is_addable kind init ≡ true → IsPaged kind
+pub paged : (kind : Kind) (init : PageInit) → limits.is_addable kind init ≡ true → IsPaged kind
 paged kinds.Tcs init h = tt
 paged kinds.Reg init h = tt
 paged kinds.Secs init h = cc
