@@ -6,7 +6,7 @@ ghost use Rattle.active_list.specs.inner.Places.{IsPlaced};
 ghost use Rattle.active_list.specs.inner.States.{state_of as page_state};
 ghost use Rattle.driver_rules.specs.Turns.{Loads, last_of};
 ghost use Rattle.driver_tables.specs.declared.driver.Driver.{Driver};
-ghost use Rattle.fault_handler.specs.inner.Due.{IsRight};
+ghost use Rattle.fault_handler.specs.inner.Due.{IsRight, IsRightEnd};
 ghost use Rattle.fault_handler.specs.inner.Finishing.{CanFinish, IsBack, IsFinished};
 ghost use Rattle.fault_handler.specs.inner.Resolving.{IsResolved};
 ghost use Rattle.fault_handler.specs.declared.answers.FaultAnswer.{FaultAnswer};
@@ -38,6 +38,14 @@ pub fn answers_are_right()
         (told told' : Option (List Call)) (answer : FaultAnswer) → Agrees made j past d m → IsPlaced d.states.counts page
         → cpu.0 < length d.kept → IsResolved cpu page (page_state d.states page) d m told answer d' m' told'
         → IsRight j past cpu page answer d' }
+{}
+
+/// What ends the load that a processor has still to end is right, for whatever entries tables and machine stand for: its entry is the end
+/// that is due, and can move its page, and the tables show it too; behind a refusal the bus is due, and the tables show that as well.
+pub fn ends_are_right()
+    ensures { (made : Making) (j : JobView) (past : List Entry) (d d' : Driver) (m : Parts) (t : State) (cpu : Cpu) (page : Page) (n : ℕ)
+        (loaded : Loaded) (can : CanFinish cpu page d m) → Agrees made j past d m → last_of past cpu.0 ≡ Loads n page
+        → IsFinished cpu page can.slot can.frame can.kept d (state_of m) loaded d' t → IsRightEnd j past cpu page can.frame loaded d' }
 {}
 
 /// A load that ends by a record with the page's header, and with the tag of it under the version that its start found, is not refused,
