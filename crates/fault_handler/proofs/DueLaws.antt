@@ -1,5 +1,5 @@
 -- The answer of a fault step is what is due, and what its entry keeps.
-use Rattle.std.proofs.Common.{◌≡◌, ℕ, ◌<◌, Bool, true, false, List, ◌∷◌, Option, None, Some, Result, Ok, Err, IfOk}
+use Rattle.std.proofs.Common.{◌≡◌, ℕ, ◌<◌, Bool, true, false, List, ◌∷◌, Option, None, Some, Result, Ok, Err}
 use Rattle.std.proofs.Common.{MatchOption, length, refl, sym, ap, subst, ◌∙◌}
 use Rattle.sgx_rules.specs.declared.entries.Action.TheVariants.{EldStart}
 use Rattle.sgx_types.specs.declared.names.Actor.TheVariants as actors
@@ -167,31 +167,30 @@ module _ (made : Making) (j : JobView) (past : List Entry) (d d' : Driver) (m m'
   put_failed slot None = refl
   put_failed slot (Some f) = refl
 
-  pub is_right : (told told' : Option (List Call)) (answer : FaultAnswer) (s : PageState) → page_state d.states page ≡ s
+  by_state : (told told' : Option (List Call)) (answer : FaultAnswer) (s : PageState) → page_state d.states page ≡ s
       → IsResolved cpu page s d m told answer d' m' told' → IsRight j past cpu page answer d'
-  is_right told told' answer (states.Here f) is k =
+  by_state told told' answer (states.Here f) is k =
       said answers.Here answer k.does (record { due = ap is_here (place_is (states.Here f) is); kept = tt; shows = λ idle. r.shows })
-  is_right told told' answer (states.Lost slot) is k =
+  by_state told told' answer (states.Lost slot) is k =
       said (answers.Bus reasons.PutFailed) answer k.does
       (away_bus slot reasons.PutFailed (place_is (states.Lost slot) is) (put_failed slot (least_free j.epc (content past))))
-  is_right told told' answer (states.Away slot) is k =
+  by_state told told' answer (states.Away slot) is k =
       fetched slot told told' answer (place_is (states.Away slot) is) (least_free j.epc (content past)) refl
       (subst (λ o. IsFetch cpu page slot o d m told answer d' m' told') free_is k)
     where
       free_is : least_free (state_of m).frames (state_of m).content ≡ least_free j.epc (content past)
       free_is = ap (λ n. least_free n (state_of m).content) (frames_are made j past d m r)
           ∙ ap (λ c. least_free j.epc c.content) r.follows.shape.columns.frames
-  is_right told told' answer states.Absent is k = said (answers.Again (waits.Busy page)) answer k.does (busy states.Absent is refl refl)
-  is_right told told' answer (states.Leaving f) is k =
+  by_state told told' answer states.Absent is k = said (answers.Again (waits.Busy page)) answer k.does (busy states.Absent is refl refl)
+  by_state told told' answer (states.Leaving f) is k =
       said (answers.Again (waits.Busy page)) answer k.does (busy (states.Leaving f) is refl refl)
-  is_right told told' answer (states.Loading f slot) is k =
+  by_state told told' answer (states.Loading f slot) is k =
       said (answers.Again (waits.Busy page)) answer k.does (busy (states.Loading f slot) is refl refl)
 
-pub all_right : {E : Type 0} (d d' : Driver) (m m' : Parts) (cpu : Cpu) (page : Page) (told told' : Option (List Call))
-    (result : Result FaultAnswer E)
-    → IsPlaced d.states.counts page → cpu.0 < length d.kept
-    → IfOk result (λ answer. IsResolved cpu page (page_state d.states page) d m told answer d' m' told')
-    → IfOk result (λ answer. (made : Making) (j : JobView) (past : List Entry) → Agrees made j past d m → IsRight j past cpu page answer d')
-all_right d d' m m' cpu page told told' (Ok answer) here room does =
-    λ made j past r. is_right made j past d d' m m' r cpu page here room told told' answer (page_state d.states page) refl does
-all_right d d' m m' cpu page told told' (Err e) here room does = does
+-- what a fault step does is right, for whatever entries tables and machine stand for
+pub resolved_is_right : (made : Making) (j : JobView) (past : List Entry) (d d' : Driver) (m m' : Parts) (cpu : Cpu) (page : Page)
+    (told told' : Option (List Call)) (answer : FaultAnswer) → Agrees made j past d m → IsPlaced d.states.counts page
+    → cpu.0 < length d.kept → IsResolved cpu page (page_state d.states page) d m told answer d' m' told'
+    → IsRight j past cpu page answer d'
+resolved_is_right made j past d d' m m' cpu page told told' answer r here room does =
+    by_state made j past d d' m m' r cpu page here room told told' answer (page_state d.states page) refl does

@@ -255,11 +255,11 @@ module _ (made : Making) (j : JobView) (past : List Entry) (d d' : Driver) (m : 
   pub end_right : IsRightEnd j past cpu page f loaded d'
   end_right = ⊎_elim done refused by_entry
 
--- the end of the load that a processor has still to end
-pub finish_right : (made : Making) (j : JobView) (past : List Entry) (d d' : Driver) (m : Parts) (t : State) (r : Agrees made j past d m)
-    (cpu : Cpu) (page : Page) (can : CanFinish cpu page d m) (n : ℕ) → last_of past cpu.0 ≡ Loads n page → (loaded : Loaded)
+-- what ends the load that a processor has still to end is right, for whatever entries tables and machine stand for
+pub finished_is_right : (made : Making) (j : JobView) (past : List Entry) (d d' : Driver) (m : Parts) (t : State)
+    (r : Agrees made j past d m) (cpu : Cpu) (page : Page) (can : CanFinish cpu page d m) (n : ℕ) → last_of past cpu.0 ≡ Loads n page → (loaded : Loaded)
     → IsFinished cpu page can.slot can.frame can.kept d (state_of m) loaded d' t → IsRightEnd j past cpu page can.frame loaded d'
-finish_right made j past d d' m t r cpu page can n last loaded is =
+finished_is_right made j past d d' m t r cpu page can n last loaded is =
     end_right made j past d d' m t r cpu page can.frame can.slot loading (last ∙ ap (λ k. Loads k page) same) can.room loaded can.kept is
   where
     loading : place past page ≡ Loading can.frame.0 can.slot

@@ -1,12 +1,6 @@
 //! The second half of a fault step: the end of a load.
 
-ghost use Rattle.std.specs.Prelude.{ℕ, ◌≡◌, true, List, length};
-ghost use Rattle.sgx_types.specs.Making.{Making};
-ghost use Rattle.sgx_rules.specs.declared.entries.Entry.{Entry};
-ghost use Rattle.job_grammar.specs.Jobs.{JobView};
-ghost use Rattle.driver_rules.specs.Turns.{Loads, last_of};
-ghost use Rattle.fault_handler.specs.inner.Due.{IsRightEnd};
-ghost use Rattle.driver_steps.specs.inner.Agrees.{Agrees};
+ghost use Rattle.std.specs.Prelude.{◌≡◌, true, length};
 ghost use Rattle.fault_handler.specs.inner.Finishing.{CanFinish, Ends, IsFinished, IsToList, bus_why};
 ghost use Rattle.paging_machine.specs.inner.Parts.{state_of};
 
@@ -26,27 +20,9 @@ use sgx_types::record::Record;
 /// is opened anew in the work's buffers. Takes no memory.
 ///
 /// The page is here, listed as the last and not young, and its slot is given back. A refused load leaves it away in that slot:
-/// with `Mac` where the record was not sealed under the slot's version, and else with `Header` where it is another page's.
+/// with `Mac` where the record was not sealed under the slot's version, and else with `Header` where it is another page's. That this
+/// is right is a law, `ends_are_right`.
 pub fn finish(
-    driver: &mut Driver,
-    machine: &mut Machine,
-    cpu: Cpu,
-    page: Page,
-    work: UnsealedWork,
-) -> Loaded
-    requires { CanFinish cpu page driver.old machine.old }
-    ensures does { (can : CanFinish cpu page driver.old machine.old) → IsFinished cpu page can.slot can.frame can.kept driver.old
-        (state_of machine.old) result driver.new (state_of machine.new) }
-    ensures right { (can : CanFinish cpu page driver.old machine.old) (made : Making) (j : JobView) (past : List Entry) (n : ℕ)
-        → Agrees made j past driver.old machine.old → last_of past cpu.0 ≡ Loads n page
-        → IsRightEnd j past cpu page can.frame result driver.new }
-    ensures cpus { length machine.new.cpus ≡ length machine.old.cpus }
-{
-    finish_by(driver, machine, cpu, page, work)
-}
-
-// The end, by the kept record.
-fn finish_by(
     driver: &mut Driver,
     machine: &mut Machine,
     cpu: Cpu,

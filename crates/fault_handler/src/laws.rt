@@ -1,9 +1,15 @@
-//! When a fault step can be ended. A law is the contract of a function without arguments.
+//! What the answers of a fault step are by the rules, and when its load can be ended. A law is the contract of a function without
+//! arguments.
 
-ghost use Rattle.std.specs.Prelude.{ℕ, ◌≡◌, ◌<◌, false, List, Some, length};
+ghost use Rattle.std.specs.Prelude.{ℕ, ◌≡◌, ◌<◌, false, List, Option, Some, length};
+ghost use Rattle.active_list.specs.inner.Places.{IsPlaced};
+ghost use Rattle.active_list.specs.inner.States.{state_of as page_state};
 ghost use Rattle.driver_rules.specs.Turns.{Loads, last_of};
 ghost use Rattle.driver_tables.specs.declared.driver.Driver.{Driver};
+ghost use Rattle.fault_handler.specs.inner.Due.{IsRight, IsRightEnd};
 ghost use Rattle.fault_handler.specs.inner.Finishing.{CanFinish, IsBack, IsFinished};
+ghost use Rattle.fault_handler.specs.inner.Resolving.{IsResolved};
+ghost use Rattle.fault_handler.specs.declared.answers.FaultAnswer.{FaultAnswer};
 ghost use Rattle.fault_handler.specs.declared.answers.Loaded.{Loaded};
 ghost use Rattle.backing_store.specs.Calls.{Call};
 ghost use Rattle.run_history.specs.Given.{gift};
@@ -24,6 +30,23 @@ ghost use Rattle.sgx_rules.specs.declared.entries.Entry.{Entry};
 ghost use Rattle.sgx_types.specs.declared.names.Cpu.{Cpu};
 ghost use Rattle.sgx_types.specs.declared.names.Page.{Page};
 ghost use Rattle.sgx_rules.specs.inner.Enclaves.{EnclavesAreFlat};
+
+/// What a fault step answers is right, for whatever entries tables and machine stand for: it is what is due, its entry can move its page,
+/// and the tables show that entry too, where the processor has no load to end.
+pub fn answers_are_right()
+    ensures { (made : Making) (j : JobView) (past : List Entry) (d d' : Driver) (m m' : Parts) (cpu : Cpu) (page : Page)
+        (told told' : Option (List Call)) (answer : FaultAnswer) → Agrees made j past d m → IsPlaced d.states.counts page
+        → cpu.0 < length d.kept → IsResolved cpu page (page_state d.states page) d m told answer d' m' told'
+        → IsRight j past cpu page answer d' }
+{}
+
+/// What ends the load that a processor has still to end is right, for whatever entries tables and machine stand for: its entry is the end
+/// that is due, and can move its page, and the tables show it too; behind a refusal the bus is due, and the tables show that as well.
+pub fn ends_are_right()
+    ensures { (made : Making) (j : JobView) (past : List Entry) (d d' : Driver) (m : Parts) (t : State) (cpu : Cpu) (page : Page) (n : ℕ)
+        (loaded : Loaded) (can : CanFinish cpu page d m) → Agrees made j past d m → last_of past cpu.0 ≡ Loads n page
+        → IsFinished cpu page can.slot can.frame can.kept d (state_of m) loaded d' t → IsRightEnd j past cpu page can.frame loaded d' }
+{}
 
 /// A load that ends by a record with the page's header, and with the tag of it under the version that its start found, is not refused,
 /// whatever the record's cipher is. Nothing is supposed of other records.

@@ -1,13 +1,8 @@
 //! The first half of a fault step: a page's record is asked for, and its load starts.
 
-ghost use Rattle.std.specs.Prelude.{List, ◌≡◌, ◌<◌, ◌≤◌, Some, length, IfOk, OnErr};
+ghost use Rattle.std.specs.Prelude.{◌≡◌, ◌<◌, ◌≤◌, Some, length, IfOk, OnErr};
 ghost use Rattle.active_list.specs.inner.Places.{IsPlaced};
 ghost use Rattle.active_list.specs.inner.States.{state_of as page_state};
-ghost use Rattle.sgx_types.specs.Making.{Making};
-ghost use Rattle.sgx_rules.specs.declared.entries.Entry.{Entry};
-ghost use Rattle.job_grammar.specs.Jobs.{JobView};
-ghost use Rattle.fault_handler.specs.inner.Due.{IsRight};
-ghost use Rattle.driver_steps.specs.inner.Agrees.{Agrees};
 ghost use Rattle.std.specs.Result.{IsOkAnd};
 ghost use Rattle.io_edges.specs.inner.Faults.{HasCause};
 ghost use Rattle.fault_handler.specs.inner.Resolving.{TellsFault, IsFetch, IsResolved, IsStarted};
@@ -34,34 +29,8 @@ use std::alloc::Global;
 ///
 /// Here where the page is in a frame and not on its way out. Again `Busy` where it is on its way out, or is being loaded; again
 /// `NoFrame` where no frame is free. `Bus` with `PutFailed` where the page's last put failed, with `GetFailed` where its get
-/// fails, with `NoRecord` where the store has none.
+/// fails, with `NoRecord` where the store has none. That this is what is due is a law, `answers_are_right`.
 pub fn resolve<B: Backing>(
-    alloc: Global,
-    driver: &mut Driver,
-    machine: &mut Machine,
-    store: &mut B,
-    cpu: Cpu,
-    page: Page,
-) -> Result<FaultAnswer, Memory>
-    requires room { cpu.0 < length driver.old.kept }
-    requires placed { IsPlaced driver.old.states.counts page }
-    ensures does { IfOk result (λ answer. IsResolved cpu page (page_state driver.old.states page) driver.old machine.old (B.told store.old)
-        answer driver.new machine.new (B.told store.new)) }
-    ensures right { IfOk result (λ answer. (made : Making) (j : JobView) (past : List Entry) → Agrees made j past driver.old machine.old
-        → IsRight j past cpu page answer driver.new) }
-    ensures cpus { length machine.new.cpus ≡ length machine.old.cpus }
-    ensures spare { B.spare store.new ≡ B.spare store.old }
-    ensures plans { B.plans store.new ≡ B.plans store.old }
-    ensures cause { HasCause (B.faults store.old) (B.faults store.new) (IsOkAnd result TellsFault) }
-    ensures driver { OnErr result (driver.new ≡ driver.old) }
-    ensures machine { OnErr result (machine.new ≡ machine.old) }
-    ensures store { OnErr result (store.new ≡ store.old) }
-{
-    resolve_by(alloc, driver, machine, store, cpu, page)
-}
-
-// The step, by what became of the page.
-fn resolve_by<B: Backing>(
     alloc: Global,
     driver: &mut Driver,
     machine: &mut Machine,

@@ -1,7 +1,7 @@
 -- A turn of the pass is what the reclaimer does next.
 use Rattle.std.proofs.Common.{◌≡◌, inl, inr, ℕ, zero, suc, ◌+◌, ◌<◌, true, false, cond, refl, sym, ◌∙◌, ap, subst}
 use Rattle.std.proofs.Common.{List, [], ◌∷◌, drop}
-use Rattle.std.proofs.Common.{length, get_or, slice_get, count_by, Option, Some, Result, Ok, Err, IfOk, add-zero, arith}
+use Rattle.std.proofs.Common.{length, get_or, slice_get, count_by, Option, Some, add-zero, arith}
 use Rattle.paging_laws.proofs.ColumnLaws.{content_is}
 use Rattle.std.proofs.lemmas.List.Sums.{sum_by-cons}
 use Rattle.sgx_rules.specs.declared.entries.Entry.{Entry}
@@ -202,7 +202,3 @@ module _ (made : Making) (j : JobView) (past : List Entry) (taken taken' : List 
   turn_is_due (phases.Block next) r k = block_due next r k
   turn_is_due (phases.Tries next form block) r k = tries_due next form block r k
   turn_is_due (phases.Sealing next slot) r k = absurd k
-
-pub if_ok : {A E : Type 0} (P Q : A → Type 0) (r : Result A E) → IfOk r P → ((x : A) → P x → Q x) → IfOk r Q
-if_ok P Q (Ok x) h to = to x h
-if_ok P Q (Err e) h to = h

@@ -28,12 +28,14 @@ use Rattle.sgx_types.specs.declared.names.Actor.TheVariants as actors
 use Rattle.driver_laws.specs.inner.Agrees.{ShowsSlots}
 use Rattle.driver_rules.specs.Passes.{Between, Blocking, First, Form, Kicks, Pass, Scan, Sealing, Second, Third, ToKick, ToTrack}
 use Rattle.driver_rules.specs.Passes.{Tries}
-use Rattle.driver_rules.specs.Passes.{keepers}
+use Rattle.driver_rules.specs.Passes.{keepers, pass}
 use Rattle.driver_rules.specs.Places.{Absent, Away, Here, Leaving, Loading, Place, active, frame_leaving, place}
 use Rattle.driver_laws.specs.inner.Sound.{IsSound, slot_of}
 use Rattle.driver_laws.specs.inner.Tracks.{IsTracked, KeepsTracks}
 use Rattle.driver_laws.proofs.AgreeLaws.{kept_is_free}
 use Rattle.driver_laws.proofs.EpochLaws.{drained_then}
+use Rattle.reclaim_worker.specs.declared.turns.Phase.{Phase}
+use Rattle.reclaim_worker.specs.declared.turns.Taken.{Taken}
 use Rattle.reclaim_worker.specs.declared.turns.PassTurn.{PassTurn}
 use Rattle.reclaim_worker.specs.declared.turns.PassTurn.TheVariants as turns
 use Rattle.driver_rules.specs.Dues.{TriesOut}
@@ -42,6 +44,12 @@ use Rattle.driver_rules.specs.inner.Reclaims.{are_held, in_frame, leaving_due, l
 use Rattle.driver_rules.specs.Dues as dues
 use Rattle.driver_rules.specs.declared.waits.Why.TheVariants as waits
 use Rattle.reclaim_worker.specs.inner.Kept.{TurnKeeps}
+use Rattle.reclaim_worker.specs.inner.Ready.{Ready}
+use Rattle.reclaim_worker.specs.inner.Standing.{is_kicked}
+use Rattle.reclaim_worker.specs.inner.Turning.{TurnSays}
+use Rattle.driver_tables.specs.declared.driver.Driver.{Driver}
+use Rattle.paging_machine.specs.inner.Parts.{Parts}
+use Rattle.reclaim_worker.proofs.DueLaws.{turn_is_due}
 use Rattle.reclaim_worker.proofs.MoveDueLaws.{block_of}
 use Rattle.driver_laws.specs.inner.Stages.{HasPages, IsTaken}
 
@@ -193,3 +201,11 @@ module _ (made : Making) (j : JobView) (past : List Entry) (slots : Keeper) (tur
       (λ is f slot. tt) k
   due_keeps (Tries g rest (Kicks ps)) kicked shows s tracks has k = subst (TurnKeeps j past (Tries g rest (Kicks ps))) (sym k) tt
   due_keeps (Tries g rest Sealing) kicked shows s tracks has k = sealing_keeps g rest k
+
+-- .. so the entry of a turn keeps them
+pub turn_keeps_rules : (made : Making) (j : JobView) (past : List Entry) (taken taken' : List Taken) (phase phase' : Phase) (d d' : Driver)
+    (m m' : Parts) (turn : PassTurn) → Ready made j past taken phase d m → TurnSays taken phase d m turn taken' phase' d' m'
+    → TurnKeeps j past (pass j past) turn
+turn_keeps_rules made j past taken taken' phase phase' d d' m m' turn r says =
+    due_keeps made j past d.slots turn (pass j past) (is_kicked phase) r.shows.tables.slots r.sound r.tracks r.pages.pages
+    (turn_is_due made j past taken taken' d d' m m' turn phase' phase r says)

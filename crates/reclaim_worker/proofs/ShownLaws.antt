@@ -1,7 +1,7 @@
 -- Behind a turn the tables say what the longer list says.
 use Rattle.std.proofs.Common.{◌≡◌, ◌⊎◌, inl, inr, ℕ, zero, suc, ◌==◌, true, false, refl, sym, ◌∙◌, ap, subst, List}
 use Rattle.std.proofs.Common.{[], ◌∷◌, drop, length}
-use Rattle.std.proofs.Common.{map, slice_get, Some, None, Result, Ok, Err, IfOk, arith}
+use Rattle.std.proofs.Common.{map, slice_get, Some, None, arith}
 use Rattle.sgx_rules.specs.declared.entries.Action.TheVariants.{Block, EwbStart, Track}
 use Rattle.sgx_rules.specs.declared.entries.Answer.TheVariants as answers
 use Rattle.sgx_rules.specs.declared.entries.Entry.{Entry}
@@ -69,13 +69,6 @@ use Rattle.reclaim_worker.proofs.DueLaws.{drop_get, frames_behind, with_page}
 use Rattle.reclaim_worker.proofs.MoveDueLaws.{block_is_due, block_of, due_there, refused_entry, same_frame, spent_entry}
 use Rattle.reclaim_worker.proofs.MoveDueLaws.{started_entry}
 use Rattle.reclaim_worker.proofs.MoveDueLaws.{track_entry, try_entry}
-
--- ---- in general
-
-pub if_ok2 : {A E : Type 0} (P Q R S : A → Type 0) (r : Result A E) → IfOk r P → IfOk r Q → IfOk r R → ((x : A) → P x → Q x → R x → S x)
-    → IfOk r S
-if_ok2 P Q R S (Ok x) p q k to = to x p q k
-if_ok2 P Q R S (Err e) p q k to = p
 
 -- ---- holds
 

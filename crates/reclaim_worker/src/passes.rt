@@ -23,22 +23,14 @@ ghost use Rattle.reclaim_worker.specs.inner.Moves.{turn_of_track};
 ghost use Rattle.reclaim_worker.specs.declared.turns.Form.TheVariants as forms;
 ghost use Rattle.reclaim_worker.specs.declared.turns.Phase.TheVariants as phases;
 ghost use Rattle.job_grammar.specs.Jobs.{JobView};
-ghost use Rattle.sgx_types.specs.Making.{Making};
 ghost use Rattle.sgx_rules.specs.declared.entries.Entry.{Entry};
-ghost use Rattle.reclaim_worker.specs.inner.Answers.{IsTurn};
-ghost use Rattle.driver_rules.specs.inner.Reclaims.{pass_due};
 ghost use Rattle.driver_rules.specs.Passes.{pass, pass_after, free_count};
-ghost use Rattle.reclaim_worker.specs.inner.After.{StandsAfter};
-ghost use Rattle.reclaim_worker.specs.inner.Kept.{TurnKeeps};
 ghost use Rattle.paging_laws.specs.inner.State.{State};
 ghost use Rattle.reclaim_worker.specs.inner.Asked.{NoRoomIn, look_in, look_told, places_by, told_by};
 ghost use Rattle.driver_steps.specs.inner.Carried.{Carries};
 ghost use Rattle.reclaim_worker.specs.inner.Going.{TurnGoes};
-ghost use Rattle.reclaim_worker.specs.inner.Shown.{ShowsAfter};
 ghost use Rattle.reclaim_worker.specs.inner.Rests.{DriverSays, IsWait};
-ghost use Rattle.reclaim_worker.specs.inner.Ready.{Ready};
-ghost use Rattle.reclaim_worker.specs.inner.Standing.{StandsFor, noted_phase, is_kicked, is_sealing};
-ghost use Rattle.reclaim_worker.specs.inner.Stored.{still_out};
+ghost use Rattle.reclaim_worker.specs.inner.Standing.{StandsFor, noted_phase, is_sealing};
 ghost use Rattle.reclaim_worker.specs.inner.Turning.{IsFormTurn, TurnSays};
 ghost use Rattle.reclaim_worker.specs.inner.Scans.{IsBegun, IsScanned, after_look, taken_with};
 
@@ -82,68 +74,8 @@ impl Pass {
     }
 
     /// One turn of the pass, which is what the reclaimer does next: a look, a block, a try, a track or kicks, or the reason why
-    /// nothing changes.
+    /// nothing changes. That this is what is due is a law, `turns_are_right`.
     pub fn step<S: Backing>(
-        &mut self,
-        alloc: Global,
-        driver: &mut Driver,
-        machine: &mut Machine,
-        store: &mut S,
-    ) -> Result<PassTurn, Memory>
-        requires counts { driver.old.states.counts ≡ driver.old.active.counts }
-        requires few { driver.old.cpus ≤ 16 }
-        requires cpus { driver.old.cpus ≤ length machine.old.cpus }
-        requires started { is_sealing self.old.phase ≡ false }
-        ensures says { IfOk result (λ turn. TurnSays self.old.taken.items self.old.phase driver.old machine.old turn self.new.taken.items
-            self.new.phase driver.new machine.new) }
-        ensures driver { IfOk result (λ turn. DriverSays self.old.phase driver.old driver.new) }
-        ensures due { IfOk result (λ turn. (made : Making) (j : JobView) (past : List Entry)
-            → Ready made j past self.old.taken.items self.old.phase driver.old machine.old
-            → IsTurn made past driver.old.slots (pass_due j past (is_kicked self.old.phase) (pass j past)) turn) }
-        ensures kept { IfOk result (λ turn. (made : Making) (j : JobView) (past : List Entry)
-            → Ready made j past self.old.taken.items self.old.phase driver.old machine.old → TurnKeeps j past (pass j past) turn) }
-        ensures stands { IfOk result (λ turn. (made : Making) (j : JobView) (past : List Entry)
-            → Ready made j past self.old.taken.items self.old.phase driver.old machine.old
-            → StandsAfter made.first_epoch j past (pass j past) turn self.new.taken.items self.new.phase) }
-        ensures shows { IfOk result (λ turn. (made : Making) (j : JobView) (past : List Entry)
-            → Ready made j past self.old.taken.items self.old.phase driver.old machine.old
-            → ShowsAfter j past (pass j past) turn driver.new) }
-        ensures told { IfOk result (λ turn. S.told store.new ≡ told_by (look_in self.old.phase turn) (S.told store.old)) }
-        ensures places { IfOk result (λ turn. S.spare store.new ≡ places_by (look_in self.old.phase turn) (S.spare store.old)) }
-        ensures plans { S.plans store.new ≡ S.plans store.old }
-        ensures cause { HasCause (S.faults store.old) (S.faults store.new)
-            (IsOkAnd result (λ turn. NoRoomIn (look_in self.old.phase turn))) }
-        ensures memory { OnErr result ((driver.new ≡ driver.old) × (store.new ≡ store.old)) }
-        ensures machine { OnErr result (machine.new ≡ machine.old) }
-        ensures refused { OnErr result ((self.new.phase ≡ self.old.phase) × (self.new.taken.items ≡ self.old.taken.items)) }
-        ensures waits { IfOk result (λ turn. IsWait turn → (driver.new ≡ driver.old)
-            × ((self.new.phase ≡ self.old.phase) × (self.new.taken.items ≡ self.old.taken.items))) }
-        ensures rests { IfOk result (λ turn. IsWait turn → store.new ≡ store.old) }
-        ensures spare { IfOk result (λ turn. still_out self.old.taken.items self.old.phase ≤ S.spare store.old
-            → still_out self.new.taken.items self.new.phase ≤ S.spare store.new) }
-        ensures goes { IfOk result (λ turn. TurnGoes (state_of machine.old) turn (state_of machine.new)) }
-    {
-        self.turn(alloc, driver, machine, store)
-    }
-
-    /// Decides after an entry of any actor whether the reclaimer works, by how many frames are free then. Within a pass nothing
-    /// is decided.
-    pub fn note(&mut self, driver: &Driver, free: u32)
-        ensures phase { self.new.phase ≡ noted_phase driver.now.marks free self.old.phase }
-        ensures taken { self.new.taken ≡ self.old.taken }
-        ensures stands { (first : ℕ) (j : JobView) (past : List Entry) (e : Entry) → driver.now.marks ≡ j.marks
-            → free ≡ free_count j.epc (e ∷ past) → StandsFor first (e ∷ past) self.old.taken.items self.old.phase
-            (pass_after j past e.actor e.event (pass j past))
-            → StandsFor first (e ∷ past) self.new.taken.items self.new.phase (pass j (e ∷ past)) }
-    {
-        if let Phase::Idle { works } = self.phase {
-            let works = works_with(driver.marks, free, works);
-            self.phase = Phase::Idle { works };
-        }
-    }
-
-    // One turn, by how far the pass is.
-    fn turn<S: Backing>(
         &mut self,
         alloc: Global,
         driver: &mut Driver,
@@ -190,6 +122,22 @@ impl Pass {
                 Ok(self.form(alloc, next, form, block, one, driver, machine))
             }
             Phase::Sealing { .. } => unreachable!(),
+        }
+    }
+
+    /// Decides after an entry of any actor whether the reclaimer works, by how many frames are free then. Within a pass nothing
+    /// is decided.
+    pub fn note(&mut self, driver: &Driver, free: u32)
+        ensures phase { self.new.phase ≡ noted_phase driver.now.marks free self.old.phase }
+        ensures taken { self.new.taken ≡ self.old.taken }
+        ensures stands { (first : ℕ) (j : JobView) (past : List Entry) (e : Entry) → driver.now.marks ≡ j.marks
+            → free ≡ free_count j.epc (e ∷ past) → StandsFor first (e ∷ past) self.old.taken.items self.old.phase
+            (pass_after j past e.actor e.event (pass j past))
+            → StandsFor first (e ∷ past) self.new.taken.items self.new.phase (pass j (e ∷ past)) }
+    {
+        if let Phase::Idle { works } = self.phase {
+            let works = works_with(driver.marks, free, works);
+            self.phase = Phase::Idle { works };
         }
     }
 

@@ -5,13 +5,9 @@ ghost use Rattle.active_list.specs.inner.Places.{IsPlaced};
 ghost use Rattle.paging_machine.specs.inner.Parts.{state_of};
 ghost use Rattle.sgx_rules.specs.declared.entries.Entry.{Entry};
 ghost use Rattle.sgx_types.specs.Making.{Making};
-ghost use Rattle.job_grammar.specs.Jobs.{JobView};
 ghost use Rattle.paging_laws.specs.inner.Shape.{FitsApart, ShapeWithRules};
-ghost use Rattle.reclaim_worker.specs.inner.Ended.{IsEnded};
-ghost use Rattle.reclaim_worker.specs.inner.Ready.{Ready};
 ghost use Rattle.reclaim_worker.specs.inner.Stored.{frame_sealing, IsOpen, IsToSeal, IsStarted, IsStored, StoredSays, after_page};
-ghost use Rattle.reclaim_worker.specs.inner.Stored.{gone};
-ghost use Rattle.reclaim_worker.specs.inner.Stored.{next_phase, still_out, taken_in};
+ghost use Rattle.reclaim_worker.specs.inner.Stored.{gone, next_phase, taken_in};
 
 use crate::passes::Pass;
 use crate::turns::{Form, Phase, Taken};
@@ -49,39 +45,8 @@ impl Pass {
     }
 
     /// Ends the write-out that the last step started: the page is out, its record is put, and the page is lost where the put
-    /// fails. Behind the last page the pass has ended.
+    /// fails. Behind the last page the pass has ended. That this is right is a law, `ends_are_right`.
     pub fn stored<S: Backing>(
-        &mut self,
-        driver: &mut Driver,
-        machine: &mut Machine,
-        store: &mut S,
-        work: SealedWork,
-    ) -> Entry
-        requires started { IsStarted self.old.taken.items self.old.phase (state_of machine.old) driver.old.states.counts }
-        requires place { 1 ≤ S.spare store.old }
-        ensures ended { (made : Making) (j : JobView) (past : List Entry)
-            → Ready made j past self.old.taken.items self.old.phase driver.old machine.old
-            → IsEnded made.first_epoch j past result self.new.taken.items self.new.phase driver.new }
-        ensures says { StoredSays self.old.taken.items self.old.phase (state_of machine.old) driver.old (S.told store.old)
-            (S.faults store.old) result
-            (state_of machine.new) driver.new (S.told store.new) (S.faults store.new) }
-        ensures phase { self.new.phase ≡ next_phase (length self.old.taken.items) self.old.phase }
-        ensures taken { self.new.taken.items ≡ taken_in self.new.phase self.old.taken.items }
-        ensures used { S.spare store.new + 1 ≡ S.spare store.old }
-        ensures spare { still_out self.old.taken.items self.old.phase ≤ S.spare store.old
-            → still_out self.new.taken.items self.new.phase ≤ S.spare store.new }
-        ensures plans { S.plans store.new ≡ S.plans store.old }
-        ensures shape { (making : Making) (past : List Entry) → ShapeWithRules making (state_of machine.old) past
-            → ShapeWithRules making (state_of machine.new) (result ∷ past) }
-        ensures fits { (making : Making) (past : List Entry) → ShapeWithRules making (state_of machine.old) past
-            → FitsApart making.frames past → FitsApart making.frames (result ∷ past) }
-        ensures cpus { length machine.new.cpus ≡ length machine.old.cpus }
-    {
-        self.end(driver, machine, store, work)
-    }
-
-    // The end of a write-out.
-    fn end<S: Backing>(
         &mut self,
         driver: &mut Driver,
         machine: &mut Machine,

@@ -26,9 +26,11 @@ use Rattle.reclaim_worker.specs.declared.turns.Taken.{Taken}
 use Rattle.reclaim_worker.specs.inner.Ended.{IsEnded}
 use Rattle.reclaim_worker.specs.inner.Ready.{Ready}
 use Rattle.reclaim_worker.specs.inner.Standing.{StandsFor, is_sealing}
-use Rattle.reclaim_worker.specs.inner.Stored.{IsOpen, IsStarted, IsStored, StoredSays, next_phase, still_out}
+use Rattle.reclaim_worker.specs.inner.Stored.{IsOpen, IsStarted, IsStored, StoredSays, next_phase, still_out, taken_in}
 use Rattle.reclaim_worker.proofs.AfterLaws.{ahead_length}
 use Rattle.reclaim_worker.proofs.OpenLaws.{can_store}
+use Rattle.reclaim_worker.proofs.PlaceLaws.{place_used}
+use Rattle.reclaim_worker.proofs.StoredLaws.{stored_ends}
 use Rattle.run_book.proofs.EndTurns.{out_next}
 use Rattle.run_bytes.proofs.StepBytes.{stored_bytes}
 use Rattle.run_records.proofs.PassRecords.{out_flat, out_told}
@@ -107,13 +109,13 @@ closed taken (phases.Tries next form block) h = absurd (false≢true h)
 pub end_is_own : (c : Course) (told longer : Option (List Call)) (before spare faults faults' : ℕ)
     (e : Entry) (p : worker.Pass) (d : Driver)
     (m : Parts) → KeepsCourse c told before → is_spent (past_of c) ≡ false → is_sealing c.pass.phase ≡ true
-    → IsEnded c.job.start_epoch c.job (past_of c) e p.taken.items p.phase d
     → StoredSays c.pass.taken.items c.pass.phase (state_of c.machine) c.driver told faults e (state_of m) d longer faults'
-    → p.phase ≡ next_phase (length c.pass.taken.items) c.pass.phase → still_out p.taken.items p.phase ≤ spare
+    → p.phase ≡ next_phase (length c.pass.taken.items) c.pass.phase → p.taken.items ≡ taken_in p.phase c.pass.taken.items
+    → spare + 1 ≡ before
     → ShapeWithRules (machine_of c.job) (state_of m) (e ∷ past_of c) → FitsApart (machine_of c.job).frames (e ∷ past_of c)
     → length m.cpus ≡ length c.machine.cpus
     → IsOwnEntry (record c { pass = p; driver = d; machine = m }) e longer spare
-end_is_own c told longer before spare faults faults' e p d m k going waits ended says to places shape fits cpus =
+end_is_own c told longer before spare faults faults' e p d m k going waits says to kept used shape fits cpus =
     own_entry c told longer before spare e p d m k record {
       next =
           out_next (machine_of c.job) c.job (past_of c) c.driver d c.machine m c.pass.taken.items c.pass.phase told longer faults faults' e
@@ -131,7 +133,8 @@ end_is_own c told longer before spare faults faults' e p d m k going waits ended
       bytes = stored_bytes (machine_of c.job) c.job (past_of c) c.driver d c.machine m c.pass.taken.items c.pass.phase told longer
           faults faults' e says;
       stands = ended.stands;
-      places = places;
+      places = place_used c.pass.taken.items p.taken.items c.pass.phase p.phase (state_of c.machine) c.driver.states.counts before spare
+          (course_open c told before k waits).1 to kept used k.places;
       room = subst (λ (x : Entry). vec_len c.entries + 1 + 2 * (count_by has_open_load (with_kick x.event c.turns.cpus)
           + (if is_sealing p.phase then 1 else 0)) ≤ vec_capacity c.entries) (sym is.is)
           (subst (λ b. vec_len c.entries + 1 + 2 * (count_by has_open_load c.turns.cpus + (if b then 1 else 0)) ≤ vec_capacity c.entries)
@@ -143,6 +146,11 @@ end_is_own c told longer before spare faults faults' e p d m k going waits ended
 
     ready : Ready (machine_of c.job) c.job (past_of c) c.pass.taken.items c.pass.phase c.driver c.machine
     ready = course_ready c told before k
+
+    ended : IsEnded c.job.start_epoch c.job (past_of c) e p.taken.items p.phase d
+    ended =
+        stored_ends (machine_of c.job) c.job (past_of c) c.pass.taken.items p.taken.items c.pass.phase p.phase c.driver d c.machine m told
+        longer faults faults' e ready says to kept
 
     room : vec_len c.entries + 2 * (count_by has_open_load c.turns.cpus + 1) ≤ vec_capacity c.entries
     room = subst (λ b. vec_len c.entries + 2 * (count_by has_open_load c.turns.cpus + (if b then 1 else 0)) ≤ vec_capacity c.entries)

@@ -31,7 +31,7 @@ use Rattle.reclaim_worker.specs.declared.turns.PassTurn.{PassTurn}
 use Rattle.reclaim_worker.specs.declared.turns.PassTurn.TheVariants as turns
 use Rattle.reclaim_worker.specs.inner.After.{StandsAfter}
 use Rattle.reclaim_worker.specs.inner.Answers.{IsTurn}
-use Rattle.reclaim_worker.specs.inner.Asked.{look_in, told_by}
+use Rattle.reclaim_worker.specs.inner.Asked.{look_in, places_by, told_by}
 use Rattle.reclaim_worker.specs.inner.Going.{TurnGoes}
 use Rattle.reclaim_worker.specs.inner.Kept.{TurnKeeps}
 use Rattle.reclaim_worker.specs.inner.Ready.{Ready}
@@ -40,6 +40,11 @@ use Rattle.reclaim_worker.specs.inner.Shown.{ShowsAfter}
 use Rattle.reclaim_worker.specs.inner.Standing.{AreInFrames, StandsFor, is_kicked, is_sealing}
 use Rattle.reclaim_worker.specs.inner.Stored.{still_out}
 use Rattle.reclaim_worker.specs.inner.Turning.{TurnSays}
+use Rattle.reclaim_worker.proofs.DueLaws.{turn_is_due}
+use Rattle.reclaim_worker.proofs.KeptLaws.{turn_keeps_rules}
+use Rattle.reclaim_worker.proofs.PlaceLaws.{places_kept}
+use Rattle.reclaim_worker.proofs.ShownLaws.{turn_shown}
+use Rattle.reclaim_worker.proofs.StandLaws.{turn_stands}
 use Rattle.run_book.specs.inner.Books.{AreTold, CarriesBytes, KeepsBook}
 use Rattle.run_book.specs.inner.Turns.{OfEntry}
 use Rattle.run_book.proofs.SlotTurns.{turn_counts}
@@ -116,6 +121,35 @@ pub record IsStepped (c : Course) (told : Option (List Call)) (turn : PassTurn) 
   pub waits : IsWait turn → d ≡ c.driver
   pub places : still_out p.taken.items p.phase ≤ spare
   pub goes : TurnGoes (state_of c.machine) turn (state_of m)
+
+-- by what the turn did, and by the laws on that
+pub stepped_by : (c : Course) (told longer : Option (List Call)) (before spare : ℕ) (p : worker.Pass) (d : Driver) (m : Parts)
+    (turn : PassTurn) → KeepsCourse c told before
+    → TurnSays c.pass.taken.items c.pass.phase c.driver c.machine turn p.taken.items p.phase d m → DriverSays c.pass.phase c.driver d
+    → longer ≡ told_by (look_in c.pass.phase turn) told → spare ≡ places_by (look_in c.pass.phase turn) before
+    → (IsWait turn → (d ≡ c.driver) × ((p.phase ≡ c.pass.phase) × (p.taken.items ≡ c.pass.taken.items)))
+    → TurnGoes (state_of c.machine) turn (state_of m) → IsStepped c told turn p d m longer spare
+stepped_by c told longer before spare p d m turn k says driver calls places waits goes = record {
+  says = says;
+  driver = driver;
+  due = turn_is_due (machine_of c.job) c.job (past_of c) c.pass.taken.items p.taken.items c.driver d c.machine m turn p.phase c.pass.phase
+      ready says;
+  kept = turn_keeps_rules (machine_of c.job) c.job (past_of c) c.pass.taken.items p.taken.items c.pass.phase p.phase c.driver d c.machine m
+      turn ready says;
+  stands = turn_stands (machine_of c.job) c.job (past_of c) c.pass.taken.items p.taken.items c.driver d c.machine m turn p.phase
+      c.pass.phase ready says;
+  shows = turn_shown (machine_of c.job) c.job (past_of c) c.pass.taken.items p.taken.items c.driver d c.machine m turn p.phase c.pass.phase
+      waits c.pass.phase ready driver says;
+  calls = calls;
+  waits = λ w. (waits w).0;
+  places = subst (λ n. still_out p.taken.items p.phase ≤ n) (sym places)
+      (places_kept c.pass.taken.items p.taken.items c.pass.phase p.phase c.driver d c.machine m turn before says
+      (λ w. ((waits w).1.0, (waits w).1.1)) k.places);
+  goes = goes;
+}
+  where
+    ready : Ready (machine_of c.job) c.job (past_of c) c.pass.taken.items c.pass.phase c.driver c.machine
+    ready = course_ready c told before k
 
 module _ (c : Course) (told longer : Option (List Call)) (before spare : ℕ) (p : worker.Pass) (d : Driver) (m : Parts)
     (k : KeepsCourse c told before) (going : is_spent (past_of c) ≡ false) (room : vec_len c.entries + 64 ≤ vec_capacity c.entries) where

@@ -47,7 +47,7 @@ use Rattle.fault_handler.specs.declared.answers.Loaded.{Loaded}
 use Rattle.fault_handler.specs.inner.Due.{IsEnd, IsRight, IsRightEnd, ShowsEnd}
 use Rattle.fault_handler.specs.inner.Finishing.{CanFinish, IsFinished}
 use Rattle.fault_handler.specs.inner.Resolving.{IsResolved}
-use Rattle.fault_handler.proofs.EndLaws.{can_finish}
+use Rattle.fault_handler.proofs.EndLaws.{can_finish, finished_is_right}
 use Rattle.reclaim_worker.specs.inner.Standing.{is_sealing}
 use Rattle.reclaim_worker.specs.inner.Stored.{still_out}
 use Rattle.table_notes.specs.inner.Arrays.{KeepsArrays}
@@ -384,10 +384,8 @@ pub end_facts : (s : Course) (d' : Driver) (m' : Parts) (told : Option (List Cal
     → loaded_by (last_of (past_of s) cpu.0) ≡ Some page
     → ((can : CanFinish cpu page s.driver s.machine)
     → IsFinished cpu page can.slot can.frame can.kept s.driver (state_of s.machine) loaded d' (state_of m'))
-    → ((can : CanFinish cpu page s.driver s.machine) (made : Making) (j : JobView) (past : List Entry) (n : ℕ)
-    → Agrees made j past s.driver s.machine → last_of past cpu.0 ≡ Loads n page → IsRightEnd j past cpu page can.frame loaded d')
     → length m'.cpus ≡ length s.machine.cpus → EndFacts s d' m' told cpu page loaded
-end_facts s d' m' told spare cpu page loaded k mine going loads does rights cpus = record {
+end_facts s d' m' told spare cpu page loaded k mine going loads does cpus = record {
   made = end_made s.job past told s.driver d' s.machine m' s.turns s.pass.taken.items s.pass.phase cpu page loading.0 loaded can k.book
       k.stands going mine loading.1 (does can) right cpus;
   by = end_by s.job past cpu page can.frame loaded d' right;
@@ -418,7 +416,9 @@ end_facts s d' m' told spare cpu page loaded k mine going loads does rights cpus
     can = opened_can s told spare cpu page k mine loads
 
     right : IsRightEnd s.job (past_of s) cpu page can.frame loaded d'
-    right = rights can (machine_of s.job) s.job (past_of s) loading.0 k.book.agrees loading.1
+    right =
+        finished_is_right (machine_of s.job) s.job (past_of s) s.driver d' s.machine (state_of m') k.book.agrees cpu page can loading.0
+        loading.1 loaded (does can)
 
     low : cpu.0 < length s.turns.cpus
     low = turns_room s.job (past_of s) s.turns cpu.0 k.book.turns mine

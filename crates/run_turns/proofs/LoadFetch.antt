@@ -9,7 +9,6 @@ use Rattle.sgx_types.specs.declared.names.Cpu.{Cpu}
 use Rattle.sgx_types.specs.declared.names.Page.{Page}
 use Rattle.sgx_types.specs.Making.{Making}
 use Rattle.cached_translations.specs.declared.processor.Mode.{Mode}
-use Rattle.job_grammar.specs.Jobs.{JobView}
 use Rattle.turn_rules.specs.Machines.{machine_of}
 use Rattle.std.specs.Global.{Box}
 use Rattle.seal_record.specs.declared.unseal.UnsealWork.{UnsealWork}
@@ -23,13 +22,13 @@ use Rattle.driver_rules.specs.declared.waits.Why.TheVariants as waits
 use Rattle.driver_rules.specs.Dues.{Due, Fetches, Waits}
 use Rattle.driver_rules.specs.Places.{place}
 use Rattle.driver_rules.specs.Turns.{cpu_due, fetches}
-use Rattle.driver_steps.specs.inner.Agrees.{Agrees}
 use Rattle.driver_tables.specs.declared.driver.Driver.{Driver}
 use Rattle.driver_calls.specs.inner.Comes.{bus_of}
 use Rattle.fault_handler.specs.declared.answers.FaultAnswer.{FaultAnswer}
 use Rattle.fault_handler.specs.declared.answers.FaultAnswer.TheVariants as answers
 use Rattle.fault_handler.specs.inner.Due.{IsRight, WaitsBy}
 use Rattle.fault_handler.specs.inner.Resolving.{IsResolved}
+use Rattle.fault_handler.proofs.DueLaws.{resolved_is_right}
 use Rattle.table_notes.specs.inner.Plain.{is_reclaimer}
 use Rattle.turn_tables.specs.inner.Holding.{mode_of}
 use Rattle.turn_tables.specs.inner.TcsTurns.{has_place}
@@ -56,14 +55,15 @@ pub record Fetched (s : Course) (entries : Vec Entry) (d' : Driver) (m' : Parts)
   pub items : entries.items ≡ s.entries.items
   pub room : vec_len entries + 64 ≤ vec_capacity entries
   pub does : IsResolved cpu page (page_state s.driver.states page) s.driver s.machine told answer d' m' told'
-  pub right : (made : Making) (j : JobView) (past : List Entry) → Agrees made j past s.driver s.machine → IsRight j past cpu page answer d'
   pub cpus : length m'.cpus ≡ length s.machine.cpus
 
 -- its answer is right
-abbrev pub right_of : (s : Course) (entries : Vec Entry) (d' : Driver) (m' : Parts) (told told' : Option (List Call)) (spare : ℕ)
+pub right_of : (s : Course) (entries : Vec Entry) (d' : Driver) (m' : Parts) (told told' : Option (List Call)) (spare : ℕ)
     (cpu : Cpu) (page : Page) (before : Mode) (answer : FaultAnswer) → Fetched s entries d' m' told told' spare cpu page before answer
     → IsRight s.job (past_of s) cpu page answer d'
-right_of s entries d' m' told told' spare cpu page before answer f = f.right (machine_of s.job) s.job (past_of s) f.keeps.book.agrees
+right_of s entries d' m' told told' spare cpu page before answer f =
+    resolved_is_right (machine_of s.job) s.job (past_of s) s.driver d' s.machine m' cpu page told told' answer f.keeps.book.agrees f.placed
+    (kept_room s.job s.driver (past_of s) cpu.0 f.keeps.book.agrees.shows f.mine) f.does
 
 -- the course behind it, before its entry is taken in
 abbrev pub mid : Course → Vec Entry → Driver → Parts → Course
@@ -75,9 +75,8 @@ pub fetched_of : (s : Course) (entries : Vec Entry) (d' : Driver) (m' : Parts) (
     → cpu_due s.job (past_of s) cpu.0 ≡ fetches s.job.epc (past_of s) page (place (past_of s) page) → has_place s.turns.tcs page ≡ true
     → before ≡ (cpu_at s.machine cpu.0).mode → entries.items ≡ s.entries.items → vec_len entries + 64 ≤ vec_capacity entries
     → IsResolved cpu page (page_state s.driver.states page) s.driver s.machine told answer d' m' told'
-    → ((made : Making) (j : JobView) (past : List Entry) → Agrees made j past s.driver s.machine → IsRight j past cpu page answer d')
     → length m'.cpus ≡ length s.machine.cpus → answer ≡ said → Fetched s entries d' m' told told' spare cpu page before said
-fetched_of s entries d' m' told told' spare cpu page before answer said keeps mine due has stood items room does right cpus is =
+fetched_of s entries d' m' told told' spare cpu page before answer said keeps mine due has stood items room does cpus is =
     subst (Fetched s entries d' m' told told' spare cpu page before) is
     (record {
       keeps = keeps;
@@ -88,7 +87,6 @@ fetched_of s entries d' m' told told' spare cpu page before answer said keeps mi
       items = items;
       room = room;
       does = does;
-      right = right;
       cpus = cpus;
     })
 

@@ -1,7 +1,31 @@
-use Rattle.fault_handler.proofs.EndLaws.{finish_right}
+use Rattle.std.proofs.Common.{sym, subst, ◌∙◌, rules}
+use Rattle.sgx_types.specs.declared.names.Actor.TheVariants as actors
+use Rattle.paging_machine.specs.inner.Parts.{state_of}
+use Rattle.paging_laws.specs.inner.Steps.{IsReloaded}
+use Rattle.fault_handler.specs.inner.Finishing.{CarriesLoad}
+use Rattle.fault_handler.proofs.FinishLaws.{finished_as}
 use Rattle.fault_handler.proofs.finishing.finish.Goals as goal
 
-pub returns-clause-right : goal.returns-clause-right
-returns-clause-right c can made j past n r last =
-    finish_right made j past c.args.driver.now _ c.args.machine.now _ r c.args.cpu c.args.page can n last c.finish_by.result
-    (c.finish_by.ensures.does can)
+pub returns-clause-does : goal.returns-clause-does
+returns-clause-does c can =
+    finished_as c.args.cpu c.args.page c.args.driver.now c.end.new.driver c.args.machine.now (state_of c.args.machine.now)
+    (state_of c.eld_commit-entry.new.self) c.end.result can c.in-Loading.frame c.in-Loading.slot c.kept.result.now
+    (sym c.state.ensures.value ∙ c.in-Loading.is) c.kept.ensures
+    (record {
+      entry = c.eld_commit-entry.result;
+      reloaded =
+          subst
+          (λ r. IsReloaded (state_of c.args.machine.now) (actors.Cpu c.args.cpu) c.in-Loading.frame r c.eld_commit-entry.result (state_of
+          c.eld_commit-entry.new.self)) c.opened-work.ensures c.eld_commit-entry.ensures.step;
+      carries =
+          subst
+          (λ r. CarriesLoad (state_of c.args.machine.now) c.in-Loading.frame.0 r c.eld_commit-entry.result (state_of
+          c.eld_commit-entry.new.self)) c.opened-work.ensures (record {
+            shape = c.eld_commit-entry.ensures.shape;
+            fits = c.eld_commit-entry.ensures.fits;
+            history = c.eld_commit-entry.ensures.history;
+            back = c.eld_commit-entry.ensures.back;
+            making = c.eld_commit-entry.ensures.making;
+          });
+      ends = search rules;
+    })

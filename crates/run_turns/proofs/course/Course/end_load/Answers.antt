@@ -25,7 +25,7 @@ take_in-requires c =
     let k = c.requires.can in
     let x : Course = record s { driver = c.finish.new.driver; machine = c.finish.new.machine } in
     let f = end_facts s x.driver x.machine k.told k.spare c.args.cpu c.args.page (ends.Here c.in-Here.entry) k.keeps c.requires.cpu
-    c.requires.going c.requires.loads c.in-Here.ensures.does c.in-Here.ensures.right c.in-Here.ensures.cpus in
+    c.requires.going c.requires.loads c.in-Here.ensures.does c.in-Here.ensures.cpus in
     can_take x (past_of s) k.told k.told k.spare s.driver s.machine c.mode-before.result c.in-Here.entry
     (course_stands s s.entries x.driver x.machine k.told k.spare refl k.keeps) f.made
     (c.mode-before.ensures ∙ sym (ap (mode_of s.machine) f.by)) f.place (ap is_reclaimer f.by)
@@ -36,7 +36,7 @@ take_in-requires-in-Bus c =
     let k = c.requires.can in
     let x : Course = record s { driver = c.finish.new.driver; machine = c.finish.new.machine } in
     let f = end_facts s x.driver x.machine k.told k.spare c.args.cpu c.args.page (ends.Bus c.in-Bus.entry c.in-Bus.why) k.keeps
-    c.requires.cpu c.requires.going c.requires.loads c.in-Bus.ensures.does c.in-Bus.ensures.right c.in-Bus.ensures.cpus in
+    c.requires.cpu c.requires.going c.requires.loads c.in-Bus.ensures.does c.in-Bus.ensures.cpus in
     can_take x (past_of s) k.told k.told k.spare s.driver s.machine c.mode-before.result c.in-Bus.entry
     (course_stands s s.entries x.driver x.machine k.told k.spare refl k.keeps) f.made
     (c.mode-before.ensures ∙ sym (ap (mode_of s.machine) f.by)) f.place (ap is_reclaimer f.by)
@@ -48,7 +48,7 @@ returns-in-Here c = λ can.
     let new = c.take_in.new.self in
     let x : Course = record s { driver = c.finish.new.driver; machine = c.finish.new.machine } in
     let f = end_facts s x.driver x.machine can.told can.spare c.args.cpu c.args.page (ends.Here e) can.keeps c.requires.cpu
-    c.requires.going c.requires.loads c.in-Here.ensures.does c.in-Here.ensures.right c.in-Here.ensures.cpus in
+    c.requires.going c.requires.loads c.in-Here.ensures.does c.in-Here.ensures.cpus in
     let stands = course_stands s s.entries x.driver x.machine can.told can.spare refl can.keeps in
     let took = took_in x new c.mode-before.result e
     (record {
@@ -86,7 +86,7 @@ take_in-requires-in-Bus-2 c =
     let e = c.in-Bus.entry in
     let new = c.take_in-in-Bus.new.self in
     let f = end_facts s c.finish.new.driver c.finish.new.machine k.told k.spare c.args.cpu c.args.page (ends.Bus e c.in-Bus.why) k.keeps
-    c.requires.cpu c.requires.going c.requires.loads c.in-Bus.ensures.does c.in-Bus.ensures.right c.in-Bus.ensures.cpus in
+    c.requires.cpu c.requires.going c.requires.loads c.in-Bus.ensures.does c.in-Bus.ensures.cpus in
     let took = took_first s new k.told k.spare c.args.cpu c.args.page c.finish.new.driver c.finish.new.machine c.mode-before.result e
     c.in-Bus.why k.keeps f c.mode-before.ensures
     (record {
@@ -113,7 +113,7 @@ returns-in-Bus c = λ can.
     let new = c.take_in-in-Bus.new.self in
     let last = c.take_in-in-Bus-2.new.self in
     let f = end_facts s c.finish.new.driver c.finish.new.machine can.told can.spare c.args.cpu c.args.page (ends.Bus e c.in-Bus.why)
-    can.keeps c.requires.cpu c.requires.going c.requires.loads c.in-Bus.ensures.does c.in-Bus.ensures.right c.in-Bus.ensures.cpus in
+    can.keeps c.requires.cpu c.requires.going c.requires.loads c.in-Bus.ensures.does c.in-Bus.ensures.cpus in
     let took = took_first s new can.told can.spare c.args.cpu c.args.page c.finish.new.driver c.finish.new.machine c.mode-before.result e
     c.in-Bus.why can.keeps f c.mode-before.ensures
     (record {

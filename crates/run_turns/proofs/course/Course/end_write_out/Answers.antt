@@ -5,7 +5,6 @@ use Rattle.paging_machine.specs.inner.Parts.{state_of}
 use Rattle.run_turns.specs.inner.Turns.{EndsOut}
 use Rattle.run_turns.proofs.CallLaws.{stored_tells, stored_writes}
 use Rattle.run_turns.proofs.EndTurnLaws.{course_open, end_is_own, one_out}
-use Rattle.run_turns.proofs.FollowLaws.{course_ready}
 use Rattle.run_turns.proofs.course.Course.end_write_out.Goals as goal
 
 pub stored-entry-requires-clause-started : goal.stored-entry-requires-clause-started
@@ -30,9 +29,7 @@ take_own-requires g c =
           (g.S.Backing.spare c.args.store.now) (g.S.Backing.spare c.stored-entry.new.store) (g.S.Backing.faults c.args.store.now)
           (g.S.Backing.faults c.stored-entry.new.store) c.stored-entry.result c.stored-entry.new.self c.stored-entry.new.driver
           c.stored-entry.new.machine k c.requires.going c.requires.sealing
-          (e.ended made c.args.self.now.job past
-          (course_ready c.args.self.now (g.S.Backing.told c.args.store.now) (g.S.Backing.spare c.args.store.now) k))
-          e.says e.phase (e.spare k.places) (e.shape made past k.book.agrees.follows)
+          e.says e.phase e.taken e.used (e.shape made past k.book.agrees.follows)
           (e.fits made past k.book.agrees.follows k.book.agrees.fits) e.cpus;
     }
 
@@ -49,9 +46,7 @@ returns-clause-grows g c =
           (g.S.Backing.spare c.args.store.now) (g.S.Backing.spare c.stored-entry.new.store) (g.S.Backing.faults c.args.store.now)
           (g.S.Backing.faults c.stored-entry.new.store) c.stored-entry.result c.stored-entry.new.self c.stored-entry.new.driver
           c.stored-entry.new.machine k c.requires.going c.requires.sealing
-          (e.ended made c.args.self.now.job past
-          (course_ready c.args.self.now (g.S.Backing.told c.args.store.now) (g.S.Backing.spare c.args.store.now) k))
-          e.says e.phase (e.spare k.places) (e.shape made past k.book.agrees.follows)
+          e.says e.phase e.taken e.used (e.shape made past k.book.agrees.follows)
           (e.fits made past k.book.agrees.follows k.book.agrees.fits) e.cpus;
     }) in
     record { entries = grows.entries; count = grows.count; actors = grows.actors; past = grows.past; job = grows.job; keeps = grows.keeps }

@@ -52,7 +52,7 @@ take_in-requires g c =
     (g.S.Backing.told c.resolve.new.store) (g.S.Backing.spare c.args.store.now) c.args.cpu c.args.page c.mode-before.result
     c.in_ok-resolve.field-0 (answers.Bus c.in-Bus.why) c.requires.keeps c.requires.cpu c.requires.due
     (sym c.has_place.ensures ∙ c.if-not-has_place.false) c.mode-before.ensures c.reserve.ensures.items (omega (arith, room))
-    c.in_ok-resolve.ensures.does c.in_ok-resolve.ensures.right c.resolve.ensures.cpus c.in-Bus.is in
+    c.in_ok-resolve.ensures.does c.resolve.ensures.cpus c.in-Bus.is in
     told_takes c.in-Bus.why f c.bus-entry.result c.bus-entry.ensures c.note.ensures.shape c.note.ensures.fits c.note.ensures.history
 
 pub take_in-requires-in-Started : goal.take_in-requires-in-Started
@@ -63,7 +63,7 @@ take_in-requires-in-Started g c =
     (g.S.Backing.told c.resolve.new.store) (g.S.Backing.spare c.args.store.now) c.args.cpu c.args.page c.mode-before.result
     c.in_ok-resolve.field-0 (answers.Started c.in-Started.entry c.in-Started.work) c.requires.keeps c.requires.cpu c.requires.due
     (sym c.has_place.ensures ∙ c.if-not-has_place.false) c.mode-before.ensures c.reserve.ensures.items (omega (arith, room))
-    c.in_ok-resolve.ensures.does c.in_ok-resolve.ensures.right c.resolve.ensures.cpus c.in-Started.is in
+    c.in_ok-resolve.ensures.does c.resolve.ensures.cpus c.in-Started.is in
     start_can c.in-Started.entry c.in-Started.work f
 
 pub returns-in-Here-clause-turn : goal.returns-in-Here-clause-turn
@@ -74,7 +74,7 @@ returns-in-Here-clause-turn g c =
     (g.S.Backing.told c.resolve.new.store) (g.S.Backing.spare c.args.store.now) c.args.cpu c.args.page c.mode-before.result
     c.in_ok-resolve.field-0 answers.Here c.requires.keeps c.requires.cpu c.requires.due
     (sym c.has_place.ensures ∙ c.if-not-has_place.false) c.mode-before.ensures c.reserve.ensures.items (omega (arith, room))
-    c.in_ok-resolve.ensures.does c.in_ok-resolve.ensures.right c.resolve.ensures.cpus c.in-Here.is in
+    c.in_ok-resolve.ensures.does c.resolve.ensures.cpus c.in-Here.is in
     (here_waits_by f, here_same f c.reserve.ensures.capacity)
 
 pub returns-in-Here-clause-keeps : goal.returns-in-Here-clause-keeps
@@ -85,7 +85,7 @@ returns-in-Here-clause-keeps g c =
     (g.S.Backing.told c.resolve.new.store) (g.S.Backing.spare c.args.store.now) c.args.cpu c.args.page c.mode-before.result
     c.in_ok-resolve.field-0 answers.Here c.requires.keeps c.requires.cpu c.requires.due
     (sym c.has_place.ensures ∙ c.if-not-has_place.false) c.mode-before.ensures c.reserve.ensures.items (omega (arith, room))
-    c.in_ok-resolve.ensures.does c.in_ok-resolve.ensures.right c.resolve.ensures.cpus c.in-Here.is in
+    c.in_ok-resolve.ensures.does c.resolve.ensures.cpus c.in-Here.is in
     here_keeps (g.S.Backing.spare c.resolve.new.store) f c.reserve.ensures.capacity c.resolve.ensures.spare
 
 pub returns-in-Again-clause-turn : goal.returns-in-Again-clause-turn
@@ -96,7 +96,7 @@ returns-in-Again-clause-turn g c =
     (g.S.Backing.told c.resolve.new.store) (g.S.Backing.spare c.args.store.now) c.args.cpu c.args.page c.mode-before.result
     c.in_ok-resolve.field-0 (answers.Again c.in-Again.why) c.requires.keeps c.requires.cpu c.requires.due
     (sym c.has_place.ensures ∙ c.if-not-has_place.false) c.mode-before.ensures c.reserve.ensures.items (omega (arith, room))
-    c.in_ok-resolve.ensures.does c.in_ok-resolve.ensures.right c.resolve.ensures.cpus c.in-Again.is in
+    c.in_ok-resolve.ensures.does c.resolve.ensures.cpus c.in-Again.is in
     (again_waits_by c.in-Again.why f, again_same c.in-Again.why f c.reserve.ensures.capacity)
 
 pub returns-in-Again-clause-keeps : goal.returns-in-Again-clause-keeps
@@ -107,7 +107,7 @@ returns-in-Again-clause-keeps g c =
     (g.S.Backing.told c.resolve.new.store) (g.S.Backing.spare c.args.store.now) c.args.cpu c.args.page c.mode-before.result
     c.in_ok-resolve.field-0 (answers.Again c.in-Again.why) c.requires.keeps c.requires.cpu c.requires.due
     (sym c.has_place.ensures ∙ c.if-not-has_place.false) c.mode-before.ensures c.reserve.ensures.items (omega (arith, room))
-    c.in_ok-resolve.ensures.does c.in_ok-resolve.ensures.right c.resolve.ensures.cpus c.in-Again.is in
+    c.in_ok-resolve.ensures.does c.resolve.ensures.cpus c.in-Again.is in
     again_keeps c.in-Again.why (g.S.Backing.spare c.resolve.new.store) f c.reserve.ensures.capacity c.resolve.ensures.spare
 
 pub returns-in-Bus-clause-turn : goal.returns-in-Bus-clause-turn
@@ -118,7 +118,7 @@ returns-in-Bus-clause-turn g c =
     (g.S.Backing.told c.resolve.new.store) (g.S.Backing.spare c.args.store.now) c.args.cpu c.args.page c.mode-before.result
     c.in_ok-resolve.field-0 (answers.Bus c.in-Bus.why) c.requires.keeps c.requires.cpu c.requires.due
     (sym c.has_place.ensures ∙ c.if-not-has_place.false) c.mode-before.ensures c.reserve.ensures.items (omega (arith, room))
-    c.in_ok-resolve.ensures.does c.in_ok-resolve.ensures.right c.resolve.ensures.cpus c.in-Bus.is in (
+    c.in_ok-resolve.ensures.does c.resolve.ensures.cpus c.in-Bus.is in (
       refl,
       subst (λ h. started h (actors.Cpu c.args.cpu) ≡ false)
           (sym (newest c.reserve.new.self.items c.take_in.new.self.entries.items c.bus-entry.result c.take_in.ensures.kept))
@@ -147,7 +147,7 @@ returns-in-Bus-clause-keeps g c =
     (g.S.Backing.told c.resolve.new.store) (g.S.Backing.spare c.args.store.now) c.args.cpu c.args.page c.mode-before.result
     c.in_ok-resolve.field-0 (answers.Bus c.in-Bus.why) c.requires.keeps c.requires.cpu c.requires.due
     (sym c.has_place.ensures ∙ c.if-not-has_place.false) c.mode-before.ensures c.reserve.ensures.items (omega (arith, room))
-    c.in_ok-resolve.ensures.does c.in_ok-resolve.ensures.right c.resolve.ensures.cpus c.in-Bus.is in
+    c.in_ok-resolve.ensures.does c.resolve.ensures.cpus c.in-Bus.is in
     (told_turns c.in-Bus.why c.take_in.new.self (g.S.Backing.spare c.resolve.new.store) f c.bus-entry.result c.bus-entry.ensures
     c.note.ensures.shape c.note.ensures.fits c.note.ensures.history
     (record {
@@ -170,7 +170,7 @@ returns-in-Started-clause-turn g c =
     (g.S.Backing.told c.resolve.new.store) (g.S.Backing.spare c.args.store.now) c.args.cpu c.args.page c.mode-before.result
     c.in_ok-resolve.field-0 (answers.Started c.in-Started.entry c.in-Started.work) c.requires.keeps c.requires.cpu c.requires.due
     (sym c.has_place.ensures ∙ c.if-not-has_place.false) c.mode-before.ensures c.reserve.ensures.items (omega (arith, room))
-    c.in_ok-resolve.ensures.does c.in_ok-resolve.ensures.right c.resolve.ensures.cpus c.in-Started.is in
+    c.in_ok-resolve.ensures.does c.resolve.ensures.cpus c.in-Started.is in
     let both = start_turns c.in-Started.entry c.in-Started.work c.take_in-in-Started.new.self (g.S.Backing.spare c.resolve.new.store) f
     (record {
       others = c.take_in-in-Started.ensures.others;
@@ -193,7 +193,7 @@ returns-in-Started-clause-keeps g c =
     (g.S.Backing.told c.resolve.new.store) (g.S.Backing.spare c.args.store.now) c.args.cpu c.args.page c.mode-before.result
     c.in_ok-resolve.field-0 (answers.Started c.in-Started.entry c.in-Started.work) c.requires.keeps c.requires.cpu c.requires.due
     (sym c.has_place.ensures ∙ c.if-not-has_place.false) c.mode-before.ensures c.reserve.ensures.items (omega (arith, room))
-    c.in_ok-resolve.ensures.does c.in_ok-resolve.ensures.right c.resolve.ensures.cpus c.in-Started.is in
+    c.in_ok-resolve.ensures.does c.resolve.ensures.cpus c.in-Started.is in
     (start_turns c.in-Started.entry c.in-Started.work c.take_in-in-Started.new.self (g.S.Backing.spare c.resolve.new.store) f
     (record {
       others = c.take_in-in-Started.ensures.others;

@@ -1,9 +1,8 @@
 use Rattle.std.proofs.Common.{subst, sym}
-use Rattle.turn_rules.specs.Machines.{machine_of}
-use Rattle.run_turns.specs.inner.Courses.{KeepsCourse, past_of}
+use Rattle.run_turns.specs.inner.Courses.{KeepsCourse}
 use Rattle.run_turns.proofs.CallLaws.{followed_waits, turn_tells}
 use Rattle.run_turns.proofs.AnswerLaws.{turn_answers, turn_keeps}
-use Rattle.run_turns.proofs.FollowLaws.{course_ready, follows_by}
+use Rattle.run_turns.proofs.FollowLaws.{follows_by, stepped_by}
 use Rattle.run_turns.proofs.course.Course.step_pass.Goals as goal
 
 pub follow-requires : goal.follow-requires
@@ -11,28 +10,17 @@ follow-requires g c =
     let k = c.requires.keeps in
     let e = c.in_ok-turn.ensures in
     let self = c.args.self.now in
-    let made = machine_of self.job in
-    let j = self.job in
-    let past = past_of self in
     let told = g.S.Backing.told c.args.store.now in
+    let longer = g.S.Backing.told c.step.new.store in
     let before = g.S.Backing.spare c.args.store.now in
-    let ready = course_ready self told before k in
+    let spare = g.S.Backing.spare c.step.new.store in
+    let stepped = stepped_by self told longer before spare c.step.new.self c.step.new.driver c.step.new.machine c.in_ok-turn.turn k
+    e.says e.driver e.told e.places e.waits e.goes in
     record {
-      longer = g.S.Backing.told c.step.new.store;
-      spare = g.S.Backing.spare c.step.new.store;
-      by = follows_by self told (g.S.Backing.told c.step.new.store) before (g.S.Backing.spare c.step.new.store) c.step.new.self
-          c.step.new.driver c.step.new.machine k c.requires.going c.requires.entries c.requires.room c.in_ok-turn.turn (record {
-            says = e.says;
-            driver = e.driver;
-            due = e.due made j past ready;
-            kept = e.kept made j past ready;
-            stands = e.stands made j past ready;
-            shows = e.shows made j past ready;
-            calls = e.told;
-            waits = λ w. (e.waits w).0;
-            places = e.spare k.places;
-            goes = e.goes;
-          });
+      longer = longer;
+      spare = spare;
+      by = follows_by self told longer before spare c.step.new.self c.step.new.driver c.step.new.machine k c.requires.going
+          c.requires.entries c.requires.room c.in_ok-turn.turn stepped;
     }
 
 pub returns-clause-turn : goal.returns-clause-turn
@@ -40,41 +28,19 @@ returns-clause-turn g c =
     let k = c.requires.keeps in
     let e = c.in_ok-turn.ensures in
     let self = c.args.self.now in
-    let made = machine_of self.job in
-    let j = self.job in
-    let past = past_of self in
     let told = g.S.Backing.told c.args.store.now in
+    let longer = g.S.Backing.told c.step.new.store in
     let before = g.S.Backing.spare c.args.store.now in
-    let ready = course_ready self told before k in
-    turn_answers self told (g.S.Backing.told c.step.new.store) before (g.S.Backing.spare c.step.new.store) c.step.new.self
-    c.step.new.driver c.step.new.machine c.follow.new.self k c.requires.going c.requires.entries c.requires.idle c.requires.some
-    c.in_ok-turn.turn c.follow.result (record {
-      says = e.says;
-      driver = e.driver;
-      due = e.due made j past ready;
-      kept = e.kept made j past ready;
-      stands = e.stands made j past ready;
-      shows = e.shows made j past ready;
-      calls = e.told;
-      waits = λ w. (e.waits w).0;
-      places = e.spare k.places;
-      goes = e.goes;
-    }) e.waits (c.follow.ensures (record {
-      longer = g.S.Backing.told c.step.new.store;
-      spare = g.S.Backing.spare c.step.new.store;
-      by = follows_by self told (g.S.Backing.told c.step.new.store) before (g.S.Backing.spare c.step.new.store) c.step.new.self
-          c.step.new.driver c.step.new.machine k c.requires.going c.requires.entries c.requires.room c.in_ok-turn.turn (record {
-            says = e.says;
-            driver = e.driver;
-            due = e.due made j past ready;
-            kept = e.kept made j past ready;
-            stands = e.stands made j past ready;
-            shows = e.shows made j past ready;
-            calls = e.told;
-            waits = λ w. (e.waits w).0;
-            places = e.spare k.places;
-            goes = e.goes;
-          });
+    let spare = g.S.Backing.spare c.step.new.store in
+    let stepped = stepped_by self told longer before spare c.step.new.self c.step.new.driver c.step.new.machine c.in_ok-turn.turn k
+    e.says e.driver e.told e.places e.waits e.goes in
+    turn_answers self told longer before spare c.step.new.self c.step.new.driver c.step.new.machine c.follow.new.self k c.requires.going
+    c.requires.entries c.requires.idle c.requires.some c.in_ok-turn.turn c.follow.result stepped e.waits
+    (c.follow.ensures (record {
+      longer = longer;
+      spare = spare;
+      by = follows_by self told longer before spare c.step.new.self c.step.new.driver c.step.new.machine k c.requires.going
+          c.requires.entries c.requires.room c.in_ok-turn.turn stepped;
     }))
 
 pub returns-clause-keeps : goal.returns-clause-keeps
@@ -82,43 +48,20 @@ returns-clause-keeps g c =
     let k = c.requires.keeps in
     let e = c.in_ok-turn.ensures in
     let self = c.args.self.now in
-    let made = machine_of self.job in
-    let j = self.job in
-    let past = past_of self in
     let told = g.S.Backing.told c.args.store.now in
+    let longer = g.S.Backing.told c.step.new.store in
     let before = g.S.Backing.spare c.args.store.now in
-    let ready = course_ready self told before k in
-    turn_keeps self told (g.S.Backing.told c.step.new.store) before (g.S.Backing.spare c.step.new.store) c.step.new.self
-    c.step.new.driver c.step.new.machine c.follow.new.self k c.requires.going c.requires.entries c.requires.idle c.requires.some
-    c.in_ok-turn.turn c.follow.result (record {
-      says = e.says;
-      driver = e.driver;
-      due = e.due made j past ready;
-      kept = e.kept made j past ready;
-      stands = e.stands made j past ready;
-      shows = e.shows made j past ready;
-      calls = e.told;
-      waits = λ w. (e.waits w).0;
-      places = e.spare k.places;
-      goes = e.goes;
-    }) e.waits
+    let spare = g.S.Backing.spare c.step.new.store in
+    let stepped = stepped_by self told longer before spare c.step.new.self c.step.new.driver c.step.new.machine c.in_ok-turn.turn k
+    e.says e.driver e.told e.places e.waits e.goes in
+    turn_keeps self told longer before spare c.step.new.self c.step.new.driver c.step.new.machine c.follow.new.self k c.requires.going
+    c.requires.entries c.requires.idle c.requires.some c.in_ok-turn.turn c.follow.result stepped e.waits
     (λ w. subst (λ store. KeepsCourse self (g.S.Backing.told store) (g.S.Backing.spare store)) (sym (e.rests w)) k)
     (c.follow.ensures (record {
-      longer = g.S.Backing.told c.step.new.store;
-      spare = g.S.Backing.spare c.step.new.store;
-      by = follows_by self told (g.S.Backing.told c.step.new.store) before (g.S.Backing.spare c.step.new.store) c.step.new.self
-          c.step.new.driver c.step.new.machine k c.requires.going c.requires.entries c.requires.room c.in_ok-turn.turn (record {
-            says = e.says;
-            driver = e.driver;
-            due = e.due made j past ready;
-            kept = e.kept made j past ready;
-            stands = e.stands made j past ready;
-            shows = e.shows made j past ready;
-            calls = e.told;
-            waits = λ w. (e.waits w).0;
-            places = e.spare k.places;
-            goes = e.goes;
-          });
+      longer = longer;
+      spare = spare;
+      by = follows_by self told longer before spare c.step.new.self c.step.new.driver c.step.new.machine k c.requires.going
+          c.requires.entries c.requires.room c.in_ok-turn.turn stepped;
     }))
 
 pub returns-clause-tells : goal.returns-clause-tells
@@ -131,28 +74,16 @@ returns-clause-rests g c = λ waits.
     (let k = c.requires.keeps in
     let e = c.in_ok-turn.ensures in
     let self = c.args.self.now in
-    let made = machine_of self.job in
-    let j = self.job in
-    let past = past_of self in
     let told = g.S.Backing.told c.args.store.now in
+    let longer = g.S.Backing.told c.step.new.store in
     let before = g.S.Backing.spare c.args.store.now in
-    let ready = course_ready self told before k in
+    let spare = g.S.Backing.spare c.step.new.store in
+    let stepped = stepped_by self told longer before spare c.step.new.self c.step.new.driver c.step.new.machine c.in_ok-turn.turn k
+    e.says e.driver e.told e.places e.waits e.goes in
     e.rests (followed_waits (record self { driver = c.step.new.driver; machine = c.step.new.machine; pass = c.step.new.self })
-    c.follow.new.self c.in_ok-turn.turn c.follow.result (g.S.Backing.told c.step.new.store)
-    (g.S.Backing.spare c.step.new.store) (c.follow.ensures (record {
-      longer = g.S.Backing.told c.step.new.store;
-      spare = g.S.Backing.spare c.step.new.store;
-      by = follows_by self told (g.S.Backing.told c.step.new.store) before (g.S.Backing.spare c.step.new.store) c.step.new.self
-          c.step.new.driver c.step.new.machine k c.requires.going c.requires.entries c.requires.room c.in_ok-turn.turn (record {
-            says = e.says;
-            driver = e.driver;
-            due = e.due made j past ready;
-            kept = e.kept made j past ready;
-            stands = e.stands made j past ready;
-            shows = e.shows made j past ready;
-            calls = e.told;
-            waits = λ w. (e.waits w).0;
-            places = e.spare k.places;
-            goes = e.goes;
-          });
+    c.follow.new.self c.in_ok-turn.turn c.follow.result longer spare (c.follow.ensures (record {
+      longer = longer;
+      spare = spare;
+      by = follows_by self told longer before spare c.step.new.self c.step.new.driver c.step.new.machine k c.requires.going
+          c.requires.entries c.requires.room c.in_ok-turn.turn stepped;
     })) waits))
