@@ -24,11 +24,11 @@ open_closes j past p = by (is_spent past) refl (last_of past p) refl
   where
     by : (spent : Bool) → is_spent past ≡ spent → (x : Last) → last_of past p ≡ x → is_some (loaded_by x) ≡ true
         → is_closing (cpu_due j past p) ≡ true
-    by true s x at open = rw s refl
-    by false s (Loads f g) at open = rw (s, at) refl
-    by false s (Fails g why) at open = absurd (false≢true open)
-    by false s WasEnded at open = absurd (false≢true open)
-    by false s Other at open = absurd (false≢true open)
+    by true s x at pending = rw s refl
+    by false s (Loads f g) at pending = rw (s, at) refl
+    by false s (Fails g why) at pending = absurd (false≢true pending)
+    by false s WasEnded at pending = absurd (false≢true pending)
+    by false s Other at pending = absurd (false≢true pending)
 
 fetch_opens : (frames : ℕ) (past : List Entry) (g : Page) (at : Place) → is_closing (fetches frames past g at) ≡ true → ⊥
 fetch_opens frames past g (Away slot) h = false≢true h
@@ -40,9 +40,9 @@ fetch_opens frames past g (Loading f slot) h = false≢true h
 -- so no instruction is due to it
 pub makes_none : (j : JobView) (past : List Entry) (p : ℕ) (action : Action) → cpu_due j past p ≡ Makes action
     → is_some (loaded_by (last_of past p)) ≡ true → ⊥
-makes_none j past p action due open = false≢true (rw due at (open_closes j past p open))
+makes_none j past p action due pending = false≢true (rw due at (open_closes j past p pending))
 
 -- .. and no record is to be asked for
 pub fetches_none : (j : JobView) (past : List Entry) (p frames : ℕ) (g : Page) (at : Place) → cpu_due j past p ≡ fetches frames past g at
     → is_some (loaded_by (last_of past p)) ≡ true → ⊥
-fetches_none j past p frames g at due open = fetch_opens frames past g at (rw due at (open_closes j past p open))
+fetches_none j past p frames g at due pending = fetch_opens frames past g at (rw due at (open_closes j past p pending))

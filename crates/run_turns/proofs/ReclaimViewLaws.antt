@@ -152,13 +152,13 @@ due_now c told spare plans k = by_phase c.pass.phase k.stands
 -- a write-out that has started is the one that the pass waits for
 pub open_seals : (c : Course) (told : Option (List Call)) (spare : ℕ) → KeepsCourse c told spare
     → is_some (frame_started (last_event (past_of c) actors.Reclaimer)) ≡ true → is_sealing c.pass.phase ≡ true
-open_seals c told spare k open = by (is_sealing c.pass.phase) refl
+open_seals c told spare k pending = by (is_sealing c.pass.phase) refl
   where
     by : (b : Bool) → is_sealing c.pass.phase ≡ b → b ≡ true
     by true at = refl
     by false at =
         absurd (false≢true (rw (none_started c.job.start_epoch c.job (past_of c) c.pass.taken.items c.pass.phase k.stands k.book.age at)
-        at open))
+        at pending))
 
 module _ (c c' : Course) (told told' : Option (List Call)) (plans plans' : List PlanLine) (spare' : ℕ) (k : KeepsCourse c' told' spare')
     (same_plans : plans' ≡ plans) where

@@ -108,30 +108,30 @@ returns-in-Makes-clause-keeps g c =
     }) c.instruct.ensures.more c.instruct.ensures.memory
 
 pub returns-in-Stopped-clause-again : goal.returns-in-Stopped-clause-again
-returns-in-Stopped-clause-again g c = λ open. (same_self c.args.self.now, refl)
+returns-in-Stopped-clause-again g c = λ pending. (same_self c.args.self.now, refl)
 
 pub returns-in-Finished-clause-again : goal.returns-in-Finished-clause-again
-returns-in-Finished-clause-again g c = λ open. (same_self c.args.self.now, refl)
+returns-in-Finished-clause-again g c = λ pending. (same_self c.args.self.now, refl)
 
 pub returns-in-Waits-clause-again : goal.returns-in-Waits-clause-again
-returns-in-Waits-clause-again g c = λ open. (same_self c.args.self.now, refl)
+returns-in-Waits-clause-again g c = λ pending. (same_self c.args.self.now, refl)
 
 pub returns-in-Ends-clause-again : goal.returns-in-Ends-clause-again
-returns-in-Ends-clause-again g c = λ open.
+returns-in-Ends-clause-again g c = λ pending.
     (subst (λ (x : Course). IsSame c.args.self.now x) (sym c.open_again.ensures.same) (same_self c.args.self.now), c.open_again.ensures.store)
 
 pub returns-in-Makes-clause-again : goal.returns-in-Makes-clause-again
-returns-in-Makes-clause-again g c = λ open.
+returns-in-Makes-clause-again g c = λ pending.
     (let s = c.args.self.now in
     let k = c.requires.keeps.book in
     absurd (makes_none s.job (past_of s) c.args.cpu.0 c.action.result
     (sym (c.cpu_due-due.ensures (machine_of s.job) (past_of s) k.agrees k.orderly k.turns)
-    ∙ ap (due_in s.job (past_of s)) c.in-Makes.is ∙ ap Makes (sym c.action.ensures)) open))
+    ∙ ap (due_in s.job (past_of s)) c.in-Makes.is ∙ ap Makes (sym c.action.ensures)) pending))
 
 pub returns-in-Needs-clause-again : goal.returns-in-Needs-clause-again
-returns-in-Needs-clause-again g c = λ open.
+returns-in-Needs-clause-again g c = λ pending.
     (let s = c.args.self.now in
     let k = c.requires.keeps.book in
     absurd (fetches_none s.job (past_of s) c.args.cpu.0 s.job.epc c.in-Needs.page (place (past_of s) c.in-Needs.page)
     (sym (c.cpu_due-due.ensures (machine_of s.job) (past_of s) k.agrees k.orderly k.turns) ∙ ap (due_in s.job (past_of s)) c.in-Needs.is)
-    open))
+    pending))
