@@ -86,6 +86,7 @@ pub fn kind(word: &[u8]) -> Option<Kind>
     by_name(KINDS, word)
 }
 
+// Whether R, W and X stand in permissions.
 const PERMS: &[(&[u8], (bool, bool, bool))] = &[
     (b"-", (false, false, false)),
     (b"x", (false, false, true)),
