@@ -38,6 +38,15 @@ struct Stage {
 /// How many of these entries, from the first on, are made where each one's actor has its turn, and the text of the store's calls.
 pub fn play(alloc: Global, job: &Job, entries: &[Entry]) -> Result<(usize, Vec<u8>), Memory> {
     let mut stage = Box::new(alloc, Stage::new(alloc, job)?)?;
+    play_on(alloc, &mut stage, job, entries)
+}
+
+fn play_on(
+    alloc: Global,
+    stage: &mut Stage,
+    job: &Job,
+    entries: &[Entry],
+) -> Result<(usize, Vec<u8>), Memory> {
     let played = stage.play(alloc, job, entries)?;
     let calls = print_calls(alloc, stage.store.calls())?;
     Ok((played, calls))
@@ -46,13 +55,10 @@ pub fn play(alloc: Global, job: &Job, entries: &[Entry]) -> Result<(usize, Vec<u
 impl Stage {
     fn new(alloc: Global, job: &Job) -> Result<Stage, Memory> {
         let store = new_store(alloc, job)?;
-        let mut seats = Vec::new(alloc);
-        for _ in job.scripts() {
-            seats.push(Seat::new(alloc))?;
-        }
         let tables = Box::new(alloc, Tables::new(alloc, job)?)?;
         let pass = Box::new(alloc, Pass::new(alloc)?)?;
         let machine = new_machine(alloc, job)?;
+        let seats = new_seats(alloc, job)?;
         Ok(Stage {
             machine,
             tables,
@@ -309,9 +315,18 @@ impl Stage {
 
 // The store of a job, with its plan lines.
 fn new_store(alloc: Global, job: &Job) -> Result<Box<PlannedStore>, Memory> {
-    let mut store = PlannedStore::new();
+    let mut store = Box::new(alloc, PlannedStore::new())?;
     store.plan(alloc, job.plans())?;
-    Ok(Box::new(alloc, store)?)
+    Ok(store)
+}
+
+// A seat for each processor of a job.
+fn new_seats(alloc: Global, job: &Job) -> Result<Vec<Seat>, Memory> {
+    let mut seats = Vec::new(alloc);
+    for _ in job.scripts() {
+        seats.push(Seat::new(alloc))?;
+    }
+    Ok(seats)
 }
 
 // The machine of a job.

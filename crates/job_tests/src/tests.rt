@@ -11,9 +11,11 @@ mod told;
 use enclaves::{EXPECTING, TWO};
 use grammar::WHOLE;
 use jobs::FIRST;
-use made::{MADE, bytes_of};
+use made::{MADE, Made, bytes_of};
+use std::alloc::Global;
+use std::process::Abort;
 use std::test::Fail;
-use texts::{AS_IT_IS, read_row, reads, row_in};
+use texts::{read_row, read_text, row_in};
 use told::{JOBS, Told};
 
 // Each text with the rows of what is replaced in it.
@@ -47,18 +49,20 @@ fn tables(rt: HostRuntime) -> Result<(), Fail> {
 #[test]
 fn texts_that_are_made(rt: HostRuntime) -> Result<(), Fail> {
     for (what, text, want) in MADE {
-        let bytes = bytes_of(rt.alloc(), text)?;
-        reads(
-            &rt,
-            rt.alloc(),
-            &bytes,
-            &AS_IT_IS,
-            &Told::Anything,
-            what,
-            want,
-        )?;
+        read_made(&rt, rt.alloc(), text, what, want)?;
     }
     Ok(())
+}
+
+fn read_made(
+    rt: &impl Abort,
+    alloc: Global,
+    text: &Made,
+    what: &str,
+    want: &str,
+) -> Result<(), Fail> {
+    let bytes = bytes_of(alloc, text)?;
+    read_text(rt, alloc, &bytes, what, want)
 }
 
 #[test]

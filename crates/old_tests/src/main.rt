@@ -3,9 +3,6 @@
 // is no such file: a missing one, a folder and an empty path.
 #![tactic(auto)]
 
-#[cfg(test)]
-mod endless;
-
 use io_edges::mem_sink::MemSink;
 use io_edges::mem_source::MemSource;
 use io_edges::std_edges::StdSource;
@@ -49,29 +46,57 @@ fn tell_trace(rt: &HostRuntime, name: &str) -> io::Result<()> {
     println!(rt; "{name}")?;
     let trace = read(rt, name, ".trace")?;
     let text = read(rt, job_name(name), ".job")?;
-    let Ok(job) = read_job(rt.alloc(), &text) else {
-        return println!(rt; "no job");
-    };
-    let Some(whole) = told(rt.alloc(), &job, &trace, 1 << 20) else {
-        return println!(rt; "nothing");
-    };
+    match read_job(rt.alloc(), &text) {
+        Ok(job) => tell_job(rt, &job, &trace),
+        Err(_) => println!(rt; "no job"),
+    }
+}
+
+fn tell_job(rt: &HostRuntime, job: &Job, trace: &[u8]) -> io::Result<()> {
+    match told(rt.alloc(), job, trace, 1 << 20) {
+        Some(whole) => tell_whole(rt, job, trace, &whole),
+        None => println!(rt; "nothing"),
+    }
+}
+
+// The text on a trace that is read as a whole.
+fn tell_whole(rt: &HostRuntime, job: &Job, trace: &[u8], whole: &[u8]) -> io::Result<()> {
     for size in [1, 7] {
-        if told(rt.alloc(), &job, &trace, size).as_deref() != Some(whole.as_slice()) {
+        if !is_told(rt.alloc(), job, trace, size, whole) {
             println!(rt; "in pieces of {size} another answer")?;
         }
     }
-    match str::from_utf8(&whole) {
+    match str::from_utf8(whole) {
         Ok(lines) => print!(rt; "{lines}"),
         Err(_) => println!(rt; "no text"),
     }
 }
 
+fn is_told(alloc: Global, job: &Job, trace: &[u8], size: usize, whole: &[u8]) -> bool {
+    match told(alloc, job, trace, size) {
+        Some(text) => text.as_slice() == whole,
+        None => false,
+    }
+}
+
 // The text on a trace of a job, which is read in pieces of a size. None where there is none.
 fn told(alloc: Global, job: &Job, trace: &[u8], size: usize) -> Option<Vec<u8>> {
-    let mut source = MemSource::new(alloc, trace, size.max(1), &[]).ok()?;
     let mut out = MemSink::new(alloc, 16, &[]).ok()?;
-    give(alloc, job, &mut source, &mut out).ok()?;
-    out.bytes().to_vec(alloc).ok()
+    match give_text(alloc, job, trace, size, &mut out) {
+        Ok(()) => out.bytes().to_vec(alloc).ok(),
+        Err(_) => None,
+    }
+}
+
+fn give_text(
+    alloc: Global,
+    job: &Job,
+    trace: &[u8],
+    size: usize,
+    out: &mut MemSink,
+) -> Result<(), Ungiven> {
+    let mut source = MemSource::new(alloc, trace, size.max(1), &[])?;
+    give(alloc, job, &mut source, out)
 }
 
 fn give(

@@ -1,6 +1,7 @@
 //! Texts that are given, and words that are read.
 
 mod building;
+mod endless;
 mod paging;
 mod pieces;
 mod rows;

@@ -45,10 +45,20 @@ fn tell(rt: &HostRuntime, mode: Mode, path: &str) -> io::Result<()> {
 
 fn tell_text(rt: &HostRuntime, path: &str, bytes: &[u8], in_pieces: bool) -> io::Result<()> {
     let told = read_trace(rt.alloc(), bytes);
-    if in_pieces && !are_alike(rt.alloc(), bytes, &told) {
+    tell_told(rt, path, bytes, in_pieces, &told)
+}
+
+fn tell_told(
+    rt: &HostRuntime,
+    path: &str,
+    bytes: &[u8],
+    in_pieces: bool,
+    told: &Result<Vec<Entry>, TraceRefusal>,
+) -> io::Result<()> {
+    if in_pieces && !are_alike(rt.alloc(), bytes, told) {
         println!(rt; "{path}: in pieces another answer")?;
     }
-    match &told {
+    match told {
         Ok(entries) if !in_pieces || is_printed(rt.alloc(), entries, bytes) => {
             println!(rt; "{path}: {} entries", entries.len())
         }
@@ -80,22 +90,35 @@ fn is_refused(alloc: Global, front: &[u8], fault: TraceRefusal) -> bool {
 // Whether a reader in pieces of 1 byte that finds a fault answers it again at each later call. The line that is cut has its fault at
 // its line feed, since a space stands before it.
 fn is_kept(alloc: Global, front: &[u8], fault: TraceRefusal) -> bool {
-    let Ok(text) = with_a_faulty_line(alloc, front) else {
-        return false;
-    };
+    match with_a_faulty_line(alloc, front) {
+        Ok(text) => is_answered_again(alloc, &text, front.len(), fault),
+        Err(_) => false,
+    }
+}
+
+fn is_answered_again(alloc: Global, text: &[u8], last: usize, fault: TraceRefusal) -> bool {
     let mut reader = TraceReader::new(alloc);
+    let is_so = is_answered_behind(alloc, &mut reader, text, last, fault);
+    let ends = reader.finish().err();
+    is_so && ends == Some(fault)
+}
+
+// Whether the fault is the answer to each byte behind the last good one.
+fn is_answered_behind(
+    alloc: Global,
+    reader: &mut TraceReader,
+    text: &[u8],
+    last: usize,
+    fault: TraceRefusal,
+) -> bool {
     for (count, piece) in text.chunks(1).enumerate() {
         let told = reader.feed(alloc, piece);
-        let want = if count <= front.len() {
-            Ok(())
-        } else {
-            Err(fault)
-        };
+        let want = if count <= last { Ok(()) } else { Err(fault) };
         if told != want {
             return false;
         }
     }
-    reader.finish().err() == Some(fault)
+    true
 }
 
 // A front of a text, whose cut line goes on with a space and a line feed, and one line more.
@@ -126,14 +149,32 @@ fn read_pieces(alloc: Global, bytes: &[u8], size: usize) -> Result<Vec<Entry>, T
 
 fn are_alike(alloc: Global, bytes: &[u8], told: &Result<Vec<Entry>, TraceRefusal>) -> bool {
     for size in [1, 2, 7] {
-        let is_same = match (read_pieces(alloc, bytes, size), told) {
-            (Ok(entries), Ok(others)) => entries.as_slice() == others.as_slice(),
-            (Err(refusal), Err(other)) => refusal == *other,
-            _ => false,
-        };
-        if !is_same {
+        if !is_alike(alloc, bytes, size, told) {
             return false;
         }
     }
     true
+}
+
+fn is_alike(
+    alloc: Global,
+    bytes: &[u8],
+    size: usize,
+    told: &Result<Vec<Entry>, TraceRefusal>,
+) -> bool
+    requires { 0 < size }
+{
+    let read = read_pieces(alloc, bytes, size);
+    is_same(&read, told)
+}
+
+fn is_same(
+    read: &Result<Vec<Entry>, TraceRefusal>,
+    told: &Result<Vec<Entry>, TraceRefusal>,
+) -> bool {
+    match (read, told) {
+        (Ok(entries), Ok(others)) => entries.as_slice() == others.as_slice(),
+        (Err(refusal), Err(other)) => *refusal == *other,
+        _ => false,
+    }
 }

@@ -25,14 +25,14 @@ pub fn row_in(text: &str) -> Result<Row<'_>, Fail> {
 }
 
 // How a text is spelled: the line before it, the byte before each line feed, and how many lines it has more.
-pub struct Way {
+struct Way {
     how: &'static str,
     comment: &'static str,
     has_returns: bool,
     lines: u32,
 }
 
-pub const AS_IT_IS: Way = Way {
+const AS_IT_IS: Way = Way {
     how: "as it is",
     comment: "",
     has_returns: false,
@@ -66,39 +66,47 @@ fn push_part(bytes: &mut Vec<u8>, part: &str, has_returns: bool) -> Result<(), A
 }
 
 // A job's text with one part of it replaced.
-fn replaced(alloc: Global, text: &str, old: &str, new: &str, way: &Way) -> Result<Vec<u8>, Fail> {
-    let (front, back) = text.split_once(old).ok_or("the part stands in the text")?;
+fn push_replaced(bytes: &mut Vec<u8>, text: &str, row: &Row, way: &Way) -> Result<(), Fail> {
+    let (_, old, new, _) = row;
+    let (front, back) = text.split_once(*old).ok_or("the part stands in the text")?;
+    push_part(bytes, way.comment, way.has_returns)?;
+    push_part(bytes, front, way.has_returns)?;
+    push_part(bytes, new, way.has_returns)?;
+    push_part(bytes, back, way.has_returns)?;
+    Ok(())
+}
+
+fn replaced(alloc: Global, text: &str, row: &Row, way: &Way) -> Result<Vec<u8>, Fail> {
     let mut bytes = Vec::new(alloc);
-    push_part(&mut bytes, way.comment, way.has_returns)?;
-    push_part(&mut bytes, front, way.has_returns)?;
-    push_part(&mut bytes, new, way.has_returns)?;
-    push_part(&mut bytes, back, way.has_returns)?;
+    push_replaced(&mut bytes, text, row, way)?;
     Ok(bytes)
 }
 
-// What a text gives, by its lines without those that the way has more.
-fn given(
-    rt: &impl Abort,
-    alloc: Global,
-    text: &[u8],
-    way: &Way,
-    told: &Told,
-) -> Result<String, Fail> {
+// Why a text is no job. A job that is read tells what it is to.
+fn refused(rt: &impl Abort, alloc: Global, text: &[u8], told: &Told) -> Option<JobRefusal> {
     match read_job(alloc, text) {
         Ok(job) => {
             tells(rt, &job, told);
-            Ok("Read".to_string(alloc)?)
+            None
         }
-        Err(JobRefusal::Fault { line, kind }) => Ok(format!(in alloc;
+        Err(refusal) => Some(refusal),
+    }
+}
+
+// What a text gives, by its lines without those that the way has more.
+fn spelled(alloc: Global, refused: Option<JobRefusal>, way: &Way) -> Result<String, Fail> {
+    match refused {
+        None => Ok("Read".to_string(alloc)?),
+        Some(JobRefusal::Fault { line, kind }) => Ok(format!(in alloc;
             "{} {kind:?}",
             line.saturating_sub(way.lines)
         )?),
-        Err(JobRefusal::Memory) => Err("there was no memory".into()),
+        Some(JobRefusal::Memory) => Err("there was no memory".into()),
     }
 }
 
 // Reads a text: what it gives, and what the job tells.
-pub fn reads(
+fn reads(
     rt: &impl Abort,
     alloc: Global,
     text: &[u8],
@@ -107,12 +115,36 @@ pub fn reads(
     what: &str,
     want: &str,
 ) -> Result<(), Fail> {
-    let given = given(rt, alloc, text, way, told)?;
+    let given = spelled(alloc, refused(rt, alloc, text, told), way)?;
     assert_eq!(rt; given.as_str(), want, "{what}, {}", way.how);
     Ok(())
 }
 
-// Reads a text with a part replaced, as it is, with carriage returns, and behind a comment line.
+// Reads a text as it is.
+pub fn read_text(
+    rt: &impl Abort,
+    alloc: Global,
+    text: &[u8],
+    what: &str,
+    want: &str,
+) -> Result<(), Fail> {
+    reads(rt, alloc, text, &AS_IT_IS, &Told::Anything, what, want)
+}
+
+// Reads a text with a part replaced, in one of the ways.
+fn read_in_a_way(
+    rt: &impl Abort,
+    alloc: Global,
+    text: &str,
+    row: &Row,
+    told: &Told,
+    way: &Way,
+) -> Result<(), Fail> {
+    let bytes = replaced(alloc, text, row, way)?;
+    reads(rt, alloc, &bytes, way, told, row.0, row.3)
+}
+
+// .. as it is, with carriage returns, and behind a comment line.
 pub fn read_row(
     rt: &impl Abort,
     alloc: Global,
@@ -120,10 +152,8 @@ pub fn read_row(
     row: &Row,
     told: &Told,
 ) -> Result<(), Fail> {
-    let (what, old, new, want) = row;
     for way in WAYS {
-        let bytes = replaced(alloc, text, old, new, way)?;
-        reads(rt, alloc, &bytes, way, told, what, want)?;
+        read_in_a_way(rt, alloc, text, row, told, way)?;
     }
     Ok(())
 }

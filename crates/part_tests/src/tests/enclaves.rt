@@ -14,23 +14,25 @@ const WRITABLE: Perm = Perm {
     x: false,
 };
 
+// A base, a size, and whether an enclave may have them.
+const RANGES: &[(u64, u64, bool)] = &[
+    (0, 8192, true),
+    (0x4000, 8192, true),
+    (0x1000, 8192, false),
+    (0, 4096, false),
+    (0x1000_0000, 1 << 24, true),
+    (0, 1 << 25, false),
+    (0x3000, 0x3000, false),
+    (0, 0, false),
+    (u64::MAX - 0xffff, 0x1_0000, true),
+];
+
 #[test]
 fn ranges_are_powers_of_two_at_their_multiples(rt: HostRuntime) {
-    let rows = [
-        (0, 8192, true),
-        (0x4000, 8192, true),
-        (0x1000, 8192, false),
-        (0, 4096, false),
-        (0x1000_0000, 1 << 24, true),
-        (0, 1 << 25, false),
-        (0x3000, 0x3000, false),
-        (0, 0, false),
-        (u64::MAX - 0xffff, 0x1_0000, true),
-    ];
-    for (base, size, lawful) in rows {
+    for (base, size, lawful) in RANGES {
         assert_eq!(rt;
-            is_lawful(base, size),
-            lawful,
+            is_lawful(*base, *size),
+            *lawful,
             "{size} bytes from {base} on"
         );
     }
@@ -45,9 +47,10 @@ fn keeps_each_page_by_its_number(rt: HostRuntime) -> Result<(), Fail> {
         (3, 0x1_0000, 0x1_0000)
     );
     secs.note_added(2, Kind::Reg, WRITABLE);
-    assert_eq!(rt; secs.added(2), Some((Kind::Reg, WRITABLE)));
-    assert_eq!(rt; secs.added(1), None);
-    assert_eq!(rt; secs.added(16), None);
+    assert_eq!(rt;
+        (secs.added(2), secs.added(1), secs.added(16)),
+        (Some((Kind::Reg, WRITABLE)), None, None)
+    );
     secs.take_tcs(2);
     assert_eq!(rt;
         (secs.tcs_busy(2), secs.tcs_busy(1), secs.tcs_busy(16)),

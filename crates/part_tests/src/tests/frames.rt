@@ -4,6 +4,7 @@ use epcm_entry::entry_view::EntryView;
 use epcm_entry::epc::Epc;
 use sgx_rules::refusals::Refusal;
 use sgx_types::names::{Frame, Kind, Page, Perm};
+use std::alloc::Global;
 use std::process::Abort;
 use std::test::Fail;
 
@@ -31,31 +32,44 @@ fn free(rt: &impl Abort, epc: &mut Epc, number: u32) {
 }
 
 // Frames, those taken from 0 on, those of them given back, and then the least free frame and the number of free ones.
+type Row = (u32, u32, &'static [u32], (Option<Frame>, u32));
+
+const ROWS: &[Row] = &[
+    (0, 0, &[], (None, 0)),
+    (1, 0, &[], (Some(Frame(0)), 1)),
+    (1, 1, &[], (None, 0)),
+    (64, 63, &[], (Some(Frame(63)), 1)),
+    (64, 64, &[], (None, 0)),
+    (65, 64, &[], (Some(Frame(64)), 1)),
+    (200, 200, &[199, 130], (Some(Frame(130)), 2)),
+    (200, 128, &[127, 64], (Some(Frame(64)), 74)),
+    (4096, 4096, &[4095], (Some(Frame(4095)), 1)),
+    (4096, 4095, &[0], (Some(Frame(0)), 2)),
+];
+
+fn take_and_free(rt: &impl Abort, epc: &mut Epc, taken: u32, freed: &[u32]) {
+    for number in 0..taken {
+        hold_page(rt, epc, number);
+    }
+    for number in freed {
+        free(rt, epc, *number);
+    }
+}
+
+fn finds_the_least(rt: &impl Abort, alloc: Global, row: &Row) -> Result<(), Fail> {
+    let (frames, taken, freed, least) = row;
+    assert!(rt; *frames <= 4096);
+    let mut epc = Epc::new(alloc, *frames)?;
+    take_and_free(rt, &mut epc, *taken, freed);
+    let found = (epc.first_free(), epc.free_count());
+    assert_eq!(rt; found, *least, "{frames} frames, {taken} taken");
+    Ok(())
+}
+
 #[test]
 fn finds_the_least_free_frame(rt: HostRuntime) -> Result<(), Fail> {
-    let rows: [(u32, u32, &[u32], Option<Frame>, u32); 10] = [
-        (0, 0, &[], None, 0),
-        (1, 0, &[], Some(Frame(0)), 1),
-        (1, 1, &[], None, 0),
-        (64, 63, &[], Some(Frame(63)), 1),
-        (64, 64, &[], None, 0),
-        (65, 64, &[], Some(Frame(64)), 1),
-        (200, 200, &[199, 130], Some(Frame(130)), 2),
-        (200, 128, &[127, 64], Some(Frame(64)), 74),
-        (4096, 4096, &[4095], Some(Frame(4095)), 1),
-        (4096, 4095, &[0], Some(Frame(0)), 2),
-    ];
-    for (frames, taken, freed, first, count) in rows {
-        assert!(rt; frames <= 4096);
-        let mut epc = Epc::new(rt.alloc(), frames)?;
-        for number in 0..taken {
-            hold_page(&rt, &mut epc, number);
-        }
-        for number in freed {
-            free(&rt, &mut epc, *number);
-        }
-        assert_eq!(rt; epc.first_free(), first, "{frames} frames, {taken} taken");
-        assert_eq!(rt; epc.free_count(), count, "{frames} frames, {taken} taken");
+    for row in ROWS {
+        finds_the_least(&rt, rt.alloc(), row)?;
     }
     Ok(())
 }
