@@ -1,7 +1,9 @@
 //! What the auditor says of a trace and of the wrong ones beside it, against what is told of them.
 
 use crate::wrong::Wrong;
+use job_grammar::jobs::Job;
 use job_text::reader::read_job;
+use sgx_rules::entries::Entry;
 use sgx_types::names::Memory;
 use std::alloc::Global;
 use trace_auditor::audit::audit;
@@ -32,32 +34,64 @@ pub fn compare(
     job: &[u8],
     trace: &[u8],
     wrong: &[u8],
-) -> Result<Option<Report>, Memory> {
-    let (Ok(job), Ok(right), Ok(wrong)) = (
-        read_job(alloc, job),
-        read_trace(alloc, trace),
-        str::from_utf8(wrong),
-    ) else {
+) -> Result<Option<Box<Report>>, Memory> {
+    let Ok(job) = read_job(alloc, job) else {
         return Ok(None);
     };
-    let mut report = Report {
-        right: audit(alloc, &job, &right)?,
+    // In a box, as the report is: dropping either is dear to check wherever its owner can end.
+    let job = Box::new(alloc, job)?;
+    compare_with(alloc, &job, trace, wrong)
+}
+
+fn compare_with(
+    alloc: Global,
+    job: &Job,
+    trace: &[u8],
+    wrong: &[u8],
+) -> Result<Option<Box<Report>>, Memory> {
+    let Ok(right) = read_trace(alloc, trace) else {
+        return Ok(None);
+    };
+    let Ok(wrong) = str::from_utf8(wrong) else {
+        return Ok(None);
+    };
+    let report = Report {
+        right: audit(alloc, job, &right)?,
         all: 0,
         others: Vec::new(alloc),
     };
-    for text in wrong.split("\n\n").filter(|text| !text.is_empty()) {
-        let Some(wrong) = Wrong::read(alloc, text)? else {
-            return Ok(None);
-        };
-        let found = audit(alloc, &job, &wrong.entries(alloc, &right)?)?;
-        report.add(wrong, found)?;
-    }
-    Ok(Some(report))
+    let mut report = Box::new(alloc, report)?;
+    let is_read = report.add_all(alloc, job, &right, wrong)?;
+    Ok(if is_read { Some(report) } else { None })
 }
 
 impl Report {
-    // What the auditor found of a wrong trace.
-    fn add(&mut self, wrong: Wrong, found: Verdict) -> Result<(), Memory> {
+    // Each wrong trace of a text. Whether all of them could be read.
+    fn add_all(
+        &mut self,
+        alloc: Global,
+        job: &Job,
+        right: &[Entry],
+        wrong: &str,
+    ) -> Result<bool, Memory> {
+        for text in wrong.split("\n\n").filter(|text| !text.is_empty()) {
+            let Some(wrong) = Wrong::read(alloc, text)? else {
+                return Ok(false);
+            };
+            self.add(alloc, job, right, wrong)?;
+        }
+        Ok(true)
+    }
+
+    // A wrong trace, and what the auditor finds of it.
+    fn add(
+        &mut self,
+        alloc: Global,
+        job: &Job,
+        right: &[Entry],
+        wrong: Wrong,
+    ) -> Result<(), Memory> {
+        let found = found_in(alloc, job, right, &wrong)?;
         self.all = self.all.saturating_add(1);
         let Wrong { what, told, .. } = wrong;
         if found != told {
@@ -65,4 +99,9 @@ impl Report {
         }
         Ok(())
     }
+}
+
+fn found_in(alloc: Global, job: &Job, right: &[Entry], wrong: &Wrong) -> Result<Verdict, Memory> {
+    let entries = wrong.entries(alloc, right)?;
+    audit(alloc, job, &entries)
 }

@@ -12,17 +12,21 @@ use verdicts::Shown;
 
 fn main(rt: HostRuntime) -> io::Result<()> {
     for name in env::args(&rt)?.skip(1) {
-        let name = name.as_str();
-        let job = read(&rt, name, ".job")?;
-        let trace = read(&rt, name, ".trace")?;
-        let wrong = read(&rt, name, ".wrong")?;
-        match compare(rt.alloc(), &job, &trace, &wrong) {
-            Ok(Some(report)) => print(&rt, name, &report)?,
-            Ok(None) => println!(rt; "{name}: no job, no trace, or no wrong traces")?,
-            Err(_) => println!(rt; "{name}: no memory")?,
-        }
+        tell(&rt, name.as_str())?;
     }
     Ok(())
+}
+
+// Audits the traces of that name.
+fn tell(rt: &HostRuntime, name: &str) -> io::Result<()> {
+    let job = read(rt, name, ".job")?;
+    let trace = read(rt, name, ".trace")?;
+    let wrong = read(rt, name, ".wrong")?;
+    match compare(rt.alloc(), &job, &trace, &wrong) {
+        Ok(Some(report)) => print(rt, name, &report),
+        Ok(None) => println!(rt; "{name}: no job, no trace, or no wrong traces"),
+        Err(_) => println!(rt; "{name}: no memory"),
+    }
 }
 
 // A file of this name.

@@ -10,6 +10,7 @@ use backing_store::planned_store::PlannedStore;
 use job_text::reader::read_job;
 use run_jobs::ends::{End, end_of};
 use run_turns::book::Book;
+use sgx_rules::entries::Entry;
 use sgx_types::names::Memory;
 use std::alloc::Global;
 use std::{env, fs, io};
@@ -18,54 +19,70 @@ use trace_text::trace::print_trace;
 use turning::{Work, run};
 
 fn main(rt: HostRuntime) -> io::Result<()> {
-    let mut how = Work::Given;
-    let mut tells_ends = false;
+    let mut way = Way::Traces(Work::Given);
     for name in env::args(&rt)?.skip(1) {
-        if name.as_str() == "zeros" {
-            how = Work::Zeros;
-            continue;
-        }
-        if name.as_str() == "ends" {
-            tells_ends = true;
-            continue;
-        }
-        println!(rt; "{name}")?;
-        let path = format!(in rt.alloc(); "{name}.job")?;
-        let job = fs::read(&rt, path.as_str())?;
-        if tells_ends {
-            match how_it_ended(rt.alloc(), &job) {
-                Ok(end) => println!(rt; "{end}")?,
-                Err(Memory) => println!(rt; "no memory")?,
-            }
-            continue;
-        }
-        match trace_of(rt.alloc(), &job, how) {
-            Ok(Some(trace)) => print_lines(&rt, &trace)?,
-            Ok(None) => println!(rt; "no job")?,
-            Err(Memory) => println!(rt; "no memory")?,
-        }
+        way = tell(&rt, name.as_str(), way)?;
     }
     Ok(())
 }
 
-// The trace of a job's run by rounds. None where the text is no job's.
-fn trace_of(alloc: Global, text: &[u8], how: Work) -> Result<Option<Vec<u8>>, Memory> {
+// What is told of each job.
+#[derive(Clone, Copy)]
+enum Way {
+    /// The trace, where the work is done so.
+    Traces(Work),
+
+    /// How the run ends.
+    Ends,
+}
+
+// Tells of the job of that name, unless it is the name of a way. The way in which the next is told.
+fn tell(rt: &HostRuntime, name: &str, way: Way) -> io::Result<Way> {
+    match name {
+        "zeros" => Ok(Way::Traces(Work::Zeros)),
+        "ends" => Ok(Way::Ends),
+        _ => {
+            println!(rt; "{name}")?;
+            tell_job(rt, &read(rt, name)?, way)?;
+            Ok(way)
+        }
+    }
+}
+
+fn read(rt: &HostRuntime, name: &str) -> io::Result<Vec<u8>> {
+    let path = format!(in rt.alloc(); "{name}.job")?;
+    fs::read(rt, path.as_str())
+}
+
+fn tell_job(rt: &HostRuntime, job: &[u8], way: Way) -> io::Result<()> {
+    let how = match way {
+        Way::Traces(how) => how,
+        Way::Ends => Work::Given,
+    };
+    match book_of(rt.alloc(), job, how) {
+        Ok(Some(book)) => match way {
+            Way::Traces(_) => print_trace_of(rt, book.entries()),
+            Way::Ends => println!(rt; "{}", name_of(end_of(book.entries()))),
+        },
+        Ok(None) => println!(rt; "no job"),
+        Err(Memory) => println!(rt; "no memory"),
+    }
+}
+
+// The book of a job behind its run by rounds. None where the text is no job's. It is in a box, since dropping it is dear to check wherever
+// its owner can end.
+fn book_of(
+    alloc: Global,
+    text: &[u8],
+    how: Work,
+) -> Result<Option<Box<Book<PlannedStore>>>, Memory> {
     let Ok(job) = read_job(alloc, text) else {
         return Ok(None);
     };
-    let mut book = Book::start(alloc, job, PlannedStore::new())?;
-    run(alloc, &mut book, how)?;
-    Ok(Some(print_trace(alloc, book.entries())?))
-}
-
-// How a job's run by rounds ends.
-fn how_it_ended(alloc: Global, text: &[u8]) -> Result<&'static str, Memory> {
-    let Ok(job) = read_job(alloc, text) else {
-        return Ok("no job");
-    };
-    let mut book = Book::start(alloc, job, PlannedStore::new())?;
-    run(alloc, &mut book, Work::Given)?;
-    Ok(name_of(end_of(book.entries())))
+    let book = Book::start(alloc, job, PlannedStore::new())?;
+    let mut book = Box::new(alloc, book)?;
+    run(alloc, &mut *book, how)?;
+    Ok(Some(book))
 }
 
 fn name_of(end: End) -> &'static str {
@@ -76,8 +93,11 @@ fn name_of(end: End) -> &'static str {
     }
 }
 
-fn print_lines(rt: &HostRuntime, trace: &[u8]) -> io::Result<()> {
-    let Ok(text) = str::from_utf8(trace) else {
+fn print_trace_of(rt: &HostRuntime, entries: &[Entry]) -> io::Result<()> {
+    let Ok(trace) = print_trace(rt.alloc(), entries) else {
+        return println!(rt; "no memory");
+    };
+    let Ok(text) = str::from_utf8(&trace) else {
         return Ok(());
     };
     for line in text.lines() {

@@ -10,6 +10,8 @@ mod calls;
 #[cfg(test)]
 mod cut_jobs;
 #[cfg(test)]
+mod facts;
+#[cfg(test)]
 mod fault_tests;
 #[cfg(test)]
 mod gate_tests;
@@ -28,7 +30,7 @@ mod word_tests;
 #[cfg(test)]
 mod worked_runs;
 
-use calls::{RUN, given_by};
+use calls::{Call, RUN, WELL, called};
 use sgx_types::names::Memory;
 use std::sync::Wait;
 use std::thread::Threads;
@@ -45,10 +47,17 @@ fn main(rt: HostRuntime) -> io::Result<()> {
 fn run<R: Threads + Wait + Sync>(rt: &HostRuntime, waits: &R, name: &str) -> io::Result<()> {
     let path = format!(in rt.alloc(); "{name}.job")?;
     let job = fs::read(rt, path.as_str())?;
-    match given_by(waits, rt.alloc(), RUN, &job, 1000, [&[], &[], &[]]) {
+    let call = Call {
+        words: RUN,
+        job: &[job.as_slice()],
+        old: &[],
+        piece: 1000,
+        fails: WELL,
+    };
+    match called(waits, rt.alloc(), &call) {
         Ok(given) => {
             println!(rt; "{name} {}", given.status.code())?;
-            print_lines(rt, &given.out)
+            print_lines(rt, given.out.bytes())
         }
         Err(Memory) => println!(rt; "{name}: no memory"),
     }

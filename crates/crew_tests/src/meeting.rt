@@ -26,6 +26,16 @@ impl Meeting {
         }
     }
 
+    /// Whether each of the two came, whether one gave up, and how many are inside.
+    pub fn counts(&self) -> [u64; 4] {
+        [
+            self.came[0].load(Ordering::SeqCst),
+            self.came[1].load(Ordering::SeqCst),
+            self.late.load(Ordering::SeqCst),
+            self.inside.load(Ordering::SeqCst),
+        ]
+    }
+
     fn meet(&self, me: usize, other: usize)
         requires { (me < 2) × (other < 2) }
     {

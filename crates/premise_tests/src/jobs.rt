@@ -1,5 +1,6 @@
-//! The jobs that are run, and what the store of each does.
+//! The jobs that are run, what the store of each does, and what is told of its records.
 
+use crate::report::{Fault, Report};
 use sgx_types::names::PAGE_BYTES;
 use std::alloc::{AllocError, Global};
 use std::fmt::Write;
@@ -10,6 +11,17 @@ pub struct Row {
     pub name: &'static str,
     pub plan: &'static str,
     pub work: Work,
+    pub gifts: Gifts,
+    pub told: Report,
+}
+
+/// What is looked at.
+#[derive(Clone, Copy, PartialEq, Eq)]
+pub enum Gifts {
+    AsGiven,
+
+    /// The first record is replaced by a forged one.
+    OneForged,
 }
 
 /// What a job's processors do.
@@ -22,45 +34,104 @@ pub enum Work {
     TwoLoads,
 }
 
-pub const ROWS: &[Row] = &[
-    Row {
-        name: "newest records",
-        plan: "",
-        work: Work::FortyPages,
+/// Long runs.
+pub const NEWEST: Row = Row {
+    name: "newest records",
+    plan: "",
+    work: Work::FortyPages,
+    gifts: Gifts::AsGiven,
+    told: Report {
+        put: 114,
+        given: 82,
+        opened: 82,
+        elsewhere: 0,
+        fault: None,
     },
-    Row {
-        name: "an older record",
-        plan: "store replay A 2 2 1\n",
-        work: Work::FortyPages,
+};
+
+pub const OLDER: Row = Row {
+    name: "an older record",
+    plan: "store replay A 2 2 1\n",
+    work: Work::FortyPages,
+    gifts: Gifts::AsGiven,
+    told: Report {
+        put: 75,
+        given: 43,
+        opened: 42,
+        elsewhere: 1,
+        fault: None,
     },
+};
+
+pub const NO_ROOM: Row = Row {
+    name: "no room once",
+    plan: "store fail room 1\n",
+    work: Work::FortyPages,
+    gifts: Gifts::AsGiven,
+    told: Report {
+        put: 114,
+        given: 82,
+        opened: 82,
+        elsewhere: 0,
+        fault: None,
+    },
+};
+
+/// Short runs. Of the last a record is forged.
+pub const SHORT: &[Row] = &[
     Row {
         name: "a flipped bit",
         plan: "store flip A 2 1 192\n",
         work: Work::FortyPages,
+        gifts: Gifts::AsGiven,
+        told: Report {
+            put: 36,
+            given: 3,
+            opened: 2,
+            elsewhere: 0,
+            fault: None,
+        },
     },
     Row {
         name: "two pages swapped",
         plan: "store swap A 2 A 3\n",
         work: Work::TwoLoads,
+        gifts: Gifts::AsGiven,
+        told: Report {
+            put: 37,
+            given: 4,
+            opened: 2,
+            elsewhere: 2,
+            fault: None,
+        },
     },
     Row {
         name: "a get that fails",
         plan: "store fail get 3\n",
         work: Work::FortyPages,
+        gifts: Gifts::AsGiven,
+        told: Report {
+            put: 36,
+            given: 2,
+            opened: 2,
+            elsewhere: 0,
+            fault: None,
+        },
     },
     Row {
-        name: "no room once",
-        plan: "store fail room 1\n",
-        work: Work::FortyPages,
+        name: "a forged record",
+        plan: "",
+        work: Work::TwoLoads,
+        gifts: Gifts::OneForged,
+        told: Report {
+            put: 39,
+            given: 4,
+            opened: 4,
+            elsewhere: 0,
+            fault: Some(Fault::Forged { given: 0, put: 0 }),
+        },
     },
 ];
-
-/// The job of which a record is forged.
-pub const FORGED: Row = Row {
-    name: "a forged record",
-    plan: "",
-    work: Work::TwoLoads,
-};
 
 // An enclave of 42 pages, for 10 frames beside its control page and the slots.
 const ENCLAVE: &str =

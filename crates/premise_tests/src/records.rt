@@ -37,60 +37,80 @@ pub fn records_of(
     alloc: Global,
     entries: &[Entry],
     store: &PlannedStore,
-) -> Result<Option<Records>, Memory> {
-    let puts = store.puts();
-    let versions = versions_of(alloc, entries)?;
-    let loads = loads_of(alloc, entries)?;
-    let gifts = gifts_of(alloc, store.calls())?;
-    if versions.len() != puts.len() || loads.len() != gifts.len() {
-        return Ok(None);
-    }
-    let mut made = Vec::new(alloc);
-    for (version, rec) in versions.iter().zip(puts) {
-        made.push(Made {
-            version: *version,
-            rec: copy_of(alloc, rec, None)?,
-        })?;
-    }
-    let mut given = Vec::new(alloc);
-    for (load, gift) in loads.iter().zip(&gifts) {
-        let Some(rec) = puts.get(gift.put as usize) else {
-            return Ok(None);
-        };
-        given.push(Given {
-            version: load.version,
-            before: load.before,
-            rec: copy_of(alloc, rec, gift.flipped)?,
-        })?;
-    }
-    Ok(Some(Records { made, given }))
+) -> Result<Option<Box<Records>>, Memory> {
+    let mut records = Box::new(
+        alloc,
+        Records {
+            made: Vec::new(alloc),
+            given: Vec::new(alloc),
+        },
+    )?;
+    let is_whole = records.add_made(alloc, entries, store.puts())?
+        && records.add_given(alloc, entries, store)?;
+    Ok(if is_whole { Some(records) } else { None })
 }
 
-/// Puts a forged record in place of the first that was given: that of another page, sealed under the version that was asked for.
-pub fn forge(alloc: Global, key: &[u8; 32], records: &mut Records) -> Result<(), Memory> {
-    let Some(given) = records.given.first_mut() else {
-        return Ok(());
-    };
-    let mut work = SealWork::new(alloc)?;
-    let own_key = *key;
-    work.key = own_key;
-    work.version = given.version;
-    work.header = given.rec.header;
-    work.plain[0] = 255;
-    let SealedWork { rec, .. } = seal(work);
-    given.rec = rec;
-    Ok(())
-}
-
-// The versions of the pages that went out.
-fn versions_of(alloc: Global, entries: &[Entry]) -> Result<Vec<u64>, Memory> {
-    let mut versions = Vec::new(alloc);
-    for entry in entries {
-        if let Some(version) = version_out(entry) {
-            versions.push(version)?;
+impl Records {
+    // Each page that went out, with the record that was put. Whether there are as many of both.
+    fn add_made(
+        &mut self,
+        alloc: Global,
+        entries: &[Entry],
+        puts: &[Record],
+    ) -> Result<bool, Memory> {
+        for entry in entries {
+            if let Some(version) = version_out(entry) {
+                let Some(rec) = puts.get(self.made.len()) else {
+                    return Ok(false);
+                };
+                let rec = copy_of(alloc, rec, None)?;
+                self.made.push(Made { version, rec })?;
+            }
         }
+        Ok(self.made.len() == puts.len())
     }
-    Ok(versions)
+
+    // Each load that was started, with the record that the store gave. Whether there are as many of both.
+    fn add_given(
+        &mut self,
+        alloc: Global,
+        entries: &[Entry],
+        store: &PlannedStore,
+    ) -> Result<bool, Memory> {
+        let mut before = 0usize;
+        for entry in entries {
+            if version_out(entry).is_some() {
+                before = before.saturating_add(1);
+            }
+            if let Some(version) = version_in(entry) {
+                let Some(rec) = record_given(alloc, store, self.given.len())? else {
+                    return Ok(false);
+                };
+                self.given.push(Given {
+                    version,
+                    before,
+                    rec,
+                })?;
+            }
+        }
+        Ok(nth_gift(store.calls(), self.given.len()).is_none())
+    }
+
+    /// Puts a forged record in place of the first that was given: that of another page, sealed under the version that was asked for.
+    pub fn forge(&mut self, alloc: Global, key: &[u8; 32]) -> Result<(), Memory> {
+        let Some(given) = self.given.first_mut() else {
+            return Ok(());
+        };
+        let mut work = SealWork::new(alloc)?;
+        let own_key = *key;
+        work.key = own_key;
+        work.version = given.version;
+        work.header = given.rec.header;
+        work.plain[0] = 255;
+        let SealedWork { rec, .. } = seal(work);
+        given.rec = rec;
+        Ok(())
+    }
 }
 
 fn version_out(entry: &Entry) -> Option<u64> {
@@ -101,27 +121,6 @@ fn version_out(entry: &Entry) -> Option<u64> {
         } => Some(version),
         _ => None,
     }
-}
-
-// A load that was started: the version in its slot, and how many pages went out before.
-#[derive(Clone, Copy)]
-struct Load {
-    version: u64,
-    before: usize,
-}
-
-fn loads_of(alloc: Global, entries: &[Entry]) -> Result<Vec<Load>, Memory> {
-    let mut loads = Vec::new(alloc);
-    let mut before = 0usize;
-    for entry in entries {
-        if version_out(entry).is_some() {
-            before = before.saturating_add(1);
-        }
-        if let Some(version) = version_in(entry) {
-            loads.push(Load { version, before })?;
-        }
-    }
-    Ok(loads)
 }
 
 fn version_in(entry: &Entry) -> Option<u64> {
@@ -141,18 +140,37 @@ struct Gift {
     flipped: Option<u32>,
 }
 
-fn gifts_of(alloc: Global, calls: &[StoreCall]) -> Result<Vec<Gift>, Memory> {
-    let mut gifts = Vec::new(alloc);
+// The gift of that number, from 0, among the calls of a store.
+fn nth_gift(calls: &[StoreCall], number: usize) -> Option<Gift> {
+    let mut before = 0usize;
     for call in calls {
         if let StoreCall::Got {
             answer: GetAnswer::Given { put, flipped },
             ..
         } = *call
         {
-            gifts.push(Gift { put, flipped })?;
+            if before == number {
+                return Some(Gift { put, flipped });
+            }
+            before = before.saturating_add(1);
         }
     }
-    Ok(gifts)
+    None
+}
+
+// The record of that gift.
+fn record_given(
+    alloc: Global,
+    store: &PlannedStore,
+    number: usize,
+) -> Result<Option<Record>, Memory> {
+    let Some(gift) = nth_gift(store.calls(), number) else {
+        return Ok(None);
+    };
+    let Some(rec) = store.puts().get(gift.put as usize) else {
+        return Ok(None);
+    };
+    Ok(Some(copy_of(alloc, rec, gift.flipped)?))
 }
 
 // A copy of a record. Where a bit is named, that bit of its bytes is inverted.

@@ -5,10 +5,9 @@ use seal_record::unseal::{UnsealWork, unseal};
 use sgx_types::names::Memory;
 use sgx_types::record::Record;
 use std::alloc::Global;
-use std::fmt;
 
 /// What there is to say of the records of a run.
-#[derive(Clone, Copy)]
+#[derive(Clone, Copy, Debug, PartialEq, Eq)]
 pub struct Report {
     pub put: usize,
     pub given: usize,
@@ -20,7 +19,7 @@ pub struct Report {
 }
 
 /// Why a record is forged. Places count from 0.
-#[derive(Clone, Copy, PartialEq, Eq)]
+#[derive(Clone, Copy, Debug, PartialEq, Eq)]
 pub enum Fault {
     /// A record that was put carries another tag than its own.
     Untagged { put: usize },
@@ -33,20 +32,6 @@ pub enum Fault {
 
     /// A given record has the tag that goes with a version under which another record was put, or was put later.
     Forged { given: usize, put: usize },
-}
-
-impl fmt::Display for Fault {
-    fn fmt<W: fmt::Write>(&self, f: &mut fmt::Formatter<W>) -> fmt::Result {
-        match *self {
-            Fault::Untagged { put } => write!(f, "put {put} does not carry its tag"),
-            Fault::Shared { put, other } => write!(f, "puts {other} and {put} carry one tag"),
-            Fault::Undrawn { given } => write!(f, "gift {given} has no version"),
-            Fault::Forged { given, put } => write!(
-                f,
-                "gift {given} is forged: put {put} is another"
-            ),
-        }
-    }
 }
 
 /// Tries the tag of each given record under each version with which a page went out: it fits none but that under which the same record was

@@ -9,9 +9,14 @@ use std::alloc::Global;
 use std::sync::Wait;
 
 /// A run by rounds of turns on one thread. It is the same each time.
-pub fn by_rounds<R: Wait>(rt: &R, alloc: Global, job: Job) -> Result<Parts<PlannedStore>, Memory> {
+pub fn by_rounds<R: Wait>(
+    rt: &R,
+    alloc: Global,
+    job: Box<Job>,
+) -> Result<Box<Parts<PlannedStore>>, Memory> {
     let (words, seat, _) = Words::new(alloc, &job)?;
-    let mut book = MachineBook::start(alloc, job, PlannedStore::new(), seat)?;
-    run(rt, alloc, &mut book, &words)?;
-    Ok(book.into_parts())
+    let book = MachineBook::start(alloc, Box::into_inner(job), PlannedStore::new(), seat)?;
+    let mut book = Box::new(alloc, book)?;
+    run(rt, alloc, &mut *book, &words)?;
+    Ok(Box::new(alloc, Box::into_inner(book).into_parts())?)
 }

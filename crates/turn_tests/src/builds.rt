@@ -23,7 +23,7 @@ fn step(rt: &impl Abort, job: &Job, cursor: &mut BuildCursor)
 
 #[test]
 fn a_builder_is_done_behind_its_last_step(rt: HostRuntime) -> Result<(), Fail> {
-    let job = read_job(rt.alloc(), SMALL)?;
+    let job = Box::new(rt.alloc(), read_job(rt.alloc(), SMALL)?)?;
     let mut cursor = BuildCursor::new(&job);
     // The version array page, the SECS, two pages, and the enclave's end.
     step(&rt, &job, &mut cursor);

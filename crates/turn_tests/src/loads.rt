@@ -1,32 +1,40 @@
 //! Loads: their starts and their ends.
 
-use crate::worlds::{World, made};
-use machine_book::book::Turn;
-use seal_record::unseal::unseal;
-use sgx_rules::entries::{Action, Answer, Event};
+use crate::worlds::World;
+use seal_record::unseal::UnsealWork;
+use sgx_rules::entries::{Action, Answer, Entry, Event};
 use std::test::Fail;
+
+// The tag by which a page came back, where that is what an entry tells.
+fn tag_in(entry: Option<&Entry>) -> Option<[u8; 32]> {
+    match entry?.event {
+        Event::Did {
+            action: Action::Eld { .. },
+            answer: Answer::Moved { tag, .. },
+        } => Some(tag),
+        _ => None,
+    }
+}
+
+fn over_zeros(work: UnsealWork) -> UnsealWork {
+    let mut work = work;
+    for byte in &mut work.rec.cipher {
+        *byte = 0;
+    }
+    work
+}
 
 #[test]
 fn a_load_ends_by_the_record_that_the_store_gave(rt: HostRuntime) -> Result<(), Fail> {
     let alloc = rt.alloc();
     let mut world = World::new(&rt, alloc)?;
-    let mut work = world.start_load(&rt, alloc)?;
+    let work = world.start_load(&rt, alloc)?;
     let given = work.rec.tag;
-    for byte in &mut work.rec.cipher {
-        *byte = 0;
-    }
-    assert_eq!(rt; made(world.end_load(unseal(work))), Some(1));
-    let Some(newest) = world.entries().last() else {
-        panic!(rt; "an entry was made");
-    };
-    let Event::Did {
-        action: Action::Eld { .. },
-        answer: Answer::Moved { tag, .. },
-    } = newest.event
-    else {
-        panic!(rt; "the page came back");
-    };
-    assert_eq!(rt; tag, given);
+    let entries = world.end_load(over_zeros(Box::into_inner(work)));
+    assert_eq!(rt;
+        (entries, tag_in(world.entries().last())),
+        (Some(1), Some(given))
+    );
     Ok(())
 }
 
@@ -36,16 +44,20 @@ fn a_started_load_is_answered_again_and_ends_once(rt: HostRuntime) -> Result<(),
     let mut world = World::new(&rt, alloc)?;
     let first = world.start_load(&rt, alloc)?;
     let before = world.entries().len();
-    let Turn::Unseal(again) = world.run(alloc)? else {
+    let Some(again) = world.to_open(alloc)? else {
         panic!(rt; "the work is answered again");
     };
-    assert_eq!(rt; world.entries().len(), before);
-    assert_eq!(rt; again.version, first.version);
     assert_eq!(rt;
-        made(world.end_load(unseal(Box::into_inner(again)))),
-        Some(1)
+        (world.entries().len(), again.version),
+        (before, first.version)
     );
-    assert_eq!(rt; made(world.end_load(unseal(first))), Some(0));
-    assert_eq!(rt; world.entries().len(), before + 1);
+    let ends = [
+        world.end_load(Box::into_inner(again)),
+        world.end_load(Box::into_inner(first)),
+    ];
+    assert_eq!(rt;
+        (ends, world.entries().len()),
+        ([Some(1), Some(0)], before + 1)
+    );
     Ok(())
 }

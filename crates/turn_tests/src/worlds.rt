@@ -7,7 +7,7 @@ use epoch_words::words::Words;
 use job_text::reader::read_job;
 use machine_book::book::{MachineBook, Turn};
 use seal_record::seal::{SealWork, SealedWork, seal};
-use seal_record::unseal::{UnsealWork, UnsealedWork};
+use seal_record::unseal::{UnsealWork, UnsealedWork, unseal};
 use sgx_rules::entries::Entry;
 use sgx_types::names::{Cpu, Memory};
 use std::alloc::Global;
@@ -41,10 +41,10 @@ pub struct World {
 
 impl World {
     pub fn new(rt: &impl Abort, alloc: Global) -> Result<Box<World>, Fail> {
-        let job = read_job(alloc, FORTY_PAGES)?;
+        let job = Box::new(alloc, read_job(alloc, FORTY_PAGES)?)?;
         assert!(rt; !job.scripts().is_empty());
         let (words, seat, _) = Words::new(alloc, &job)?;
-        let book = MachineBook::start(alloc, job, PlannedStore::new(), seat)?;
+        let book = MachineBook::start(alloc, Box::into_inner(job), PlannedStore::new(), seat)?;
         Ok(Box::new(alloc, World { book, words })?)
     }
 
@@ -52,53 +52,96 @@ impl World {
         self.book.entries()
     }
 
-    pub fn build(&mut self, alloc: Global) -> Result<Turn, Memory> {
+    fn build(&mut self, alloc: Global) -> Result<Turn, Memory> {
         self.book.build_turn(alloc)
     }
 
-    pub fn run(&mut self, alloc: Global) -> Result<Turn, Memory> {
+    fn run(&mut self, alloc: Global) -> Result<Turn, Memory> {
         self.book.turn(alloc, &self.words, Cpu(0))
     }
 
-    pub fn reclaim(&mut self, alloc: Global) -> Result<Turn, Memory> {
+    fn reclaim(&mut self, alloc: Global) -> Result<Turn, Memory> {
         self.book.reclaim_turn(alloc, &self.words)
     }
 
-    pub fn end_write_out(&mut self, work: SealedWork) -> Turn {
+    fn commit_sealed(&mut self, work: SealedWork) -> Turn {
         self.book.commit_sealed(work)
     }
 
-    pub fn end_load(&mut self, work: UnsealedWork) -> Turn {
+    fn commit_opened(&mut self, work: UnsealedWork) -> Turn {
         self.book.commit_opened(Cpu(0), work)
     }
 
+    /// A turn of the builder: how many entries it made.
+    pub fn add(&mut self, alloc: Global) -> Result<Option<u32>, Memory> {
+        Ok(made(self.build(alloc)?))
+    }
+
+    /// Ten turns of the builder, each of one entry. Ten pages stand in the EPC then.
+    pub fn add_ten(&mut self, rt: &impl Abort, alloc: Global) -> Result<(), Memory> {
+        for _ in 0..10 {
+            assert_eq!(rt; self.add(alloc)?, Some(1));
+        }
+        Ok(())
+    }
+
+    /// A turn of the reclaimer: what it answers is to be sealed.
+    pub fn to_seal(&mut self, alloc: Global) -> Result<Option<Box<SealWork>>, Memory> {
+        match self.reclaim(alloc)? {
+            Turn::Seal(work) => Ok(Some(work)),
+            _ => Ok(None),
+        }
+    }
+
+    /// A turn of the processor: what it answers is to be opened.
+    pub fn to_open(&mut self, alloc: Global) -> Result<Option<Box<UnsealWork>>, Memory> {
+        match self.run(alloc)? {
+            Turn::Unseal(work) => Ok(Some(work)),
+            _ => Ok(None),
+        }
+    }
+
+    /// Ends a write-out by its work: how many entries that made.
+    pub fn end_write_out(&mut self, work: SealWork) -> Option<u32> {
+        made(self.commit_sealed(seal(work)))
+    }
+
+    /// Ends the processor's load by its work: how many entries that made.
+    pub fn end_load(&mut self, work: UnsealWork) -> Option<u32> {
+        made(self.commit_opened(unseal(work)))
+    }
+
     /// Turns of the reclaimer until a write-out has started.
-    pub fn start_write_out(&mut self, rt: &impl Abort, alloc: Global) -> Result<SealWork, Fail> {
+    pub fn start_write_out(
+        &mut self,
+        rt: &impl Abort,
+        alloc: Global,
+    ) -> Result<Box<SealWork>, Fail> {
         for _ in 0..1000 {
-            if let Turn::Seal(work) = self.reclaim(alloc)? {
-                return Ok(Box::into_inner(work));
+            if let Some(work) = self.to_seal(alloc)? {
+                return Ok(work);
             }
         }
         panic!(rt; "no write-out has started");
     }
 
     /// Rounds of turns, each write-out ended at once, until the processor's load has started.
-    pub fn start_load(&mut self, rt: &impl Abort, alloc: Global) -> Result<UnsealWork, Fail> {
+    pub fn start_load(&mut self, rt: &impl Abort, alloc: Global) -> Result<Box<UnsealWork>, Fail> {
         for _ in 0..10_000 {
-            if let Turn::Seal(work) = self.reclaim(alloc)? {
-                let _ = self.end_write_out(seal(Box::into_inner(work)));
+            if let Some(work) = self.to_seal(alloc)? {
+                let _ = self.end_write_out(Box::into_inner(work));
             }
-            let _ = self.build(alloc)?;
-            if let Turn::Unseal(work) = self.run(alloc)? {
-                return Ok(Box::into_inner(work));
+            let _ = self.add(alloc)?;
+            if let Some(work) = self.to_open(alloc)? {
+                return Ok(work);
             }
         }
         panic!(rt; "no load has started");
     }
 }
 
-/// How many entries a turn made, none where it answered something else.
-pub fn made(turn: Turn) -> Option<u32> {
+// How many entries a turn made, none where it answered something else.
+fn made(turn: Turn) -> Option<u32> {
     match turn {
         Turn::Did { entries } => Some(entries),
         _ => None,

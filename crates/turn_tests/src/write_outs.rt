@@ -1,8 +1,6 @@
 //! Write-outs: their starts and their ends.
 
-use crate::worlds::{World, made};
-use machine_book::book::Turn;
-use seal_record::seal::seal;
+use crate::worlds::World;
 use sgx_rules::entries::{Action, Entry, Event};
 use sgx_types::names::Actor;
 use std::test::Fail;
@@ -51,17 +49,20 @@ fn is_end(entry: &Entry) -> bool {
 fn the_builder_goes_on_between_a_start_and_its_end(rt: HostRuntime) -> Result<(), Fail> {
     let alloc = rt.alloc();
     let mut world = World::new(&rt, alloc)?;
-    // Ten pages stand in the EPC then.
-    for _ in 0..10 {
-        assert_eq!(rt; made(world.build(alloc)?), Some(1));
-    }
+    world.add_ten(&rt, alloc)?;
     let work = world.start_write_out(&rt, alloc)?;
-    assert_eq!(rt; made(world.build(alloc)?), Some(1));
-    assert_eq!(rt; made(world.end_write_out(seal(work))), Some(1));
+    let added = world.add(alloc)?;
+    assert_eq!(rt;
+        (added, world.end_write_out(Box::into_inner(work))),
+        (Some(1), Some(1))
+    );
     let [.., start, add, end] = world.entries() else {
         panic!(rt; "three entries were made");
     };
-    assert!(rt; is_start(start) && is_add(add) && is_end(end));
+    assert_eq!(rt;
+        [is_start(start), is_add(add), is_end(end)],
+        [true, true, true]
+    );
     Ok(())
 }
 
@@ -69,21 +70,23 @@ fn the_builder_goes_on_between_a_start_and_its_end(rt: HostRuntime) -> Result<()
 fn a_started_write_out_is_answered_again_and_ends_once(rt: HostRuntime) -> Result<(), Fail> {
     let alloc = rt.alloc();
     let mut world = World::new(&rt, alloc)?;
-    for _ in 0..10 {
-        assert_eq!(rt; made(world.build(alloc)?), Some(1));
-    }
+    world.add_ten(&rt, alloc)?;
     let first = world.start_write_out(&rt, alloc)?;
     let before = world.entries().len();
-    let Turn::Seal(again) = world.reclaim(alloc)? else {
+    let Some(again) = world.to_seal(alloc)? else {
         panic!(rt; "the work is answered again");
     };
-    assert_eq!(rt; world.entries().len(), before);
-    assert_eq!(rt; again.version, first.version);
     assert_eq!(rt;
-        made(world.end_write_out(seal(Box::into_inner(again)))),
-        Some(1)
+        (world.entries().len(), again.version),
+        (before, first.version)
     );
-    assert_eq!(rt; made(world.end_write_out(seal(first))), Some(0));
-    assert_eq!(rt; world.entries().len(), before + 1);
+    let ends = [
+        world.end_write_out(Box::into_inner(again)),
+        world.end_write_out(Box::into_inner(first)),
+    ];
+    assert_eq!(rt;
+        (ends, world.entries().len()),
+        ([Some(1), Some(0)], before + 1)
+    );
     Ok(())
 }
