@@ -1,8 +1,8 @@
 //! Runs with threads, from the text of a job to what is looked at.
 
 ghost use Rattle.std.specs.Prelude.{◌≡◌, [], IfSome, length, replicate};
-ghost use Rattle.epoch_words.specs.Known.{enclaves};
-ghost use Rattle.epoch_words.specs.Seen.{starting_at};
+ghost use Rattle.epoch_words.specs.inner.Known.{enclaves};
+ghost use Rattle.epoch_words.specs.inner.Seen.{starting_at};
 
 use backing_store::backing::Backing;
 use crew::run::{MachineBook, run_crew};

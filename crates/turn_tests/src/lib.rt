@@ -6,6 +6,8 @@ mod builds;
 #[cfg(test)]
 mod loads;
 #[cfg(test)]
+mod stops;
+#[cfg(test)]
 mod worlds;
 #[cfg(test)]
 mod write_outs;

@@ -111,6 +111,27 @@ impl World {
         made(self.commit_opened(unseal(work)))
     }
 
+    /// Tells the book that memory was refused to a worker.
+    pub fn refuse_memory(&mut self) {
+        self.book.stop_for_memory();
+    }
+
+    /// Whether the turns of builder, processor and reclaimer, and the ends of a write-out and of a load, say that nothing is done any
+    /// more.
+    pub fn are_stopped(
+        &mut self,
+        alloc: Global,
+        out: Box<SealWork>,
+        back: Box<UnsealWork>,
+    ) -> Result<[bool; 5], Memory> {
+        let build = is_stopped(self.build(alloc)?);
+        let run = is_stopped(self.run(alloc)?);
+        let reclaim = is_stopped(self.reclaim(alloc)?);
+        let sealed = is_stopped(self.commit_sealed(seal(Box::into_inner(out))));
+        let opened = is_stopped(self.commit_opened(unseal(Box::into_inner(back))));
+        Ok([build, run, reclaim, sealed, opened])
+    }
+
     /// Turns of the reclaimer until a write-out has started.
     pub fn start_write_out(
         &mut self,
@@ -146,4 +167,8 @@ fn made(turn: Turn) -> Option<u32> {
         Turn::Did { entries } => Some(entries),
         _ => None,
     }
+}
+
+fn is_stopped(turn: Turn) -> bool {
+    matches!(turn, Turn::Stopped)
 }
