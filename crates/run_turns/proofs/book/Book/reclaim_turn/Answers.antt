@@ -33,9 +33,9 @@ returns-clause-stopped g c =
 pub returns-clause-again : goal.returns-clause-again
 returns-clause-again g c = λ pending.
     (let same = (rw c.deref_mut.ensures.value at c.reclaim_turn.ensures.again)
-        (open_seals c.self.inside.course.value (g.B.Backing.told c.self.inside.store) (g.B.Backing.spare c.self.inside.store)
-        c.self.invariant.keeps
-        (subst (λ (b : BookView). is_some (frame_started (last_event b.past actors.Reclaimer)) ≡ true) (sym c.self.view_is) pending)) in
+    (open_seals c.self.inside.course.value (g.B.Backing.told c.self.inside.store) (g.B.Backing.spare c.self.inside.store)
+    c.self.invariant.keeps
+    (subst (λ (b : BookView). is_some (frame_started (last_event b.past actors.Reclaimer)) ≡ true) (sym c.self.view_is) pending)) in
     again_seen c.self.inside.course.value c.reclaim_turn.new.self (g.B.Backing.told c.self.inside.store)
     (g.B.Backing.told c.reclaim_turn.new.store) (g.B.Backing.plans c.self.inside.store) (g.B.Backing.plans c.reclaim_turn.new.store)
     c.self.inside.out_of_memory same.0 (ap g.B.Backing.told same.1) (ap g.B.Backing.plans same.1) ∙ c.self.view_is)

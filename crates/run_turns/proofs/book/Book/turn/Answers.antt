@@ -30,7 +30,7 @@ returns-clause-stopped g c =
 pub returns-clause-again : goal.returns-clause-again
 returns-clause-again g c = λ pending.
     (let same = (rw c.deref_mut.ensures.value at c.turn.ensures.again)
-        (subst (λ (b : BookView). is_some (loaded_by (last_of b.past c.args.cpu.0)) ≡ true) (sym c.self.view_is) pending) in
+    (subst (λ (b : BookView). is_some (loaded_by (last_of b.past c.args.cpu.0)) ≡ true) (sym c.self.view_is) pending) in
     again_seen c.self.inside.course.value c.turn.new.self (g.B.Backing.told c.self.inside.store) (g.B.Backing.told c.turn.new.store)
     (g.B.Backing.plans c.self.inside.store) (g.B.Backing.plans c.turn.new.store) c.self.inside.out_of_memory same.0
     (ap g.B.Backing.told same.1) (ap g.B.Backing.plans same.1) ∙ c.self.view_is)
