@@ -1,6 +1,11 @@
 //! The book of a run with its tracking words.
 
-ghost use Rattle.std.specs.Prelude.{◌≡◌, ◌≤◌, ◌<◌, [], false, true, IfOk, IfSome, OnErr, drop, length, replicate, reverse};
+ghost use Rattle.std.specs.Prelude.{◌≡◌, ◌≤◌, ◌<◌, [], false, true, IfOk, IfSome, OnErr, drop, is_some, length, replicate};
+ghost use Rattle.std.specs.Prelude.{reverse};
+ghost use Rattle.driver_laws.specs.inner.Agrees.{loaded_by};
+ghost use Rattle.driver_rules.specs.Turns.{last_of};
+ghost use Rattle.driver_rules.specs.inner.Stops.{frame_started, last_event};
+ghost use Rattle.sgx_types.specs.declared.names.Actor.TheVariants as actors;
 ghost use Rattle.epoch_words.specs.inner.Known.{enclaves};
 ghost use Rattle.epoch_words.specs.inner.Seen.{starting_at};
 ghost use Rattle.epoch_notes.specs.inner.Notes.{TellsEntries};
