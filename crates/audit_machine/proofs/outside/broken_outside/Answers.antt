@@ -1,7 +1,7 @@
 use Rattle.std.proofs.Common.{◌≡◌, ◌∙◌, ap, subst, sym}
-use Rattle.paging_machine.specs.Parts.{state_of}
-use Rattle.audit_machine.specs.Asked.{Breaks}
-use Rattle.audit_machine.specs.Outside.{rule_outside}
+use Rattle.paging_machine.specs.inner.Parts.{state_of}
+use Rattle.audit_machine.specs.inner.Asked.{Breaks}
+use Rattle.audit_machine.specs.inner.Outside.{rule_outside}
 use Rattle.audit_machine.proofs.OutsideLaws.{outside_breaks}
 use Rattle.audit_machine.proofs.outside.broken_outside.Goals as goal
 
