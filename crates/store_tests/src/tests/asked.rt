@@ -46,9 +46,6 @@ pub enum Outcome {
 
     /// .. with this bit inverted.
     Flips(u64, u32),
-
-    /// Another record than the one that is to come.
-    Other,
 }
 
 use Ask::{AsksRoom, Gets, Keeps};
