@@ -1,17 +1,13 @@
 //! Verdicts on old traces, traces that are none, and edges that fail.
 
 use crate::audited_traces::{BEFORE_ELD, BEHIND_ELD, CUT_ELD, ELD, OLDER_ELD, RELOAD_JOB};
-use crate::calls::{Call, RUN, WELL, called};
-use crate::facts::{Fact, compare, tells};
+use crate::calls::{RUN, given_by, given_with};
 use crate::paged_jobs::{ENCLAVE, EPC, SCRIPT};
 use crate::run_tests::{JOB, TRACE};
 use page_commands::status::Status;
 use sgx_types::names::Memory;
 use std::alloc::Global;
-use std::process::Abort;
-use std::sync::Wait;
 use std::test::Fail;
-use std::thread::Threads;
 
 const AUDIT: &[&str] = &["audit", "t"];
 
@@ -153,72 +149,51 @@ const ROWS: &[Row] = &[
 
 #[test]
 fn an_old_trace_gets_its_verdict_or_its_first_faulty_line(rt: HostRuntime) -> Result<(), Fail> {
+    let alloc = rt.alloc();
     for row in ROWS {
-        let call = Call {
-            words: AUDIT,
-            job: &[row.job],
-            old: row.old,
-            piece: row.piece,
-            fails: [row.fails[0], row.fails[1], row.fails[2], &[1]],
-        };
-        let facts = [
-            Fact::Ends(row.status),
-            Fact::Out(row.told),
-            Fact::OldIsUnread(row.unread),
-            Fact::Trace(b""),
-        ];
-        tells(&rt, rt.alloc(), &call, &facts)?;
+        let old = joined(alloc, row.old)?;
+        let fails = [row.fails[0], row.fails[1], row.fails[2], &[1]];
+        let given = given_with(&rt, alloc, AUDIT, [row.job, &old], row.piece.max(1), fails)?;
+        assert_eq!(rt; given.status, row.status);
+        assert_eq!(rt; given.out.as_slice(), row.told);
+        assert_eq!(rt; given.old_left == old.len(), row.unread);
+        assert_eq!(rt; given.trace.is_empty(), true);
     }
     Ok(())
-}
-
-// Runs a job, and audits the trace.
-fn is_history<R: Abort + Threads + Wait + Sync>(
-    rt: &R,
-    alloc: Global,
-    job: &[&[u8]],
-) -> Result<(), Memory> {
-    let call = Call {
-        words: RUN,
-        job,
-        old: &[],
-        piece: 1000,
-        fails: WELL,
-    };
-    let run = called(rt, alloc, &call)?;
-    compare(rt, &run, &[Fact::Ends(Status::Done)]);
-    let call = Call {
-        words: AUDIT,
-        job,
-        old: &[run.trace.bytes()],
-        piece: 1000,
-        fails: [&[], &[], &[], &[1]],
-    };
-    tells(
-        rt,
-        alloc,
-        &call,
-        &[Fact::Ends(Status::Done), Fact::Out(b"yes\n")],
-    )
 }
 
 // Whatever the order of the threads.
 #[test]
 fn a_run_is_a_history(rt: HostRuntime) -> Result<(), Fail> {
-    Ok(is_history(&rt, rt.alloc(), &[EPC, ENCLAVE, SCRIPT])?)
+    let alloc = rt.alloc();
+    let job = joined(alloc, &[EPC, ENCLAVE, SCRIPT])?;
+    let run = given_by(&rt, alloc, RUN, &job, 1000, [&[], &[], &[]])?;
+    let fails: [&[u64]; 4] = [&[], &[], &[], &[1]];
+    let given = given_with(&rt, alloc, AUDIT, [&job, &run.trace], 1000, fails)?;
+    assert_eq!(rt; given.status, Status::Done);
+    assert_eq!(rt; given.out.as_slice(), b"yes\n".as_slice());
+    Ok(())
 }
 
 // .. of a job that was made.
 #[test]
 fn a_run_of_a_made_job_is_a_history(rt: HostRuntime) -> Result<(), Fail> {
-    let call = Call {
-        words: MAKE,
-        job: &[],
-        old: &[],
-        piece: 1000,
-        fails: WELL,
-    };
-    let made = called(&rt, rt.alloc(), &call)?;
-    compare(&rt, &made, &[Fact::Ends(Status::Done)]);
-    Ok(is_history(&rt, rt.alloc(), &[made.out.bytes()])?)
+    let alloc = rt.alloc();
+    let made = given_by(&rt, alloc, MAKE, b"", 1000, [&[], &[], &[]])?;
+    let run = given_by(&rt, alloc, RUN, &made.out, 1000, [&[], &[], &[]])?;
+    let fails: [&[u64]; 4] = [&[], &[], &[], &[1]];
+    let given = given_with(&rt, alloc, AUDIT, [&made.out, &run.trace], 1000, fails)?;
+    assert_eq!(rt; made.status, Status::Done);
+    assert_eq!(rt; run.status, Status::Done);
+    assert_eq!(rt; given.status, Status::Done);
+    assert_eq!(rt; given.out.as_slice(), b"yes\n".as_slice());
+    Ok(())
+}
+
+fn joined(alloc: Global, parts: &[&[u8]]) -> Result<Vec<u8>, Memory> {
+    let mut text = Vec::new(alloc);
+    for part in parts {
+        text.extend_from_slice(part)?;
+    }
+    Ok(text)
 }

@@ -1,5 +1,7 @@
 //! Calls of the program over memory, and what they gave.
 
+ghost use Rattle.std.specs.Prelude.{◌≤◌};
+
 use backing_store::planned_store::PlannedStore;
 use io_edges::mem_sink::MemSink;
 use io_edges::mem_source::MemSource;
@@ -14,87 +16,76 @@ use turn_gate::gate::OpenGate;
 /// The words of a command that runs a job.
 pub const RUN: &[&str] = &["run", "t"];
 
-/// No call of an edge fails, but the first of the old trace, which is not read.
-pub const WELL: [&[u64]; 4] = [&[], &[1], &[], &[]];
-
-/// A call of the program over a store that does what the job plans. Each edge moves at most `piece` bytes a call.
-#[derive(Clone, Copy)]
-pub struct Call<'a> {
-    pub words: &'a [&'a str],
-    /// The parts of the job's text.
-    pub job: &'a [&'a [u8]],
-    /// .. and of the old trace's.
-    pub old: &'a [&'a [u8]],
-    pub piece: usize,
-    /// At which calls these two edges fail, and the output and the trace.
-    pub fails: [&'a [u64]; 4],
-}
-
-/// What a call gave, in its edges.
+/// What a call gave: the texts, how many bytes it left of the job and of the old trace, and how often these, the output and the
+/// trace failed.
 #[derive(Drop)]
 pub struct Given {
     pub status: Status,
-    /// How many bytes the old trace had.
-    pub old_len: usize,
-    pub job: MemSource,
-    pub old: MemSource,
-    pub out: MemSink,
-    pub trace: MemSink,
+    pub out: Vec<u8>,
+    pub trace: Vec<u8>,
+    pub left: usize,
+    pub old_left: usize,
+    pub faults: [u64; 4],
 }
 
-/// Calls the program. What it gave is in a box, since dropping the four edges is dear to check wherever their owner can end.
-pub fn called<R: Threads + Wait + Sync>(
+/// Calls the program with the words of a command that reads no old trace, as below: the first call of that source would fail. The
+/// edges that fail are the job, the output and the trace.
+pub fn given_by<R: Threads + Wait + Sync>(
     rt: &R,
     alloc: Global,
-    call: &Call<'_>,
-) -> Result<Box<Given>, Memory> {
-    let mut given = Box::new(alloc, Given::before(alloc, call)?)?;
-    let words = owned(alloc, call.words)?;
-    given.run(rt, alloc, &words);
-    Ok(given)
-}
-
-impl Given {
-    // The edges before the call.
-    fn before(alloc: Global, call: &Call<'_>) -> Result<Given, Memory> {
-        let old = source(alloc, call.old, call.piece, call.fails[1])?;
-        Ok(Given {
-            status: Status::Done,
-            old_len: old.left().len(),
-            old,
-            job: source(alloc, call.job, call.piece, call.fails[0])?,
-            out: MemSink::new(alloc, call.piece.max(1), call.fails[2])?,
-            trace: MemSink::new(alloc, call.piece.max(1), call.fails[3])?,
-        })
-    }
-
-    fn run<R: Threads + Wait + Sync>(&mut self, rt: &R, alloc: Global, words: &[String]) {
-        let ended = sgxpage(
-            rt,
-            alloc,
-            words,
-            &mut self.job,
-            &mut self.old,
-            &mut self.out,
-            &mut self.trace,
-            PlannedStore::new(),
-            &OpenGate,
-        );
-        self.status = ended.status;
-    }
-}
-
-fn source(
-    alloc: Global,
-    parts: &[&[u8]],
+    words: &[&str],
+    job: &[u8],
     piece: usize,
-    fails: &[u64],
-) -> Result<MemSource, Memory> {
-    let mut text = Vec::new(alloc);
-    for part in parts {
-        text.extend_from_slice(part)?;
-    }
-    MemSource::new(alloc, &text, piece.max(1), fails)
+    fails: [&[u64]; 3],
+) -> Result<Given, Memory>
+    requires { 1 ≤ piece }
+{
+    given_with(
+        rt,
+        alloc,
+        words,
+        [job, b""],
+        piece,
+        [fails[0], &[1], fails[1], fails[2]],
+    )
+}
+
+/// Calls the program with these words, this job and this old trace, over a store that does what the job plans. Each edge moves at
+/// most `piece` bytes a call, and fails at its given calls: those of the job, of the old trace, of the output and of the trace.
+pub fn given_with<R: Threads + Wait + Sync>(
+    rt: &R,
+    alloc: Global,
+    words: &[&str],
+    texts: [&[u8]; 2],
+    piece: usize,
+    fails: [&[u64]; 4],
+) -> Result<Given, Memory>
+    requires { 1 ≤ piece }
+{
+    let words = owned(alloc, words)?;
+    let mut job = MemSource::new(alloc, texts[0], piece, fails[0])?;
+    let mut old = MemSource::new(alloc, texts[1], piece, fails[1])?;
+    let mut out = MemSink::new(alloc, piece, fails[2])?;
+    let mut trace = MemSink::new(alloc, piece, fails[3])?;
+    let ended = sgxpage(
+        rt,
+        alloc,
+        &words,
+        &mut job,
+        &mut old,
+        &mut out,
+        &mut trace,
+        PlannedStore::new(),
+        &OpenGate,
+    );
+    Ok(Given {
+        status: ended.status,
+        out: out.bytes().to_vec(alloc)?,
+        trace: trace.bytes().to_vec(alloc)?,
+        left: job.left().len(),
+        old_left: old.left().len(),
+        faults: [job.faults(), old.faults(), out.faults(), trace.faults()],
+    })
 }
 
 fn owned(alloc: Global, texts: &[&str]) -> Result<Vec<String>, Memory> {

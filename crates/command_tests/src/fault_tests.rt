@@ -1,12 +1,12 @@
 //! Jobs that are refused, and edges that fail.
 
-use crate::calls::{Call, RUN, WELL};
+ghost use Rattle.std.specs.Prelude.{◌≤◌};
+
+use crate::calls::{RUN, given_by};
 use crate::cut_jobs::CUTS;
-use crate::facts::{Fact, tells};
 use crate::run_tests::{JOB, OUT, TRACE, ends};
 use page_commands::status::Status;
-use sgx_types::names::Memory;
-use std::alloc::Global;
+use std::alloc::{Alloc, Global};
 use std::process::Abort;
 use std::sync::Wait;
 use std::test::Fail;
@@ -34,7 +34,7 @@ const TOO_LONG: &[u8] = b"job line 0: TooLong\n";
 #[test]
 fn a_job_that_is_not_accepted_is_told(rt: HostRuntime) -> Result<(), Fail> {
     for (job, told) in REFUSED {
-        ends(&rt, rt.alloc(), job, 7, WELL, Status::BadJob, told, b"")?;
+        ends(&rt, job, 7, [&[], &[], &[]], Status::BadJob, told, b"")?;
     }
     Ok(())
 }
@@ -43,38 +43,30 @@ fn a_job_that_is_not_accepted_is_told(rt: HostRuntime) -> Result<(), Fail> {
 fn a_job_that_is_cut_is_another(rt: HostRuntime) -> Result<(), Fail> {
     for (len, status, out, trace) in CUTS {
         let job = &JOB[..(*len).min(JOB.len())];
-        ends(&rt, rt.alloc(), job, 16, WELL, *status, out, trace)?;
+        ends(&rt, job, 16, [&[], &[], &[]], *status, out, trace)?;
     }
     Ok(())
 }
 
-// Texts by their lengths, what is told of each, and how many bytes of it are left.
-const LONG: &[(usize, &[u8], usize)] = &[
-    (1 << 24, b"job line 1: Word\n", 0),
-    ((1 << 24) + 1, TOO_LONG, 0),
-    ((1 << 24) + 2, TOO_LONG, 1),
-    ((1 << 24) + 100_000, TOO_LONG, 99_999),
-];
-
 #[test]
 fn no_more_than_one_byte_past_the_limit_is_read(rt: HostRuntime) -> Result<(), Fail> {
     let alloc = rt.alloc();
-    for (len, told, left) in LONG {
-        let rest = vec![in alloc; b'e'; len.saturating_sub(4)]?;
-        let call = Call {
-            words: RUN,
-            job: &[b"eee\n".as_slice(), rest.as_slice()],
-            old: &[],
-            piece: 1 << 20,
-            fails: WELL,
-        };
-        let facts = [
-            Fact::Ends(Status::BadJob),
-            Fact::Out(*told),
-            Fact::Trace(b""),
-            Fact::Left(*left),
-        ];
-        tells(&rt, alloc, &call, &facts)?;
+    let rows = [
+        (1 << 24, b"job line 1: Word\n".as_slice(), 0),
+        ((1 << 24) + 1, TOO_LONG, 0),
+        ((1 << 24) + 2, TOO_LONG, 1),
+        ((1 << 24) + 100_000, TOO_LONG, 99_999),
+    ];
+    for (len, told, left) in rows {
+        let mut job = vec![in alloc; b'e'; len]?;
+        if let Some(byte) = job.get_mut(3) {
+            *byte = b'\n';
+        }
+        let given = given_by(&rt, alloc, RUN, &job, 1 << 20, [&[], &[], &[]])?;
+        assert_eq!(rt; given.status, Status::BadJob);
+        assert_eq!(rt; given.out.as_slice(), told);
+        assert_eq!(rt; given.trace.is_empty(), true);
+        assert_eq!(rt; given.left, left);
     }
     Ok(())
 }
@@ -101,84 +93,88 @@ const FAULTS: &[(Edge, usize, u64)] = &[
     (Edge::Out, 16, 2),
 ];
 
-// No call fails but these of an edge.
-fn fails_at<'a>(edge: Edge, calls: &'a [u64]) -> [&'a [u64]; 4] {
-    match edge {
-        Edge::Source => [calls, &[1], &[], &[]],
-        Edge::Out => [&[], &[1], calls, &[]],
-        Edge::Trace => [&[], &[1], &[], calls],
-    }
-}
-
-// How a run of the job ends where an edge fails, and both texts. `len` bytes were given to that edge before.
-fn cut_at(edge: Edge, len: usize) -> (Status, &'static [u8], &'static [u8]) {
-    match edge {
-        Edge::Source => (Status::ReadFault, b"", b""),
-        Edge::Trace => (Status::WriteFault, b"", &TRACE[..len.min(TRACE.len())]),
-        Edge::Out => (Status::WriteFault, &OUT[..len.min(OUT.len())], TRACE),
-    }
-}
-
-// Runs the job with each call of an edge failing in turn, and then the next, which no run makes.
-fn broken<R: Abort + Threads + Wait + Sync>(
-    rt: &R,
-    alloc: Global,
+// Runs the job with this call of an edge failing. `given` bytes were given to it before.
+fn broken(
+    rt: &(impl Abort + Alloc<A = Global> + Threads + Wait + Sync),
     edge: Edge,
     piece: usize,
-    calls: u64,
-) -> Result<(), Memory> {
-    let mut len = 0usize;
-    for failing in 1..=calls.saturating_add(1) {
-        let (status, out, trace) = if failing <= calls {
-            cut_at(edge, len)
-        } else {
-            (Status::Done, OUT, TRACE)
-        };
-        ends(
+    failing: u64,
+    given: usize,
+) -> Result<(), Fail>
+    requires { 1 ≤ piece }
+{
+    let fails: &[u64] = &[failing];
+    match edge {
+        Edge::Source => ends(
             rt,
-            alloc,
             JOB,
             piece,
-            fails_at(edge, &[failing]),
-            status,
-            out,
-            trace,
-        )?;
-        len = len.saturating_add(piece);
+            [fails, &[], &[]],
+            Status::ReadFault,
+            b"",
+            b"",
+        ),
+        Edge::Trace => {
+            let trace = &TRACE[..given.min(TRACE.len())];
+            ends(
+                rt,
+                JOB,
+                piece,
+                [&[], &[], fails],
+                Status::WriteFault,
+                b"",
+                trace,
+            )
+        }
+        Edge::Out => {
+            let out = &OUT[..given.min(OUT.len())];
+            ends(
+                rt,
+                JOB,
+                piece,
+                [&[], fails, &[]],
+                Status::WriteFault,
+                out,
+                TRACE,
+            )
+        }
     }
-    Ok(())
 }
 
+// Each call fails in turn, and then the next, which no run makes.
 #[test]
 fn a_fault_is_told_and_cuts_one_text(rt: HostRuntime) -> Result<(), Fail> {
     for (edge, piece, calls) in FAULTS {
-        broken(&rt, rt.alloc(), *edge, *piece, *calls)?;
+        let piece = (*piece).max(1);
+        let mut given = 0usize;
+        for failing in 1..=*calls {
+            broken(&rt, *edge, piece, failing, given)?;
+            given = given.saturating_add(piece);
+        }
+        let next: &[u64] = &[calls.saturating_add(1)];
+        let fails = match edge {
+            Edge::Source => [next, &[], &[]],
+            Edge::Out => [&[], next, &[]],
+            Edge::Trace => [&[], &[], next],
+        };
+        ends(&rt, JOB, piece, fails, Status::Done, OUT, TRACE)?;
     }
     Ok(())
 }
 
-// Which call of the output fails, how that ends, and how many bytes of the line are given.
-const BROKEN_LINES: &[(u64, Status, usize)] = &[
-    (1, Status::WriteFault, 0),
-    (2, Status::WriteFault, 7),
-    (3, Status::WriteFault, 14),
-    (4, Status::BadJob, 20),
-];
-
 #[test]
 fn a_fault_can_break_the_line_on_a_job(rt: HostRuntime) -> Result<(), Fail> {
-    for (failing, status, len) in BROKEN_LINES {
-        let told = &MISSING[..(*len).min(MISSING.len())];
+    for (failing, given) in [(1, 0), (2, 7), (3, 14)] {
+        let told = &MISSING[..given];
         ends(
             &rt,
-            rt.alloc(),
             b"",
             7,
-            [&[], &[1], &[*failing], &[1]],
-            *status,
+            [&[], &[failing], &[1]],
+            Status::WriteFault,
             told,
             b"",
         )?;
     }
-    Ok(())
+    ends(&rt, b"", 7, [&[], &[4], &[1]], Status::BadJob, MISSING, b"")
 }

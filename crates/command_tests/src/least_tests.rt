@@ -1,12 +1,12 @@
 //! The fewest loads of old traces, traces that are none, and edges that fail.
 
-use crate::calls::{Call, RUN, WELL, called};
-use crate::facts::{Fact, tells};
+ghost use Rattle.std.specs.Prelude.{◌≤◌};
+
+use crate::calls::{RUN, given_by, given_with};
 use crate::paged_jobs::{ENCLAVE, EPC, SCRIPT};
 use crate::run_tests::{JOB, TRACE};
 use page_commands::status::Status;
-use sgx_types::names::Memory;
-use std::alloc::Global;
+use std::alloc::{Alloc, Global};
 use std::process::Abort;
 use std::sync::Wait;
 use std::test::Fail;
@@ -73,43 +73,29 @@ r eld 2 A 0 2 abababababababababababababababababababababababababababababababab\n
 
 // Reads this job and this old trace over edges that move and fail so, and compares how that ends and what is given. The trace that a
 // run would give fails at its first call.
-fn ends<R: Abort + Threads + Wait + Sync>(
-    rt: &R,
-    alloc: Global,
+fn tells(
+    rt: &(impl Abort + Alloc<A = Global> + Threads + Wait + Sync),
     texts: [&[u8]; 2],
     piece: usize,
     fails: [&[u64]; 3],
     status: Status,
     told: &[u8],
-) -> Result<(), Memory> {
-    let call = Call {
-        words: LEAST,
-        job: &[texts[0]],
-        old: &[texts[1]],
-        piece,
-        fails: [fails[0], fails[1], fails[2], &[1]],
-    };
-    tells(
-        rt,
-        alloc,
-        &call,
-        &[Fact::Ends(status), Fact::Out(told), Fact::Trace(b"")],
-    )
+) -> Result<(), Fail>
+    requires { 1 ≤ piece }
+{
+    let fails = [fails[0], fails[1], fails[2], &[1]];
+    let given = given_with(rt, rt.alloc(), LEAST, texts, piece, fails)?;
+    assert_eq!(rt; given.status, status);
+    assert_eq!(rt; given.out.as_slice(), told);
+    assert_eq!(rt; given.trace.is_empty(), true);
+    Ok(())
 }
 
 #[test]
 fn an_old_trace_gives_its_numbers_or_its_first_faulty_line(rt: HostRuntime) -> Result<(), Fail> {
     for piece in [1, 7, 1000] {
         for (trace, status, told) in ROWS {
-            ends(
-                &rt,
-                rt.alloc(),
-                [JOB, trace],
-                piece,
-                [&[], &[], &[]],
-                *status,
-                told,
-            )?;
+            tells(&rt, [JOB, trace], piece, [&[], &[], &[]], *status, told)?;
         }
     }
     Ok(())
@@ -118,57 +104,41 @@ fn an_old_trace_gives_its_numbers_or_its_first_faulty_line(rt: HostRuntime) -> R
 // Behind a text that is no job's, the old trace is not read.
 #[test]
 fn a_job_that_is_not_accepted_comes_first(rt: HostRuntime) -> Result<(), Fail> {
-    let call = Call {
-        words: LEAST,
-        job: &[],
-        old: &[TRACE],
-        piece: 7,
-        fails: [&[], &[1], &[], &[1]],
-    };
-    let facts = [
-        Fact::Ends(Status::BadJob),
-        Fact::Out(b"job line 1: Missing\n"),
-        Fact::OldLeft(TRACE.len()),
-        Fact::Faults([0, 0, 0, 0]),
-    ];
-    Ok(tells(&rt, rt.alloc(), &call, &facts)?)
+    let fails: [&[u64]; 4] = [&[], &[1], &[], &[1]];
+    let given = given_with(&rt, rt.alloc(), LEAST, [b"", TRACE], 7, fails)?;
+    assert_eq!(rt; given.status, Status::BadJob);
+    assert_eq!(rt; given.out.as_slice(), b"job line 1: Missing\n".as_slice());
+    assert_eq!(rt; given.old_left, TRACE.len());
+    assert_eq!(rt; given.faults, [0, 0, 0, 0]);
+    Ok(())
 }
 
 // The accesses of a run are those of its script, whatever the order of the threads. How many reloads were made may differ.
 #[test]
 fn a_run_gives_a_trace_that_is_read(rt: HostRuntime) -> Result<(), Fail> {
-    let call = Call {
-        words: RUN,
-        job: &[EPC, ENCLAVE, SCRIPT],
-        old: &[],
-        piece: 1000,
-        fails: WELL,
-    };
-    let run = called(&rt, rt.alloc(), &call)?;
-    let call = Call {
-        words: LEAST,
-        job: &[EPC, ENCLAVE, SCRIPT],
-        old: &[run.trace.bytes()],
-        piece: 1000,
-        fails: [&[], &[], &[], &[1]],
-    };
-    let facts = [
-        Fact::Ends(Status::Done),
-        Fact::Begins("accesses 80\nframes 10\nleast 70\nmade "),
-    ];
-    Ok(tells(&rt, rt.alloc(), &call, &facts)?)
+    let alloc = rt.alloc();
+    let mut job = Vec::new(alloc);
+    for part in [EPC, ENCLAVE, SCRIPT] {
+        job.extend_from_slice(part)?;
+    }
+    let run = given_by(&rt, alloc, RUN, &job, 1000, [&[], &[], &[]])?;
+    let fails: [&[u64]; 4] = [&[], &[], &[], &[1]];
+    let given = given_with(&rt, alloc, LEAST, [&job, &run.trace], 1000, fails)?;
+    assert_eq!(rt; given.status, Status::Done);
+    let begun = given
+        .out
+        .starts_with(b"accesses 80\nframes 10\nleast 70\nmade ");
+    assert_eq!(rt; begun, true);
+    Ok(())
 }
 
 // Each call of the job and of the old trace fails in turn, and then the next, which is not made.
 #[test]
 fn a_fault_of_either_source_is_told(rt: HostRuntime) -> Result<(), Fail> {
-    let alloc = rt.alloc();
-    let texts = [JOB, TRACE];
     for failing in 1..=9 {
-        ends(
+        tells(
             &rt,
-            alloc,
-            texts,
+            [JOB, TRACE],
             16,
             [&[failing], &[], &[]],
             Status::ReadFault,
@@ -176,49 +146,46 @@ fn a_fault_of_either_source_is_told(rt: HostRuntime) -> Result<(), Fail> {
         )?;
     }
     for failing in 1..=18 {
-        ends(
+        tells(
             &rt,
-            alloc,
-            texts,
+            [JOB, TRACE],
             16,
             [&[], &[failing], &[]],
             Status::ReadFault,
             b"",
         )?;
     }
-    Ok(ends(
+    tells(
         &rt,
-        alloc,
-        texts,
+        [JOB, TRACE],
         16,
         [&[10], &[19], &[]],
         Status::Done,
         NUMBERS,
-    )?)
+    )
 }
-
-// A line that is cut: behind which text, at which call of the output, and how many bytes were given before.
-const CUT: &[(&[u8], &[u8], u64, usize)] = &[
-    (TRACE, NUMBERS, 1, 0),
-    (TRACE, NUMBERS, 2, 7),
-    (TRACE, NUMBERS, 3, 14),
-    (TRACE, NUMBERS, 4, 21),
-    (TRACE, NUMBERS, 5, 28),
-    (b"", b"trace line 1\n", 1, 0),
-    (b"", b"trace line 1\n", 2, 7),
-];
 
 // Each call of the output fails in turn, for the numbers and for the line on a fault.
 #[test]
 fn a_fault_of_the_output_cuts_the_text(rt: HostRuntime) -> Result<(), Fail> {
-    for (trace, text, failing, len) in CUT {
-        let told = &text[..(*len).min(text.len())];
-        ends(
+    for (failing, given) in [(1, 0), (2, 7), (3, 14), (4, 21), (5, 28)] {
+        let told = &NUMBERS[..given];
+        tells(
             &rt,
-            rt.alloc(),
-            [JOB, trace],
+            [JOB, TRACE],
             7,
-            [&[], &[], &[*failing]],
+            [&[], &[], &[failing]],
+            Status::WriteFault,
+            told,
+        )?;
+    }
+    for (failing, given) in [(1, 0), (2, 7)] {
+        let told = &b"trace line 1\n"[..given];
+        tells(
+            &rt,
+            [JOB, b""],
+            7,
+            [&[], &[], &[failing]],
             Status::WriteFault,
             told,
         )?;

@@ -10,8 +10,6 @@ mod calls;
 #[cfg(test)]
 mod cut_jobs;
 #[cfg(test)]
-mod facts;
-#[cfg(test)]
 mod fault_tests;
 #[cfg(test)]
 mod gate_tests;
@@ -30,7 +28,7 @@ mod word_tests;
 #[cfg(test)]
 mod worked_runs;
 
-use calls::{Call, RUN, WELL, called};
+use calls::{RUN, given_by};
 use sgx_types::names::Memory;
 use std::sync::Wait;
 use std::thread::Threads;
@@ -47,17 +45,10 @@ fn main(rt: HostRuntime) -> io::Result<()> {
 fn run<R: Threads + Wait + Sync>(rt: &HostRuntime, waits: &R, name: &str) -> io::Result<()> {
     let path = format!(in rt.alloc(); "{name}.job")?;
     let job = fs::read(rt, path.as_str())?;
-    let call = Call {
-        words: RUN,
-        job: &[job.as_slice()],
-        old: &[],
-        piece: 1000,
-        fails: WELL,
-    };
-    match called(waits, rt.alloc(), &call) {
+    match given_by(waits, rt.alloc(), RUN, &job, 1000, [&[], &[], &[]]) {
         Ok(given) => {
             println!(rt; "{name} {}", given.status.code())?;
-            print_lines(rt, given.out.bytes())
+            print_lines(rt, &given.out)
         }
         Err(Memory) => println!(rt; "{name}: no memory"),
     }

@@ -18,78 +18,51 @@ const ENTER: Action = Action::Enter {
     ssa_frame: Frame(3),
 };
 
-const ENTRIES: &[Entry] = &[
+fn init(enclave: u16) -> Action {
+    Action::Init {
+        enclave,
+        expect: None,
+    }
+}
+
+fn did(actor: Actor, action: Action, answer: Answer) -> Entry {
     Entry {
-        actor: Actor::Builder,
-        event: Event::Did {
-            action: Action::Init {
-                enclave: 1,
-                expect: None,
-            },
-            answer: Answer::Hash([0; 32]),
-        },
-    },
+        actor,
+        event: Event::Did { action, answer },
+    }
+}
+
+fn refused(actor: Actor, action: Action, why: Refusal) -> Entry {
     Entry {
-        actor: Actor::Builder,
-        event: Event::Refused {
-            action: Action::Init {
-                enclave: 3,
-                expect: None,
-            },
-            why: Refusal::BadMeasure { made: [0; 32] },
-        },
-    },
-    Entry {
-        actor: Actor::Cpu(Cpu(0)),
-        event: Event::Did {
-            action: ENTER,
-            answer: Answer::Cssa(0),
-        },
-    },
-    Entry {
-        actor: Actor::Cpu(Cpu(0)),
-        event: Event::Did {
-            action: Action::Fill {
-                number: 2,
-                frame: Frame(4),
-            },
-            answer: Answer::Plain,
-        },
-    },
-    Entry {
-        actor: Actor::Cpu(Cpu(1)),
-        event: Event::Refused {
-            action: ENTER,
-            why: Refusal::NoFrame,
-        },
-    },
-    Entry {
-        actor: Actor::Cpu(Cpu(0)),
-        event: Event::Did {
-            action: Action::Load { off: 0x2000 },
-            answer: Answer::Value(7),
-        },
-    },
-    Entry {
-        actor: Actor::Cpu(Cpu(1)),
-        event: Event::Refused {
-            action: Action::Load { off: 0 },
-            why: Refusal::WrongMode,
-        },
-    },
-    Entry {
-        actor: Actor::Cpu(Cpu(0)),
-        event: Event::Did {
-            action: Action::Exit,
-            answer: Answer::Plain,
-        },
-    },
-];
+        actor,
+        event: Event::Refused { action, why },
+    }
+}
 
 #[test]
 fn enclaves_and_processors(rt: HostRuntime) -> Result<(), Fail> {
-    let job = Box::new(rt.alloc(), read_job(rt.alloc(), JOB)?)?;
-    let text = print_out(rt.alloc(), &job, ENTRIES)?;
+    let builder = Actor::Builder;
+    let first = Actor::Cpu(Cpu(0));
+    let second = Actor::Cpu(Cpu(1));
+    let entries = [
+        did(builder, init(1), Answer::Hash([0; 32])),
+        refused(builder, init(3), Refusal::BadMeasure { made: [0; 32] }),
+        did(first, ENTER, Answer::Cssa(0)),
+        did(
+            first,
+            Action::Fill {
+                number: 2,
+                frame: Frame(4),
+            },
+            Answer::Plain,
+        ),
+        refused(second, ENTER, Refusal::NoFrame),
+        did(first, Action::Load { off: 0x2000 }, Answer::Value(7)),
+        refused(second, Action::Load { off: 0 }, Refusal::WrongMode),
+        did(first, Action::Exit, Answer::Plain),
+    ];
+    let job = read_job(rt.alloc(), JOB)?;
+    let text = print_out(rt.alloc(), &job, &entries)?;
     assert_eq!(rt;
         text.as_slice(),
         b"\

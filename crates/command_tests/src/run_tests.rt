@@ -1,15 +1,14 @@
 //! Runs of jobs, with their outputs and traces.
 
-use crate::calls::{Call, Given, RUN, WELL, called};
-use crate::facts::{Fact, compare, tells};
+ghost use Rattle.std.specs.Prelude.{◌≤◌};
+
+use crate::calls::{Given, RUN, given_by};
 use crate::paged_jobs::{ENCLAVE, EPC, MANY_ADDS, SCRIPT, STARTS, STORES, SWAPPED, SWAPPED_TOLD};
 use crate::worked_runs::{
     FAULTS, FROM_OUTSIDE, MANY_PAGES, MEASURED_APART, OTHER_DIGEST, Run, SAVED_STATE, TIMER,
 };
 use page_commands::status::Status;
-use sgx_types::names::Memory;
-use std::alloc::{AllocError, Global};
-use std::fmt::Write;
+use std::alloc::{Alloc, Global};
 use std::process::Abort;
 use std::sync::Wait;
 use std::test::Fail;
@@ -26,86 +25,76 @@ pub const TRACE: &[u8] =
     p0 enter A 0 2 3 0\np0 fill 2 4\np0 load 0x2000 7\np0 exit\nend 10\n";
 
 /// Runs a job, whose edges move and fail so, and compares how it ends and what it gives.
-pub fn ends<R: Abort + Threads + Wait + Sync>(
-    rt: &R,
-    alloc: Global,
+pub fn ends(
+    rt: &(impl Abort + Alloc<A = Global> + Threads + Wait + Sync),
     job: &[u8],
     piece: usize,
-    fails: [&[u64]; 4],
+    fails: [&[u64]; 3],
     status: Status,
     out: &[u8],
     trace: &[u8],
-) -> Result<(), Memory> {
-    let call = Call {
-        words: RUN,
-        job: &[job],
-        old: &[],
-        piece,
-        fails,
-    };
-    tells(
-        rt,
-        alloc,
-        &call,
-        &[Fact::Ends(status), Fact::Out(out), Fact::Trace(trace)],
-    )
+) -> Result<(), Fail>
+    requires { 1 ≤ piece }
+{
+    let given = given_by(rt, rt.alloc(), RUN, job, piece, fails)?;
+    assert_eq!(rt; given.status, status);
+    assert_eq!(rt; given.out.as_slice(), out);
+    assert_eq!(rt; given.trace.as_slice(), trace);
+    Ok(())
 }
 
 #[test]
 fn a_job_gives_its_trace_and_its_output(rt: HostRuntime) -> Result<(), Fail> {
     for piece in [1, 7, 16, 100, 1000] {
-        ends(&rt, rt.alloc(), JOB, piece, WELL, Status::Done, OUT, TRACE)?;
+        ends(&rt, JOB, piece, [&[], &[], &[]], Status::Done, OUT, TRACE)?;
     }
     Ok(())
+}
+
+// Runs a worked job.
+fn gives(
+    rt: &(impl Abort + Alloc<A = Global> + Threads + Wait + Sync),
+    run: &Run,
+) -> Result<(), Fail> {
+    ends(
+        rt,
+        run.job,
+        100,
+        [&[], &[], &[]],
+        Status::Done,
+        run.out,
+        run.trace,
+    )
 }
 
 #[test]
 fn worked_jobs_give_their_texts(rt: HostRuntime) -> Result<(), Fail> {
-    let runs: [&Run; 7] = [
-        &TIMER,
-        &SAVED_STATE,
-        &FAULTS,
-        &FROM_OUTSIDE,
-        &OTHER_DIGEST,
-        &MANY_PAGES,
-        &MEASURED_APART,
-    ];
-    for run in runs {
-        ends(
-            &rt,
-            rt.alloc(),
-            run.job,
-            100,
-            WELL,
-            Status::Done,
-            run.out,
-            run.trace,
-        )?;
-    }
-    Ok(())
+    gives(&rt, &TIMER)?;
+    gives(&rt, &SAVED_STATE)?;
+    gives(&rt, &FAULTS)?;
+    gives(&rt, &FROM_OUTSIDE)?;
+    gives(&rt, &OTHER_DIGEST)?;
+    gives(&rt, &MANY_PAGES)?;
+    gives(&rt, &MEASURED_APART)
 }
 
 // What a run of a job gives that is made of these parts.
-fn of_parts<R: Threads + Wait + Sync>(
-    rt: &R,
-    alloc: Global,
+fn of_parts(
+    rt: &(impl Abort + Alloc<A = Global> + Threads + Wait + Sync),
     parts: &[&[u8]],
-) -> Result<Box<Given>, Memory> {
-    let call = Call {
-        words: RUN,
-        job: parts,
-        old: &[],
-        piece: 1000,
-        fails: WELL,
-    };
-    called(rt, alloc, &call)
+) -> Result<Given, Fail> {
+    let mut job = Vec::new(rt.alloc());
+    for part in parts {
+        job.extend_from_slice(part)?;
+    }
+    Ok(given_by(rt, rt.alloc(), RUN, &job, 1000, [&[], &[], &[]])?)
 }
 
 // Words by which an entry tells that something went wrong.
 const SIGNS: &[&str] = &["MacFail", "noroom", "EpochSpent", "VersionSpent"];
 
 // What of a trace tells that something went wrong, in its order: each whole line on a page that could not be reloaded, and such words.
-fn signs(alloc: Global, trace: &str) -> Result<String, Memory> {
+fn signs(alloc: Global, trace: &str) -> Result<String, Fail> {
     let mut told = String::new(alloc);
     for line in trace.lines() {
         if line.contains(" bus ") {
@@ -123,27 +112,23 @@ fn signs(alloc: Global, trace: &str) -> Result<String, Memory> {
 }
 
 // Runs a job whose pages do not fit, made of these parts. What its trace tells of what went wrong is one of the texts `told`, and is all.
-fn pages<R: Abort + Threads + Wait + Sync>(
-    rt: &R,
-    alloc: Global,
+fn pages(
+    rt: &(impl Abort + Alloc<A = Global> + Threads + Wait + Sync),
     parts: &[&[u8]],
     status: Status,
     replies: &[&str],
     told: &[&str],
-) -> Result<(), Memory> {
-    let given = of_parts(rt, alloc, parts)?;
-    let mut lines = String::new(alloc);
+) -> Result<(), Fail> {
+    let given = of_parts(rt, parts)?;
+    let mut lines = String::new(rt.alloc());
     for part in replies {
         lines.push_str(part)?;
     }
-    compare(
-        rt,
-        &given,
-        &[Fact::Ends(status), Fact::Out(lines.as_bytes())],
-    );
+    assert_eq!(rt; given.status, status);
+    assert_eq!(rt; str::from_utf8(&given.out).ok(), Some(lines.as_str()));
     let found = signs(
-        alloc,
-        str::from_utf8(given.trace.bytes()).unwrap_or("MacFail"),
+        rt.alloc(),
+        str::from_utf8(&given.trace).unwrap_or("MacFail"),
     )?;
     assert_eq!(rt; told.iter().any(|text| *text == found.as_str()), true);
     Ok(())
@@ -154,7 +139,6 @@ fn pages_go_out_and_come_back_or_their_processor_is_told(rt: HostRuntime) -> Res
     for (store, status, replies, told) in STORES {
         pages(
             &rt,
-            rt.alloc(),
             &[EPC, ENCLAVE, store, SCRIPT],
             *status,
             replies,
@@ -169,7 +153,6 @@ fn a_run_is_stopped_where_a_number_is_used_up(rt: HostRuntime) -> Result<(), Fai
     for (start, told) in STARTS {
         pages(
             &rt,
-            rt.alloc(),
             &[EPC, start, ENCLAVE, SCRIPT],
             Status::Spent,
             &["cpu 0\n"],
@@ -181,53 +164,40 @@ fn a_run_is_stopped_where_a_number_is_used_up(rt: HostRuntime) -> Result<(), Fai
 
 #[test]
 fn records_that_are_swapped_end_both_processors(rt: HostRuntime) -> Result<(), Fail> {
-    Ok(pages(
+    pages(
         &rt,
-        rt.alloc(),
         &[EPC, ENCLAVE, SWAPPED],
         Status::Bus,
         &["A init\ncpu 0\ncssa 0\nbus\ncpu 1\ncssa 0\nbus\n"],
         SWAPPED_TOLD,
-    )?)
-}
-
-// Four processors add one to one word a hundred times each.
-fn push_adds(scripts: &mut String) -> Result<(), AllocError> {
-    for number in 0..4u64 {
-        write!(scripts, "cpu {number}\neenter A {number}\n")?;
-        for _ in 0..100 {
-            scripts.push_str("xadd 0x8000 1\n")?;
-        }
-        scripts.push_str("eexit\n")?;
-    }
-    Ok(())
-}
-
-// Whether each number below 400 is one line of a text.
-fn is_each_once(alloc: Global, text: &str) -> Result<bool, AllocError> {
-    let mut seen = vec![in alloc; false; 400]?;
-    for line in text.lines() {
-        if let Ok(number) = line.parse::<usize>()
-            && let Some(place) = seen.get_mut(number)
-        {
-            *place = !*place;
-        }
-    }
-    Ok(seen.iter().all(|once| *once))
+    )
 }
 
 // The answers of the adds of four processors to one word.
 #[test]
 fn no_add_is_lost_or_made_twice(rt: HostRuntime) -> Result<(), Fail> {
     let alloc = rt.alloc();
-    let mut scripts = String::new(alloc);
-    push_adds(&mut scripts)?;
-    let given = of_parts(&rt, alloc, &[MANY_ADDS, scripts.as_bytes()])?;
-    compare(&rt, &given, &[Fact::Ends(Status::Done)]);
-    let text = str::from_utf8(given.out.bytes()).unwrap_or("");
-    assert_eq!(rt;
-        (is_each_once(alloc, text)?, text.lines().count()),
-        (true, 1 + 4 * 103)
-    );
+    let mut scripts = Vec::new(alloc);
+    for number in 0..4 {
+        let enters = format!(in alloc; "cpu {number}\neenter A {number}\n")?;
+        scripts.extend_from_slice(enters.as_bytes())?;
+        for _ in 0..100 {
+            scripts.extend_from_slice(b"xadd 0x8000 1\n")?;
+        }
+        scripts.extend_from_slice(b"eexit\n")?;
+    }
+    let given = of_parts(&rt, &[MANY_ADDS, &scripts])?;
+    assert_eq!(rt; given.status, Status::Done);
+    let mut seen = vec![in alloc; false; 400]?;
+    let text = str::from_utf8(&given.out).unwrap_or("");
+    for line in text.lines() {
+        if let Ok(number) = line.parse::<usize>() {
+            if let Some(place) = seen.get_mut(number) {
+                *place = !*place;
+            }
+        }
+    }
+    assert_eq!(rt; seen.iter().all(|once| *once), true);
+    assert_eq!(rt; text.lines().count(), 1 + 4 * 103);
     Ok(())
 }

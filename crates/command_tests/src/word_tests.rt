@@ -1,12 +1,10 @@
 //! The other commands, the words that are none, and what is told of each ending.
 
-use crate::calls::Call;
-use crate::facts::{Fact, tells};
+use crate::calls::given_by;
 use crate::run_tests::JOB;
 use page_commands::complaints::complain;
 use page_commands::status::Status;
-use sgx_types::names::Memory;
-use std::alloc::Global;
+use std::alloc::{Alloc, Global};
 use std::cell::Cell;
 use std::fmt::Display;
 use std::io::{self, Eprint, ErrorKind};
@@ -65,34 +63,26 @@ const NO_COMMANDS: &[&[&str]] = &[
 
 // Calls the program with these words, which are to read nothing and to give no trace: each edge but the output would fail
 // at its first call.
-fn begins<R: Abort + Threads + Wait + Sync>(
-    rt: &R,
-    alloc: Global,
+fn begins(
+    rt: &(impl Abort + Alloc<A = Global> + Threads + Wait + Sync),
     words: &[&str],
     fails: &[u64],
     status: Status,
     begin: &str,
-) -> Result<(), Memory> {
-    let call = Call {
-        words,
-        job: &[JOB],
-        old: &[],
-        piece: 1000,
-        fails: [&[1], &[1], fails, &[1]],
-    };
-    let facts = [
-        Fact::Ends(status),
-        Fact::Left(JOB.len()),
-        Fact::Faults([0, 0, 0, 0]),
-        Fact::Begins(begin),
-    ];
-    tells(rt, alloc, &call, &facts)
+) -> Result<(), Fail> {
+    let given = given_by(rt, rt.alloc(), words, JOB, 1000, [&[1], fails, &[1]])?;
+    assert_eq!(rt; given.status, status);
+    assert_eq!(rt; given.left, JOB.len());
+    assert_eq!(rt; given.faults, [0, 0, 0, 0]);
+    let begun = str::from_utf8(&given.out).is_ok_and(|text| text.starts_with(begin));
+    assert_eq!(rt; begun, true);
+    Ok(())
 }
 
 #[test]
 fn a_job_is_made_and_a_made_job_runs(rt: HostRuntime) -> Result<(), Fail> {
     for (words, begin) in MADE {
-        begins(&rt, rt.alloc(), words, &[], Status::Done, begin)?;
+        begins(&rt, words, &[], Status::Done, begin)?;
     }
     Ok(())
 }
@@ -100,7 +90,7 @@ fn a_job_is_made_and_a_made_job_runs(rt: HostRuntime) -> Result<(), Fail> {
 #[test]
 fn other_words_are_no_command(rt: HostRuntime) -> Result<(), Fail> {
     for words in NO_COMMANDS {
-        begins(&rt, rt.alloc(), words, &[1], Status::BadWords, "")?;
+        begins(&rt, words, &[1], Status::BadWords, "")?;
     }
     Ok(())
 }
@@ -174,8 +164,8 @@ fn an_ending_has_its_number_and_its_line(rt: HostRuntime) -> Result<(), Fail> {
             line: Cell::new(None),
         };
         complain(&terminal, *status, *failed)?;
-        let told = terminal.line.take();
-        assert_eq!(rt; (status.code(), told.as_deref()), (*code, *line));
+        assert_eq!(rt; status.code(), *code);
+        assert_eq!(rt; terminal.line.take().as_deref(), *line);
     }
     Ok(())
 }
