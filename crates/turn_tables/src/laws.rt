@@ -6,6 +6,7 @@ ghost use Rattle.driver_laws.specs.inner.Three.{NamesOwn, TcsAreApart};
 ghost use Rattle.driver_rules.specs.Dues.{Finished};
 ghost use Rattle.driver_rules.specs.Scripts.{IsEnded, ScriptRule};
 ghost use Rattle.driver_rules.specs.Turns.{builder_due, cpu_due};
+ghost use Rattle.cached_translations.specs.declared.processor.Mode.{Mode};
 ghost use Rattle.job_grammar.specs.Jobs.{JobView};
 ghost use Rattle.job_grammar.specs.inner.Valid.{IsValid};
 ghost use Rattle.paging_laws.specs.inner.State.{State};
@@ -16,9 +17,9 @@ ghost use Rattle.sgx_types.specs.declared.names.Actor.{Actor};
 ghost use Rattle.sgx_rules.specs.declared.entries.Entry.{Entry};
 ghost use Rattle.turn_tables.specs.inner.Due.{IsOrderly};
 ghost use Rattle.turn_tables.specs.inner.Ending.{EndsAreTold, IsForRecord, NoneFails};
-ghost use Rattle.turn_tables.specs.inner.Entries.{EntersApart};
+ghost use Rattle.turn_tables.specs.inner.Entries.{CanNote, EntersApart};
 ghost use Rattle.turn_tables.specs.inner.Holding.{KeepsHolds};
-ghost use Rattle.turn_tables.specs.inner.Noting.{AreFew};
+ghost use Rattle.turn_tables.specs.inner.Noting.{AreFew, IsNoted};
 ghost use Rattle.turn_tables.specs.inner.Shown.{ShowsTurns};
 ghost use Rattle.turn_tables.specs.declared.turns.Turns.{Turns};
 
@@ -49,4 +50,10 @@ pub fn holds_begin()
 /// No count of the tables is larger than the number of entries that they show.
 pub fn counts_are_few()
     ensures { (j : JobView) (past : List Entry) (t : Turns) → ShowsTurns j past t → length past < 2 ^ 63 → AreFew t }
+{}
+
+/// Tables that show what the entries say go on to, behind an entry that they took in.
+pub fn noted_tables_show_their_entries()
+    ensures { (j : JobView) (past : List Entry) (old new : Turns) (before : Mode) (e : Entry) → IsNoted j old before e new
+        → ShowsTurns j past old → CanNote j past before e → ShowsTurns j (e ∷ past) new }
 {}

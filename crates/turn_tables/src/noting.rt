@@ -1,15 +1,12 @@
 //! What an entry does to the tables.
 
-ghost use Rattle.std.specs.Prelude.{ℕ, ◌≡◌, ◌<◌, ◌∷◌, ◌^◌, List, length, IfSome};
-ghost use Rattle.sgx_rules.specs.declared.entries.Entry.{Entry};
+ghost use Rattle.std.specs.Prelude.{ℕ, ◌≡◌, ◌<◌, ◌^◌, length, IfSome};
 ghost use Rattle.sgx_types.specs.declared.names.Page.{Page};
 ghost use Rattle.turn_rules.specs.inner.Cursor.{IsCursor};
 ghost use Rattle.turn_tables.specs.inner.CpuTurns.{turn_at};
-ghost use Rattle.turn_tables.specs.inner.Entries.{CanNote};
 ghost use Rattle.turn_tables.specs.inner.Noting.{AreFew, IsAmong, IsBuilt, IsNoted, IsStepped, inits_after, page_left};
 ghost use Rattle.turn_tables.specs.inner.Noting.{saves_after, with_kick};
 ghost use Rattle.turn_tables.specs.inner.Noting.{with_own};
-ghost use Rattle.turn_tables.specs.inner.Shown.{ShowsTurns};
 ghost use Rattle.turn_tables.specs.inner.TcsTurns.{tcs_at};
 
 use crate::cpu_turns::{CpuTurn, CpuTurns};
@@ -24,21 +21,9 @@ use turn_rules::cursor::BuildCursor;
 
 impl Turns {
     /// Takes an entry of any actor into the tables. `before` is how the entry's processor stood before it, and counts for nothing where
-    /// the entry is another actor's.
+    /// the entry is another actor's. That the tables go on to show what the entries say is a law, `noted_tables_show_their_entries`.
     #[inline(always)]
     pub fn note(&mut self, job: &Job, before: Mode, entry: &Entry)
-        requires cursor { IsCursor job.now self.old.cursor }
-        requires cpu { IsAmong (length self.old.cpus) entry.now.actor }
-        requires few { AreFew self.old }
-        ensures does { IsNoted job.now self.old before entry.now self.new }
-        ensures right { (past : List Entry) → ShowsTurns job.now past self.old → CanNote job.now past before entry.now
-            → ShowsTurns job.now (entry.now ∷ past) self.new }
-    {
-        self.note_by(job, before, entry);
-    }
-
-    // What it does.
-    fn note_by(&mut self, job: &Job, before: Mode, entry: &Entry)
         requires cursor { IsCursor job.now self.old.cursor }
         requires cpu { IsAmong (length self.old.cpus) entry.now.actor }
         requires few { AreFew self.old }

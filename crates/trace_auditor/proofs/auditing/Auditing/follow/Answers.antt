@@ -1,4 +1,5 @@
 use Rattle.std.proofs.Common.{◌∙◌}
+use Rattle.turn_tables.proofs.NoteLaws.{noted_shown}
 use Rattle.trace_auditor.proofs.FollowLaws.{all_follows, among, can_follow, can_hold, can_note, few, followed_by, holds_by}
 use Rattle.trace_auditor.proofs.FollowLaws.{settled_with}
 use Rattle.trace_auditor.proofs.FollowLaws.{with_list}
@@ -30,7 +31,7 @@ returns c = λ can.
     all_follows c.args.job.now c.args.self.now c.args.before c.args.start c.args.entry.now can d f list.own c.note.new.self
     c.settle.new.self _
     (holds_by c.args.job.now c.args.self.now c.args.before c.args.start c.args.entry.now can d f list.own c.hold.ensures.holds)
-    (c.note.ensures.right can.past can.trace.turns
+    (noted_shown c.args.job.now can.past c.args.self.now.turns c.note.new.self c.args.before c.args.entry.now c.note.ensures can.trace.turns
     (can_note c.args.job.now c.args.self.now c.args.before c.args.start c.args.entry.now can))
     (c.settle.ensures ∙ settled_with c.args.self.now.pass c.marks.ensures c.free_count.ensures)
     (with_list c.args.self.now d list c.note.new.self c.settle.new.self c.hold.ensures.others))
