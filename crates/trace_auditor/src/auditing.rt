@@ -31,6 +31,12 @@ impl Auditing {
     pub(crate) fn new(alloc: Global, job: &Job) -> Result<Auditing, Memory>
         ensures { IfOk result (KeepsAudit job.now []) }
     {
+        let blank = blank(alloc)?;
+        let records = OldRecords::new(alloc);
+        let pass = TracePass::new(alloc)?;
+        let turns = Turns::new(alloc, job)?;
+        let driver = Driver::new(alloc, job)?;
+        // The machine comes last, so that no other refusal has to give it back.
         let machine = Machine::new(
             alloc,
             job.epc(),
@@ -39,11 +45,6 @@ impl Auditing {
             job.start_epoch(),
             job.start_version(),
         )?;
-        let driver = Driver::new(alloc, job)?;
-        let turns = Turns::new(alloc, job)?;
-        let pass = TracePass::new(alloc)?;
-        let records = OldRecords::new(alloc);
-        let blank = blank(alloc)?;
         Ok(Auditing {
             machine,
             driver,
