@@ -1,1 +1,2 @@
 pub mod inner
+pub use Rattle.rounds.specs.Spent

@@ -1,6 +1,6 @@
 //! A run of a book by threads.
 
-ghost use Rattle.std.specs.Prelude.{◌≡◌, ◌≤◌, IfOk, length, reverse};
+ghost use Rattle.std.specs.Prelude.{◌≡◌, ◌≤◌, IfOk, is_some, length, reverse};
 ghost use Rattle.crew.specs.inner.Tallies.{IsTally};
 ghost use Rattle.driver_rules.specs.Scripts.{IsEnded};
 
@@ -33,6 +33,8 @@ pub fn run_crew<R: Threads + Wait + Sync, B: Backing + Send, G: Gate + Sync>(
     requires pass { pass.words ≡ words.now }
     ensures job { IfOk result (λ made. made.0.book.job ≡ book.book.job) }
     ensures words { IfOk result (λ made. made.0.words ≡ book.words) }
+    // A store that tells its calls goes on to.
+    ensures tells { IfOk result (λ made. is_some made.0.book.told ≡ is_some book.book.told) }
     ensures ended { IfOk result (λ made. IsEnded made.0.book.job made.0.book.past) }
     ensures tally { IfOk result (λ made. IsTally (reverse made.0.book.past) (length made.0.book.job.scripts) made.1) }
 {
@@ -59,6 +61,8 @@ pub fn run_workers<R: Threads + Wait + Sync, B: Backing + Send, G: Gate + Sync>(
     requires pass { pass.words ≡ words.now }
     ensures job { IfOk result (λ made. made.book.job ≡ book.book.job) }
     ensures words { IfOk result (λ made. made.words ≡ book.words) }
+    // A store that tells its calls goes on to.
+    ensures tells { IfOk result (λ made. is_some made.book.told ≡ is_some book.book.told) }
     ensures ended { IfOk result (λ made. IsEnded made.book.job made.book.past) }
 {
     let mut book = run_named::<Brand, R, B, G>(rt, alloc, book, words, pass, gate);
@@ -69,7 +73,7 @@ pub fn run_workers<R: Threads + Wait + Sync, B: Backing + Send, G: Gate + Sync>(
     Ok(book)
 }
 
-// A run under a name, which fixes the job and the words.
+// A run under a name, which fixes the job, the words and whether the store tells its calls.
 fn run_named<N: Run + Send + Sync, R: Threads + Wait + Sync, B: Backing + Send, G: Gate + Sync>(
     rt: &R,
     alloc: Global,
@@ -80,10 +84,12 @@ fn run_named<N: Run + Send + Sync, R: Threads + Wait + Sync, B: Backing + Send, 
 ) -> MachineBook<B>
     requires job { book.book.job ≡ N.job }
     requires seat { book.words ≡ N.words }
+    requires tells { is_some book.book.told ≡ N.tells }
     requires words { words.now ≡ N.words }
     requires pass { pass.words ≡ words.now }
     ensures job { result.book.job ≡ N.job }
     ensures words { result.words ≡ N.words }
+    ensures tells { is_some result.book.told ≡ N.tells }
 {
     let cpus = book.job().scripts().len() as u8;
     let shared: Mutex<Locked<B, N>> = Mutex::new(Locked::new(book));

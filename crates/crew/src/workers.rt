@@ -115,8 +115,7 @@ fn whole_turn<R: Wait, B: Backing, N: Run>(
         Ok(Turn::Seal(work)) => Ok(sealed_turn(rt, shared, made, Box::into_inner(work))),
         Ok(Turn::Unseal(work)) => match who {
             Actor::Cpu(cpu) => Ok(opened_turn(rt, shared, made, cpu, Box::into_inner(work))),
-            // Nobody else loads.
-            Actor::Builder | Actor::Reclaimer => Ok(Next::Goes),
+            Actor::Builder | Actor::Reclaimer => unreachable!(),
         },
         Ok(turn) => Ok(after(turn)),
         Err(memory) => Err(memory),

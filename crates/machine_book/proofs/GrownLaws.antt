@@ -57,13 +57,13 @@ pub run_made : (old : BookView) (cpu : Cpu) (turn : Turn) (new : BookView) → I
 run_made old cpu (turns.Did n) new (one, quiet, g) = made_of old (actors.Cpu cpu) 1 new g
 run_made old cpu (turns.Unseal work) new (opens, inl g) = made_of old (actors.Cpu cpu) 1 new g
 run_made old cpu (turns.Unseal work) new (opens, inr same) = none_made old (actors.Cpu cpu) new same
-run_made old cpu (turns.Again why) new (due, same) = none_made old (actors.Cpu cpu) new same
+run_made old cpu (turns.Again why) new (due, there, same) = none_made old (actors.Cpu cpu) new same
 run_made old cpu turns.Finished new (due, same) = none_made old (actors.Cpu cpu) new same
 run_made old cpu turns.Stopped new (due, same) = none_made old (actors.Cpu cpu) new same
 run_made old cpu (turns.Seal work) new is = absurd is
 
 pub reclaim_made : (old : BookView) (turn : Turn) (new : BookView) → IsReclaim old turn new → Made old actors.Reclaimer new
-reclaim_made old (turns.Did n) new (due, quiet, g) = made_of old actors.Reclaimer n new g
+reclaim_made old (turns.Did n) new (many, kicks, quiet, g) = made_of old actors.Reclaimer n new g
 reclaim_made old (turns.Seal work) new (seals, inl g) = made_of old actors.Reclaimer 1 new g
 reclaim_made old (turns.Seal work) new (seals, inr same) = none_made old actors.Reclaimer new same
 reclaim_made old (turns.Again why) new (due, same) = none_made old actors.Reclaimer new same
@@ -188,7 +188,7 @@ build_words old new (turns.Unseal work) n is holds k = absurd is
 
 pub out_words : (old new : BookView) (turn : Turn) (n : NotesView) → IsOutEnd old turn new → KeepsWords old n → KeepsWords new n
 out_words old new (turns.Did zero) n (none, same) k = same_words old new n same k
-out_words old new (turns.Did (suc x)) n (one, ends, g) k =
+out_words old new (turns.Did (suc x)) n (one, ends, kicks, g) k =
     keeps_made old new n n actors.Reclaimer (made_of old actors.Reclaimer 1 new g) k
     (by_entries g.entries g.count (subst EndsOut g.past ends)) refl refl
   where

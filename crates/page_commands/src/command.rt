@@ -1,6 +1,6 @@
 //! The top call: the words of the command line, what each command does, and how it ends.
 
-ghost use Rattle.std.specs.Prelude.{◌≡◌, ◌+◌, ◌^◌, ◌⊎◌, ◌↔◌, ℕ, [], map, string_bytes, IfSome, IsSomeAnd, None};
+ghost use Rattle.std.specs.Prelude.{◌≡◌, ◌+◌, ◌^◌, ◌⊎◌, ◌↔◌, ℕ, [], is_some, map, string_bytes, IfSome, IsSomeAnd, None};
 ghost use Rattle.std.specs.Prelude.{Some};
 ghost use Rattle.command_words.specs.Commands.{command_in};
 ghost use Rattle.command_words.specs.declared.command.Command.TheVariants as commands;
@@ -121,6 +121,13 @@ pub fn sgxpage<
         ⊎ ((end : End) × IsSomeAnd result.store (λ store. RanBy bytes end (B.told store) (B.plans store)
         (λ j past. HalfGiven j past (K.given out.old) (K.given out.new) (L.given trace.old) (L.given trace.new))))) }
     ensures memory { result.status ≡ Status.Memory → (out.new ≡ out.old) × (trace.new ≡ trace.old) }
+    // The store comes back from a run that came to its end, whatever the status, and from no other.
+    ensures back { command_in (map string_bytes words.now) ≡ Some commands.Run → IfSome result.store (λ store.
+        OfRead (J.left job.old) (λ bytes. (end : End) × RanBy bytes end (B.told store) (B.plans store) (λ j past. Unit {0}))) }
+    ensures demo_back { (number size : ℕ) → command_in (map string_bytes words.now) ≡ Some (commands.Demo number size) →
+        IfSome result.store (λ store. (end : End) × DemoBy number size end (B.told store) (B.plans store) (λ entries. Unit {0})) }
+    // A store that tells its calls goes on to.
+    ensures tells { IfSome result.store (λ back. is_some (B.told back) ≡ is_some (B.told store)) }
 
     ensures make { (number size : ℕ) → command_in (map string_bytes words.now) ≡ Some (commands.Make number size) →
         IsTextGiven (job_text (made_job number size)) result.status (K.given out.old) (K.given out.new)

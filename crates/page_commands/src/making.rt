@@ -1,6 +1,6 @@
 //! The commands `make` and `demo`, of a job that is made of a number and a size.
 
-ghost use Rattle.std.specs.Prelude.{◌≡◌, ◌≤◌, ◌⊎◌, [], IfSome, IsErrOf, IsSomeAnd, OnOk, Some};
+ghost use Rattle.std.specs.Prelude.{◌≡◌, ◌≤◌, ◌⊎◌, [], is_some, IfSome, IsErrOf, IsSomeAnd, OnOk, Some};
 ghost use Rattle.io_edges.specs.Faults.{HasRisen};
 ghost use Rattle.io_edges.specs.Sinks.{GivesPart, followed_by};
 ghost use Rattle.job_make.specs.MadeJob.{made_job};
@@ -79,6 +79,11 @@ pub(crate) fn demo_command<R: Threads + Wait + Sync, K: Sink, B: Backing + Send,
         GivesPart (K.given out.old) (K.given out.new) (summary_of size entries))) }
     ensures memory { result.status ≡ Status.Memory → out.new ≡ out.old }
     ensures failed { result.status ≡ Status.WriteFault → HasRisen (K.faults out.old) (K.faults out.new) }
+    // The store comes back from a run that came to its end, whatever the status, and from no other.
+    ensures back { IfSome result.store (λ store.
+        (end : End) × DemoBy number size end (B.told store) (B.plans store) (λ entries. Unit {0})) }
+    // A store that tells its calls goes on to.
+    ensures tells { IfSome result.store (λ back. is_some (B.told back) ≡ is_some (B.told store)) }
 {
     let job = match make_job(alloc, number, size) {
         Ok(job) => job,

@@ -1,6 +1,6 @@
 //! The command `run`: a job to its trace and its output.
 
-ghost use Rattle.std.specs.Prelude.{◌≡◌, ◌+◌, ◌^◌, ◌⊎◌, [], reverse, IfSome, IsErrOf, IsSomeAnd, None, OnOk, Some};
+ghost use Rattle.std.specs.Prelude.{◌≡◌, ◌+◌, ◌^◌, ◌⊎◌, [], is_some, reverse, IfSome, IsErrOf, IsSomeAnd, None, OnOk, Some};
 ghost use Rattle.io_edges.specs.Faults.{HasRisen};
 ghost use Rattle.io_edges.specs.Sources.{TakesAtMost};
 ghost use Rattle.old_trace.specs.Reading.{OfRead};
@@ -68,6 +68,11 @@ pub(crate) fn run_command<
         ⊎ ((end : End) × IsSomeAnd result.store (λ store. RanBy bytes end (B.told store) (B.plans store)
         (λ j past. HalfGiven j past (K.given out.old) (K.given out.new) (L.given trace.old) (L.given trace.new))))) }
     ensures memory { result.status ≡ Status.Memory → (out.new ≡ out.old) × (trace.new ≡ trace.old) }
+    // The store comes back from a run that came to its end, whatever the status, and from no other.
+    ensures back { IfSome result.store (λ store. OfRead (J.left job.old) (λ bytes.
+        (end : End) × RanBy bytes end (B.told store) (B.plans store) (λ j past. Unit {0}))) }
+    // A store that tells its calls goes on to.
+    ensures tells { IfSome result.store (λ back. is_some (B.told back) ≡ is_some (B.told store)) }
 {
     let job = match read(alloc, job) {
         Ok(job) => job,

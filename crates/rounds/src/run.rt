@@ -2,7 +2,7 @@
 
 ghost use Rattle.driver_rules.specs.Scripts.{IsEnded};
 ghost use Rattle.rounds.specs.inner.Rests.{CpusRest, IsSameRun};
-ghost use Rattle.std.specs.Prelude.{◌≡◌, OnOk, IfOk, false, length, true};
+ghost use Rattle.std.specs.Prelude.{◌≡◌, OnOk, IfOk, false, is_some, length, true};
 
 use crate::turns::{build, reclaim, run_cpu};
 use backing_store::backing::Backing;
@@ -26,6 +26,8 @@ pub fn run<R: Wait, B: Backing>(
     ensures job { book.new.book.job ≡ book.old.book.job }
     ensures words { book.new.words ≡ book.old.words }
     ensures out_of_memory { book.new.book.out_of_memory ≡ false }
+    // A store that tells its calls goes on to.
+    ensures tells { is_some book.new.book.told ≡ is_some book.old.book.told }
     ensures ended { OnOk result (IsEnded book.new.book.job book.new.book.past) }
 {
     for _ in rt.forever() {

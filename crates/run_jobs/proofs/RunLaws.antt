@@ -61,6 +61,7 @@ whole b end holds ended is = record {
   stale = holds.anyhow.stale;
   evict = holds.anyhow.evict;
   rising = holds.anyhow.rising;
+  spent = holds.anyhow.spent;
   store = holds.anyhow.store;
   history = histories b.job b.past b.told ended holds.unforged;
   end_is = is;

@@ -12,6 +12,7 @@ use Rattle.run_history.specs.Given.{UnforgedRun}
 use Rattle.run_history.specs.Histories.{History}
 use Rattle.run_history.specs.Honest.{IsHonest}
 use Rattle.run_history.specs.Stored.{PutsAreFlat, StoreTrue}
+use Rattle.crew.specs.Spent.{SpentRule}
 use Rattle.run_jobs.specs.Ends.{IsEndOf}
 use Rattle.run_jobs.specs.declared.ends.End.{End}
 use Rattle.run_jobs.specs.declared.ends.End.TheVariants as ends
@@ -27,6 +28,8 @@ pub record WholeRun (j : JobView) (past : List Entry) (end : End) (told : Option
   pub stale : Stale past
   pub evict : Along EvictRule past
   pub rising : Along (RisingRule j.start_version) past
+  -- an epoch or a version is refused only where it is used up
+  pub spent : Along (SpentRule j) past
   -- the store's calls are those of which the entries tell
   pub store : StoreTrue j past plans told
   -- where no record was forged, all rules hold, and each record that was put has the flat bytes of its page there

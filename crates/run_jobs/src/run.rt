@@ -1,7 +1,7 @@
 //! A whole run of a job.
 
 ghost use Rattle.run_jobs.specs.Runs.{WholeRun};
-ghost use Rattle.std.specs.Prelude.{◌≡◌, [], IfOk, IfSome, reverse};
+ghost use Rattle.std.specs.Prelude.{◌≡◌, [], IfOk, IfSome, is_some, reverse};
 
 use crate::ends::{End, end_of};
 use backing_store::backing::Backing;
@@ -37,6 +37,8 @@ pub fn run_job<R: Threads + Wait + Sync, B: Backing + Send, G: Gate + Sync>(
 ) -> Result<Run<B>, Memory>
     requires { IfSome (B.told store) (λ calls. calls ≡ []) }
     ensures job { IfOk result (λ run. run.job ≡ job) }
+    // A store that tells its calls goes on to.
+    ensures tells { IfOk result (λ run. is_some (B.told run.store) ≡ is_some (B.told store)) }
     ensures run { IfOk result (λ run.
         WholeRun run.job (reverse run.entries.items) run.end (B.told run.store) (B.plans run.store)) }
 {

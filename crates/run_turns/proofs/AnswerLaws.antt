@@ -32,13 +32,14 @@ use Rattle.run_turns.specs.declared.turn.Turn.{Turn}
 use Rattle.run_turns.specs.declared.turn.Turn.TheVariants as turns
 use Rattle.run_turns.specs.inner.Courses.{Grows, IsSame, KeepsCourse, past_of}
 use Rattle.run_turns.specs.inner.Passing.{FollowsBy, HasKicks, HasOne, HasSealed, IsFollowed, IsOwnEntry, IsSealOf}
-use Rattle.run_turns.specs.inner.Turns.{IsAtRest, IsReclaimerTurn, IsWaitBy, MakesMany, due_of}
+use Rattle.run_turns.specs.inner.Turns.{IsAtRest, IsReclaimerTurn, IsWaitBy, KicksBy, MakesMany, due_of}
 use Rattle.reclaim_worker.specs.inner.After.{cpu_of, kicked_past}
 use Rattle.sgx_rules.specs.declared.entries.Event.TheVariants.{Kick}
 use Rattle.run_turns.proofs.PassTurnLaws.{IsTurnEntry, TellsDue, spent_none}
 use Rattle.run_turns.proofs.StartLaws.{none_started}
 use Rattle.run_turns.proofs.FollowLaws.{IsStepped, course_ready, kicks_due, tells_of}
 use Rattle.run_turns.proofs.KeepLaws.{same_self}
+use Rattle.run_turns.proofs.KickedLaws.{entry_kicks, kicks_one, turn_kicks}
 use Rattle.run_turns.proofs.RestLaws.{rest_behind, rest_keeps, same_grows, same_past, same_twice}
 
 -- ---- what is taken in
@@ -63,6 +64,7 @@ room_grows old mid by n told spare room g = record {
   actors = g.actors;
   past = g.past;
   job = g.job;
+  kicks = g.kicks;
   keeps = rest_keeps mid (record mid { room = room }) told spare (record {
     job = refl;
     state = refl;
@@ -167,13 +169,21 @@ module _ (c : Course) (told longer : Option (List Call)) (before spare : ℕ) (p
   one turn e (turns.Did n) is s g =
       let own = own_of c.driver.slots (pass_due c.job (past_of c) (is_kicked c.pass.phase) (pass c.job (past_of c))) turn e is
       (tells_of c told longer before spare p d m k going room turn s) in
-      subst (λ n. MakesMany (due_of c) n × (started (past_of c') actors.Reclaimer ≡ false) × Grows c actors.Reclaimer n c' longer spare)
+      subst (λ n. MakesMany (due_of c) n × KicksBy (due_of c) (is_kicked c.pass.phase) (is_kicked c'.pass.phase)
+      × (started (past_of c') actors.Reclaimer ≡ false) × Grows c actors.Reclaimer n c' longer spare)
       (sym g.0) (
         subst (λ due. MakesMany due 1) (sym due_is)
             (makes_one (machine_of c.job) (past_of c) c.driver.slots
             (pass_due c.job (past_of c) (is_kicked c.pass.phase) (pass c.job (past_of c))) turn e is s.due),
+        subst (λ due. KicksBy due (is_kicked c.pass.phase) (is_kicked c'.pass.phase)) (sym due_is)
+            (subst (KicksBy (pass_due c.job (past_of c) (is_kicked c.pass.phase) (pass c.job (past_of c))) (is_kicked c.pass.phase))
+            (sym g.2)
+            (kicks_one (machine_of c.job) (past_of c) c.driver.slots
+            (pass_due c.job (past_of c) (is_kicked c.pass.phase) (pass c.job (past_of c))) turn e is s.due
+            (entry_kicks c.pass.phase p.phase turn e is
+            (turn_kicks c.pass.taken.items p.taken.items c.driver d turn p.phase c.pass.phase c.machine m s.says)))),
         subst (λ h. started h actors.Reclaimer ≡ false) (sym g.1) (none_own (past_of c) e own.0.actor own.1),
-        same_grows c after c' actors.Reclaimer 1 longer spare refl refl g.2,
+        same_grows c after c' actors.Reclaimer 1 longer spare refl refl tt g.3,
       )
   one turn e (turns.Seal work) is s g = absurd g
   one turn e (turns.Unseal work) is s g = absurd g
@@ -187,8 +197,10 @@ module _ (c : Course) (told longer : Option (List Call)) (before spare : ℕ) (p
       let are = kicks_due c told longer before spare p d m k going room bits s in
       let both = g.0 are.0 are.1.1 in (
         subst (λ due. MakesMany due n) (sym (due_is ∙ are.1.0)) both.0,
+        subst (λ due. KicksBy due (is_kicked c.pass.phase) (is_kicked c'.pass.phase)) (sym (due_is ∙ are.1.0))
+            (g.1 ∙ turn_kicks c.pass.taken.items p.taken.items c.driver d (passed.Kicks bits) p.phase c.pass.phase c.machine m s.says),
         subst (λ h. started h actors.Reclaimer ≡ false) (sym both.1) (none_kicked are.0 (past_of c) calm),
-        same_grows c after c' actors.Reclaimer n longer spare refl refl g.1,
+        same_grows c after c' actors.Reclaimer n longer spare refl refl tt g.2,
       )
   kicks bits (turns.Seal work) s g = absurd g
   kicks bits (turns.Unseal work) s g = absurd g
@@ -197,7 +209,7 @@ module _ (c : Course) (told longer : Option (List Call)) (before spare : ℕ) (p
   kicks bits turns.Stopped s g = absurd g
 
   sealed : (result : Turn) → HasSealed after result c' longer spare → IsReclaimerTurn c result c' longer spare
-  sealed (turns.Seal work) g = (g.0, inl (same_grows c after c' actors.Reclaimer 1 longer spare refl refl g.1))
+  sealed (turns.Seal work) g = (g.0, inl (same_grows c after c' actors.Reclaimer 1 longer spare refl refl tt g.1))
   sealed (turns.Did n) g = absurd g
   sealed (turns.Unseal work) g = absurd g
   sealed (turns.Again reason) g = absurd g
@@ -218,7 +230,7 @@ module _ (c : Course) (told longer : Option (List Call)) (before spare : ℕ) (p
   turn_answers passed.NoSlot result s waits h = absurd h
 
   one_keeps : (e : Entry) (result : Turn) → HasOne e after result c' longer spare → KeepsCourse c' longer spare
-  one_keeps e (turns.Did n) g = g.2.keeps
+  one_keeps e (turns.Did n) g = g.3.keeps
   one_keeps e (turns.Seal work) g = absurd g
   one_keeps e (turns.Unseal work) g = absurd g
   one_keeps e (turns.Again reason) g = absurd g
@@ -226,7 +238,7 @@ module _ (c : Course) (told longer : Option (List Call)) (before spare : ℕ) (p
   one_keeps e turns.Stopped g = absurd g
 
   kicks_keep : (result : Turn) → HasKicks after result c' longer spare → KeepsCourse c' longer spare
-  kicks_keep (turns.Did n) g = g.1.keeps
+  kicks_keep (turns.Did n) g = g.2.keeps
   kicks_keep (turns.Seal work) g = absurd g
   kicks_keep (turns.Unseal work) g = absurd g
   kicks_keep (turns.Again reason) g = absurd g
@@ -265,11 +277,13 @@ pub same_answers : (a b c : Course) (result : Turn) (told : Option (List Call)) 
     → IsReclaimerTurn b result c told spare → IsReclaimerTurn a result c told spare
 same_answers a b c (turns.Did n) told spare same g = (
   subst (λ due. MakesMany due n) (same_due a b same) g.0,
-  g.1,
-  same_grows a b c actors.Reclaimer n told spare same.job (same_past a b same.entries) g.2,
+  subst (λ (phase : Phase). KicksBy (due_of a) (is_kicked phase) (is_kicked c.pass.phase)) same.phase
+      (subst (λ due. KicksBy due (is_kicked b.pass.phase) (is_kicked c.pass.phase)) (same_due a b same) g.1),
+  g.2,
+  same_grows a b c actors.Reclaimer n told spare same.job (same_past a b same.entries) tt g.3,
 )
 same_answers a b c (turns.Seal work) told spare same (seals, inl g) =
-    (seals, inl (same_grows a b c actors.Reclaimer 1 told spare same.job (same_past a b same.entries) g))
+    (seals, inl (same_grows a b c actors.Reclaimer 1 told spare same.job (same_past a b same.entries) tt g))
 same_answers a b c (turns.Seal work) told spare same (seals, inr h) = (seals, inr (same_twice a b c same h))
 same_answers a b c (turns.Again reason) told spare same h =
     (subst (λ due. IsWaitBy due reason) (same_due a b same) h.0, rest_behind a b c same h.1)

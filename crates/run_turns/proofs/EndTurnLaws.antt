@@ -25,7 +25,7 @@ use Rattle.reclaim_worker.specs.declared.turns.Phase.TheVariants as phases
 use Rattle.reclaim_worker.specs.declared.turns.Taken.{Taken}
 use Rattle.reclaim_worker.specs.inner.Ended.{IsEnded}
 use Rattle.reclaim_worker.specs.inner.Ready.{Ready}
-use Rattle.reclaim_worker.specs.inner.Standing.{StandsFor, is_sealing}
+use Rattle.reclaim_worker.specs.inner.Standing.{StandsFor, is_kicked, is_sealing}
 use Rattle.reclaim_worker.specs.inner.Stored.{IsOpen, IsStarted, IsStored, StoredSays, next_phase, still_out, taken_in}
 use Rattle.reclaim_worker.proofs.AfterLaws.{ahead_length}
 use Rattle.reclaim_worker.proofs.OpenLaws.{can_store}
@@ -37,6 +37,7 @@ use Rattle.run_records.proofs.PassRecords.{out_flat, out_told}
 use Rattle.turn_tables.specs.inner.Noting.{with_kick}
 use Rattle.turn_tables.specs.inner.Entries.{EntersApart}
 use Rattle.run_turns.specs.declared.course.Course.{Course}
+use Rattle.run_turns.specs.Spent.{IsUsedUp}
 use Rattle.run_turns.specs.inner.Courses.{KeepsCourse, has_open_load, past_of}
 use Rattle.run_turns.specs.inner.Passing.{IsOwnEntry}
 use Rattle.run_turns.proofs.FollowLaws.{course_ready}
@@ -92,7 +93,19 @@ end_of taken (phases.Scan left) s t d d' told told' faults faults' e says = absu
 end_of taken (phases.Block next) s t d d' told told' faults faults' e says = absurd says
 end_of taken (phases.Tries next form block) s t d d' told told' faults faults' e says = absurd says
 
--- behind it no write-out is open
+-- behind it no turn of kicks was made for the next page
+pub kicks_behind : (taken : List Taken) (phase : Phase) → is_sealing phase ≡ true → is_kicked (next_phase (length taken) phase) ≡ false
+kicks_behind taken (phases.Sealing next slot) h = by_last (nat_lt (next + 1) (length taken))
+  where
+    by_last : (b : Bool) → is_kicked (if b then phases.Tries (next + 1) forms.First 0 else phases.Idle true) ≡ false
+    by_last true = refl
+    by_last false = refl
+kicks_behind taken (phases.Idle works) h = absurd (false≢true h)
+kicks_behind taken (phases.Scan left) h = absurd (false≢true h)
+kicks_behind taken (phases.Block next) h = absurd (false≢true h)
+kicks_behind taken (phases.Tries next form block) h = absurd (false≢true h)
+
+-- .. and no write-out is open
 closed : (taken : List Taken) (phase : Phase) → is_sealing phase ≡ true → is_sealing (next_phase (length taken) phase) ≡ false
 closed taken (phases.Sealing next slot) h = by_last (nat_lt (next + 1) (length taken))
   where
@@ -126,6 +139,7 @@ end_is_own c told longer before spare faults faults' e p d m k going waits says 
         enters = subst (λ (x : Entry). EntersApart x.event) (sym is.is) tt;
         back = subst (λ (x : Entry). is_bus x.event ≡ false) (sym is.is) refl;
       };
+      used = subst (λ (x : Entry). IsUsedUp c.job (past_of c) x.event) (sym is.is) refl;
       flat = out_flat (past_of c) c.pass.taken.items c.pass.phase (state_of c.machine) (state_of m) c.driver d told longer faults faults' e
           says k.book.flat;
       store = out_told (machine_of c.job) c.job (past_of c) told longer c.driver d c.machine m c.turns c.pass.taken.items c.pass.phase

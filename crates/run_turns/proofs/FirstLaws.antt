@@ -50,7 +50,7 @@ use Rattle.run_records.proofs.FlatSteps.{flat_first}
 use Rattle.run_steps.proofs.FreshLaws.{IsFresh, fresh_cpus, fresh_making}
 use Rattle.run_steps.proofs.TcsLaws.{tcs_apart}
 use Rattle.run_turns.specs.declared.course.Course.{Course}
-use Rattle.run_turns.specs.inner.Courses.{KeepsCourse, is_load, has_open_load, open_starts, past_of}
+use Rattle.run_turns.specs.inner.Courses.{IsClear, KeepsCourse, is_load, has_open_load, open_starts, past_of}
 use Rattle.run_history.specs.inner.Honest.{GiftsAreLast}
 
 -- ---- the machine
@@ -156,6 +156,14 @@ no_starts c shows idle =
     let seals : ◌≡◌ {A = ℕ} (if is_sealing c.pass.phase then 1 else 0) 0 = ap (λ x. if is_sealing x then 1 else 0) idle in
     omega (arith, loads, seals)
 
+-- ---- no entry
+
+none_first : NoneFails []
+none_first p page why h = cc
+
+clear_first : (j : JobView) → IsClear j []
+clear_first j = record { none = none_first; spent = tt }
+
 -- ---- the course
 
 -- of machine, driver, tables and pass each is new, and there is no entry
@@ -181,7 +189,7 @@ course_first c told spare first none =
       places = places_first c.pass.taken.items c.pass.phase spare first.taken first.phase;
       arrays = subst (KeepsArrays c.job c.driver.slots) (sym past) (arrays_begin c.job c.driver first.driver);
       ends = subst EndsAreTold (sym past) ends_first;
-      none = subst NoneFails (sym past) (λ p page why h. cc);
+      clear = subst (IsClear c.job) (sym past) (clear_first c.job);
       room =
           let few : vec_len c.entries ≡ 0 = c.entries.ok.0 ∙ ap length first.entries in
           let starts = no_starts c first.turns first.phase in

@@ -54,6 +54,7 @@ use Rattle.run_records.proofs.PassRecords.{turn_flat, turn_stays, turn_told}
 use Rattle.table_notes.specs.inner.Arrays.{KeepsArrays}
 use Rattle.turn_tables.specs.declared.cpu_turns.CpuTurn.{CpuTurn}
 use Rattle.turn_tables.specs.inner.Noting.{with_kick}
+use Rattle.run_turns.specs.Spent.{IsUsedUp}
 use Rattle.run_turns.specs.declared.course.Course.{Course}
 use Rattle.run_turns.specs.inner.Courses.{KeepsCourse, has_open_load, past_of}
 use Rattle.run_turns.specs.inner.Passing.{FollowsBy, IsOwnEntry, IsOwnKicks}
@@ -61,6 +62,7 @@ use Rattle.run_turns.proofs.KeepLaws.{few_cpus}
 use Rattle.run_turns.proofs.PassTurnLaws.{AtTries, IsTrackSpent, IsTrySpent, IsTurnEntry, Leaves, StaysAtTries, TellsDue}
 use Rattle.run_turns.proofs.PassTurnLaws.{spent_pass, spent_stands, turn_leaves, turn_tells}
 use Rattle.run_turns.proofs.RestLaws.{book_of_state}
+use Rattle.run_turns.proofs.SpentLaws.{turn_used}
 use Rattle.run_turns.proofs.TakeLaws.{own_entry}
 
 -- ---- before a turn
@@ -159,14 +161,15 @@ module _ (c : Course) (told longer : Option (List Call)) (before spare : ℕ) (p
 
   -- an entry can be taken in
   by_entry : (e : Entry) → IsNextOf (machine_of c.job) c.job (past_of c) c.driver c.machine e d m → d.active.own ≡ c.driver.active.own
-      → IsTurnEntry e → EnclavesAreFlat (e ∷ past_of c) → AreTold c.job (past_of c) e told longer c.driver d
+      → IsTurnEntry e → IsUsedUp c.job (past_of c) e.event → EnclavesAreFlat (e ∷ past_of c) → AreTold c.job (past_of c) e told longer c.driver d
       → ((calls : List Call) → CarriesBytes (machine_of c.job) c.job (past_of c) c.machine e m calls)
       → StandsFor c.job.start_epoch (e ∷ past_of c) p.taken.items p.phase (pass_by c.job (past_of c) e.event (pass c.job (past_of c)))
       → still_out p.taken.items p.phase ≤ spare → IsOwnEntry behind e longer spare
-  by_entry e next own mine flat store bytes stands places = own_entry c told longer before spare e p d m k record {
+  by_entry e next own mine used flat store bytes stands places = own_entry c told longer before spare e p d m k record {
     next = next;
     own = own;
     mine = mine;
+    used = used;
     flat = flat;
     store = store;
     bytes = every (CarriesBytes (machine_of c.job) c.job (past_of c) c.machine e m) longer bytes;
@@ -234,7 +237,7 @@ module _ (c : Course) (told longer : Option (List Call)) (before spare : ℕ) (p
         places = s.places;
         arrays = subst (λ (x : Driver). KeepsArrays c.job x.slots (past_of c)) (sym same) k.arrays;
         ends = k.ends;
-        none = k.none;
+        clear = k.clear;
         room = room;
       }
 
@@ -271,6 +274,10 @@ module _ (c : Course) (told longer : Option (List Call)) (before spare : ℕ) (p
   tells_of turn s = turn_tells (machine_of c.job) (past_of c) c.driver.slots turn
       (pass_due c.job (past_of c) (is_kicked c.pass.phase) (pass c.job (past_of c))) s.due
 
+  used_of : (turn : PassTurn) → IsStepped c told turn p d m longer spare → OfEntry turn (λ e. IsUsedUp c.job (past_of c) e.event)
+  used_of turn s = turn_used c.job (past_of c) c.driver.slots turn
+      (pass_due c.job (past_of c) (is_kicked c.pass.phase) (pass c.job (past_of c))) s.due
+
   flat_of : (turn : PassTurn) → IsStepped c told turn p d m longer spare → OfEntry turn (λ e. EnclavesAreFlat (e ∷ past_of c))
   flat_of turn s =
       turn_flat (past_of c) c.pass.taken.items p.taken.items c.pass.phase p.phase c.driver d c.machine m turn s.says k.book.flat
@@ -303,14 +310,16 @@ module _ (c : Course) (told longer : Option (List Call)) (before spare : ℕ) (p
   -- whatever the turn made
   pub follows_by : is_some c.room ≡ true → (turn : PassTurn) → IsStepped c told turn p d m longer spare → FollowsBy behind turn longer spare
   follows_by some (turns.One e) s =
-      by_entry e (next_of (turns.One e) s) (leaves_of (turns.One e) s) (tells_of (turns.One e) s).0 (flat_of (turns.One e) s)
+      by_entry e (next_of (turns.One e) s) (leaves_of (turns.One e) s) (tells_of (turns.One e) s).0 (used_of (turns.One e) s) (flat_of (turns.One e) s)
       (told_of (turns.One e) s) (bytes_of (turns.One e) s) s.stands s.places
   follows_by some (turns.Spent e) s =
-      by_entry e (next_of (turns.Spent e) s) (leaves_of (turns.Spent e) s).0 (tells_of (turns.Spent e) s).0 (flat_of (turns.Spent e) s)
+      by_entry e (next_of (turns.Spent e) s) (leaves_of (turns.Spent e) s).0 (tells_of (turns.Spent e) s).0 (used_of (turns.Spent e) s)
+      (flat_of (turns.Spent e) s)
       (told_of (turns.Spent e) s) (bytes_of (turns.Spent e) s)
       (stands_spent e (leaves_of (turns.Spent e) s).1 (tells_of (turns.Spent e) s).1) s.places
   follows_by some (turns.Seal e) s = (
-    by_entry e (next_of (turns.Seal e) s) (leaves_of (turns.Seal e) s).0 (tells_of (turns.Seal e) s) (flat_of (turns.Seal e) s)
+    by_entry e (next_of (turns.Seal e) s) (leaves_of (turns.Seal e) s).0 (tells_of (turns.Seal e) s) (used_of (turns.Seal e) s)
+        (flat_of (turns.Seal e) s)
         (told_of (turns.Seal e) s) (bytes_of (turns.Seal e) s) s.stands s.places,
     ((leaves_of (turns.Seal e) s).1, some),
   )

@@ -5,7 +5,6 @@ use Rattle.sgx_rules.specs.declared.entries.Action.{Action}
 use Rattle.sgx_rules.specs.declared.entries.Entry.{Entry}
 use Rattle.sgx_types.specs.declared.names.Page.{Page}
 use Rattle.job_grammar.specs.Jobs.{JobView}
-use Rattle.driver_rules.specs.declared.waits.Why.{Why}
 use Rattle.driver_rules.specs.Dues.{Due, Ends, Makes, Stopped}
 use Rattle.driver_rules.specs.Places.{Absent, Away, Here, Leaving, Loading, Place}
 use Rattle.driver_rules.specs.Stops.{is_spent}

@@ -5,6 +5,7 @@ use Rattle.std.proofs.Common.{◌∙◌, arith}
 use Rattle.std.proofs.lemmas.List.{length-append}
 use Rattle.std.proofs.lemmas.List.Sums.{count_by-le-length}
 use Rattle.sgx_types.specs.declared.names.Actor.{Actor}
+use Rattle.sgx_types.specs.declared.names.Actor.TheVariants as actors
 use Rattle.sgx_rules.specs.declared.entries.Entry.{Entry}
 use Rattle.sgx_types.specs.Making.{Making}
 use Rattle.job_grammar.specs.Jobs.{JobView}
@@ -15,15 +16,15 @@ use Rattle.cached_translations.specs.declared.processor.Mode.{Mode}
 use Rattle.paging_machine.specs.inner.Parts.{Parts}
 use Rattle.driver_tables.specs.declared.driver.Driver.{Driver}
 use Rattle.driver_rules.specs.Passes.{pass, pass_after}
-use Rattle.reclaim_worker.specs.inner.Standing.{StandsFor, is_sealing}
+use Rattle.reclaim_worker.specs.inner.Standing.{StandsFor, is_kicked, is_sealing}
 use Rattle.reclaim_worker.specs.inner.Stored.{still_out}
 use Rattle.turn_tables.specs.declared.turns.Turns.{Turns}
 use Rattle.turn_tables.specs.inner.Holding.{mode_of}
-use Rattle.turn_tables.specs.inner.Ending.{EndsAreTold, NoneFails}
+use Rattle.turn_tables.specs.inner.Ending.{EndsAreTold}
 use Rattle.table_notes.specs.inner.Arrays.{KeepsArrays}
 use Rattle.run_book.specs.inner.Books.{IsMade, KeepsBook}
 use Rattle.run_turns.specs.declared.course.Course.{Course}
-use Rattle.run_turns.specs.inner.Courses.{Grows, IsSame, KeepsCourse, has_open_load, open_starts, past_of}
+use Rattle.run_turns.specs.inner.Courses.{Grows, IsClear, IsSame, KeepsCourse, KeepsKicks, has_open_load, open_starts, past_of}
 use Rattle.run_turns.specs.inner.Recording.{CanTake, IsRecorded, IsTaken}
 use Rattle.run_turns.proofs.RecordLaws.{newest}
 
@@ -49,9 +50,9 @@ few_cpus made j past told d m t k = let few = k.turns.valid.few_scripts in let e
 pub taken_keeps : (c c' : Course) (e : Entry) (told : Option (List Call)) (spare : ℕ) → TcsAreApart c.job → c'.job ≡ c.job
     → c'.entries.items ≡ c.entries.items ++ e ∷ [] → IsRecorded c e told c' → IsTaken c e c'
     → still_out c'.pass.taken.items c'.pass.phase ≤ spare → KeepsArrays c.job c'.driver.slots (e ∷ past_of c)
-    → EndsAreTold (e ∷ past_of c) → NoneFails (e ∷ past_of c)
+    → EndsAreTold (e ∷ past_of c) → IsClear c.job (e ∷ past_of c)
     → vec_len c'.entries + 2 * open_starts c' ≤ vec_capacity c'.entries → KeepsCourse c' told spare
-taken_keeps c c' e told spare tcs job kept book stands places arrays ends none room =
+taken_keeps c c' e told spare tcs job kept book stands places arrays ends clear room =
     let past : past_of c' ≡ e ∷ past_of c = newest c.entries.items c'.entries.items e kept in
     record {
       tcs = subst TcsAreApart (sym job) tcs;
@@ -64,7 +65,7 @@ taken_keeps c c' e told spare tcs job kept book stands places arrays ends none r
       arrays = subst (λ (j : JobView). KeepsArrays j c'.driver.slots (past_of c')) (sym job)
           (subst (KeepsArrays c.job c'.driver.slots) (sym past) arrays);
       ends = subst EndsAreTold (sym past) ends;
-      none = subst NoneFails (sym past) none;
+      clear = subst (λ (j : JobView). IsClear j (past_of c')) (sym job) (subst (IsClear c.job) (sym past) clear);
       room = room;
     }
 
@@ -124,12 +125,19 @@ all_one : {A : Type 0} (P : A → Type 0) (x : A) → P x → All P (x ∷ [])
 all_one P x h zero d low = h
 all_one P x h (suc k) d low = absurd (omega (arith, low))
 
+-- .. by whoever's turn it is
+keeps_kicks : (by : Actor) {before behind : Bool} → behind ≡ before → KeepsKicks by before behind
+keeps_kicks actors.Builder same = same
+keeps_kicks (actors.Cpu cpu) same = same
+keeps_kicks actors.Reclaimer same = tt
+
 -- a turn that reserved its room, and took one entry in
 pub grown_by_one : (c x : Course) (before : Mode) (e : Entry) (told longer : Option (List Call)) (c' : Course) (by : Actor) (spare : ℕ)
     → Took c x before e told longer c' → still_out c'.pass.taken.items c'.pass.phase ≤ spare
-    → KeepsArrays c.job c'.driver.slots (e ∷ past_of c) → EndsAreTold (e ∷ past_of c) → NoneFails (e ∷ past_of c)
-    → vec_len x.entries + 64 ≤ vec_capacity x.entries → e.actor ≡ by → Grows c by 1 c' longer spare
-grown_by_one c x before e told longer c' by spare k places arrays ends none room actor =
+    → KeepsArrays c.job c'.driver.slots (e ∷ past_of c) → EndsAreTold (e ∷ past_of c) → IsClear c.job (e ∷ past_of c)
+    → vec_len x.entries + 64 ≤ vec_capacity x.entries → e.actor ≡ by → is_kicked c'.pass.phase ≡ is_kicked c.pass.phase
+    → Grows c by 1 c' longer spare
+grown_by_one c x before e told longer c' by spare k places arrays ends clear room actor kicks =
     let past : past_of x ≡ past_of c = ap reverse k.enters.items in
     let kept : length c'.entries.items ≡ length x.entries.items + 1 = ap length k.kept ∙ length-append x.entries.items (e ∷ []) in
     let both = recorded c x before e told longer c' k in
@@ -142,10 +150,13 @@ grown_by_one c x before e told longer c' by spare k places arrays ends none room
       actors = all_one (λ (y : Entry). y.actor ≡ by) e actor;
       past = newest x.entries.items c'.entries.items e k.kept ∙ ap (λ h. e ∷ h) past;
       job = k.job ∙ k.enters.job;
+      kicks = keeps_kicks by kicks;
       keeps = taken_keeps x c' e longer spare (subst TcsAreApart (sym k.enters.job) k.enters.tcs) k.job k.kept both.0 both.1 places
           (subst (λ (j : JobView). KeepsArrays j c'.driver.slots (e ∷ past_of x)) (sym k.enters.job)
           (subst (λ h. KeepsArrays c.job c'.driver.slots (e ∷ h)) (sym past) arrays))
-          (subst (λ h. EndsAreTold (e ∷ h)) (sym past) ends) (subst (λ h. NoneFails (e ∷ h)) (sym past) none)
+          (subst (λ h. EndsAreTold (e ∷ h)) (sym past) ends)
+          (subst (λ (j : JobView). IsClear j (e ∷ past_of x)) (sym k.enters.job)
+          (subst (λ h. IsClear c.job (e ∷ h)) (sym past) clear))
           (room_behind c' (few_cpus (machine_of x.job) x.job (e ∷ past_of x) longer c'.driver c'.machine c'.turns both.0)
           (omega (arith, room, same, kept, one, two)));
     }

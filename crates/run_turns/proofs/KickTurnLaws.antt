@@ -35,9 +35,9 @@ use Rattle.run_steps.proofs.BitLaws.{below_all, below_more, bit_is, goes_on}
 use Rattle.run_steps.proofs.KickLaws.{kick_next, kicked_more, kicks_in_order}
 use Rattle.table_notes.specs.inner.Arrays.{KeepsArrays}
 use Rattle.table_notes.proofs.ArrayLaws.{arrays_stay}
-use Rattle.turn_tables.specs.inner.Ending.{EndsAreTold, NoneFails}
+use Rattle.turn_tables.specs.inner.Ending.{EndsAreTold}
 use Rattle.run_turns.specs.declared.course.Course.{Course}
-use Rattle.run_turns.specs.inner.Courses.{Grows, past_of}
+use Rattle.run_turns.specs.inner.Courses.{Grows, IsClear, past_of}
 use Rattle.run_turns.specs.inner.Kicking.{CanKick, CanKickOne, HasKicked}
 use Rattle.run_turns.specs.inner.Passing.{IsOwnKicks}
 use Rattle.run_turns.specs.inner.Recording.{CanRecord, IsRecorded}
@@ -265,9 +265,10 @@ ends_kicked : (ps : List ℕ) (past : List Entry) → EndsAreTold past → EndsA
 ends_kicked [] past k = k
 ends_kicked (p ∷ ps) past k = ends_kicked ps (kick p ∷ past) (own_ends past (kick p) refl k)
 
-none_kicked_fails : (ps : List ℕ) (past : List Entry) → NoneFails past → NoneFails (kicked_past ps past)
-none_kicked_fails [] past k = k
-none_kicked_fails (p ∷ ps) past k = none_kicked_fails ps (kick p ∷ past) (own_none past (kick p) refl k)
+clear_kicked : (j : JobView) (ps : List ℕ) (past : List Entry) → IsClear j past → IsClear j (kicked_past ps past)
+clear_kicked j [] past k = k
+clear_kicked j (p ∷ ps) past k =
+    clear_kicked j ps (kick p ∷ past) (record { none = own_none past (kick p) refl k.none; spent = (refl, k.spent) })
 
 -- so many entries more
 pub kicks_grow : (c c' : Course) (bits : ℕ) (longer : Option (List Call)) (spare n : ℕ) (own : IsOwnKicks c bits longer spare)
@@ -279,6 +280,7 @@ kicks_grow c c' bits longer spare n own k count =
       actors = entries_own own.kick.cpus;
       past = k.past ∙ entries_are own.kick.cpus (past_of c);
       job = job;
+      kicks = tt;
       keeps = record {
         tcs = subst TcsAreApart (sym job) own.kick.tcs;
         book = book;
@@ -294,7 +296,8 @@ kicks_grow c c' bits longer spare n own k count =
             (arrays_kicked c.job c'.driver.slots own.kick.cpus (past_of c)
             (subst (λ (d : Driver). KeepsArrays c.job d.slots (past_of c)) (sym k.driver) own.arrays)));
         ends = subst EndsAreTold (sym k.past) (ends_kicked own.kick.cpus (past_of c) own.ends);
-        none = subst NoneFails (sym k.past) (none_kicked_fails own.kick.cpus (past_of c) own.none);
+        clear = subst (λ (j : JobView). IsClear j (past_of c')) (sym job)
+            (subst (IsClear c.job) (sym k.past) (clear_kicked c.job own.kick.cpus (past_of c) own.clear));
         room = room_behind c' (few_cpus (machine_of c'.job) c'.job (past_of c') longer c'.driver c'.machine c'.turns book) room;
       };
     }

@@ -9,6 +9,8 @@ pub mod PassTurnLaws
 pub mod TakeLaws
 pub mod FollowLaws
 pub mod KickTurnLaws
+pub mod KickedLaws
+pub mod SpentLaws
 pub mod EndTurnLaws
 pub mod FinishLaws
 pub mod AnswerLaws

@@ -2,7 +2,7 @@
 use Rattle.std.proofs.Common.{◌≡◌, ℕ, ◌+◌, ◌*◌, ◌≤◌, ◌<◌, Bool, true, false, if◌then◌else◌, is_some, List}
 use Rattle.std.proofs.Common.{[], ◌∷◌, ◌++◌, Option, Some, IfSome, length, map, reverse, count_by, set, slice_index, vec_len}
 use Rattle.std.proofs.Common.{vec_capacity, refl, sym, ap, subst, ◌∙◌, arith}
-use Rattle.std.proofs.lemmas.Bool.{ltb-true}
+use Rattle.std.proofs.lemmas.Bool.{false≢true, lt-ltb, ltb-true}
 use Rattle.std.proofs.lemmas.List.{length_push}
 use Rattle.std.specs.Global.{Vec}
 use Rattle.sgx_rules.specs.declared.entries.Action.TheVariants.{Eld}
@@ -23,9 +23,10 @@ use Rattle.paging_machine.specs.inner.Parts.{Parts}
 use Rattle.active_list.specs.inner.Keeping.{kept_at, page_kept}
 use Rattle.active_list.specs.inner.Places.{IsPlaced}
 use Rattle.driver_rules.specs.declared.waits.Why.TheVariants as waits
-use Rattle.driver_rules.specs.Dues.{Ends, IsNext, Stopped, Waits}
+use Rattle.driver_rules.specs.Dues.{Due, Ends, IsNext, Stopped, Waits}
 use Rattle.driver_rules.specs.Passes.{pass, pass_after}
-use Rattle.driver_rules.specs.Places.{Absent, Away, Here, Leaving, Loading, Place, is_here}
+use Rattle.driver_laws.specs.inner.Sound.{is_absent}
+use Rattle.driver_rules.specs.Places.{Absent, Away, Here, Leaving, Loading, Place, is_here, place}
 use Rattle.driver_rules.specs.Stops.{is_spent}
 use Rattle.driver_rules.specs.Turns.{Fails, Last, Loads, Other, WasEnded, cpu_due, due_after, fetches, is_last, last_of, turn_due}
 use Rattle.driver_laws.specs.inner.Agrees.{loaded_by}
@@ -43,7 +44,7 @@ use Rattle.reclaim_worker.specs.inner.Stored.{still_out}
 use Rattle.table_notes.specs.inner.Arrays.{KeepsArrays}
 use Rattle.table_notes.specs.inner.Plain.{is_reclaimer}
 use Rattle.turn_tables.specs.declared.turns.Turns.{Turns}
-use Rattle.turn_tables.specs.inner.Ending.{EndsAreTold, IsForRecord, NoneFails}
+use Rattle.turn_tables.specs.inner.Ending.{EndsAreTold, IsForRecord}
 use Rattle.turn_tables.proofs.EndLaws.{ends_go_on}
 use Rattle.turn_tables.specs.inner.CpuTurns.{turn_at}
 use Rattle.turn_tables.specs.declared.cpu_turns.CpuTurn.{CpuTurn}
@@ -54,7 +55,7 @@ use Rattle.turn_tables.specs.inner.TcsTurns.{has_place}
 use Rattle.run_book.specs.inner.Books.{IsMade, KeepsBook}
 use Rattle.run_steps.proofs.StayLaws.{passes_stay_next}
 use Rattle.run_turns.specs.declared.course.Course.{Course}
-use Rattle.run_turns.specs.inner.Courses.{KeepsCourse, has_open_load, open_starts, past_of}
+use Rattle.run_turns.specs.inner.Courses.{IsClear, KeepsCourse, has_open_load, open_starts, past_of}
 use Rattle.run_turns.specs.inner.Recording.{CanTake, IsRecorded, IsTaken}
 use Rattle.run_turns.proofs.LoadLaws.{IsEndOfLoad, starts_set}
 use Rattle.run_turns.proofs.RecordLaws.{newest}
@@ -121,16 +122,16 @@ taken_stands c c' past told longer spare d m e s job kept book stands places rec
 
 -- where no refused load is to be told it is a course between two turns
 pub stands_keeps : (c : Course) (past : List Entry) (told : Option (List Call)) (spare : ℕ) → Stands c past told spare c.driver c.machine
-    → KeepsArrays c.job c.driver.slots past → NoneFails past → vec_len c.entries + 2 * open_starts c ≤ vec_capacity c.entries
+    → KeepsArrays c.job c.driver.slots past → IsClear c.job past → vec_len c.entries + 2 * open_starts c ≤ vec_capacity c.entries
     → KeepsCourse c told spare
-stands_keeps c past told spare s arrays none room = record {
+stands_keeps c past told spare s arrays clear room = record {
   tcs = s.tcs;
   book = subst (λ h. KeepsBook (machine_of c.job) c.job h told c.driver c.machine c.turns) (sym s.same) s.book;
   stands = subst (λ h. StandsFor c.job.start_epoch h c.pass.taken.items c.pass.phase (pass c.job h)) (sym s.same) s.stands;
   places = s.places;
   arrays = subst (KeepsArrays c.job c.driver.slots) (sym s.same) arrays;
   ends = subst EndsAreTold (sym s.same) s.ends;
-  none = subst NoneFails (sym s.same) none;
+  clear = subst (IsClear c.job) (sym s.same) clear;
   room = room;
 }
 
@@ -206,6 +207,33 @@ pub placed_there : (j : JobView) (d : Driver) (past : List Entry) (t : Turns) (p
 placed_there j d past t page shows turns has =
     subst (λ x. IsPlaced x page) (sym (shows.counts ∙ shows.of_job ∙ sym turns.places))
     record { within = ltb-true page.number (slice_index (map length t.tcs) page.enclave) has }
+
+-- a page without a place was never added
+absent_there : (j : JobView) (d : Driver) (past : List Entry) (t : Turns) (page : Page) → ShowsTables j d past → ShowsTurns j past t
+    → has_place t.tcs page ≡ false → place past page ≡ Absent
+absent_there j d past t page shows turns has = by_place (place past page) refl
+  where
+    same : map length t.tcs ≡ d.states.counts
+    same = turns.places ∙ sym (shows.counts ∙ shows.of_job)
+
+    no_place : is_absent (place past page) ≡ false → ⊥
+    no_place k =
+        let placed : IsPlaced (map length t.tcs) page = subst (λ counts. IsPlaced counts page) (sym same) (shows.placed page k) in
+        false≢true (sym has ∙ lt-ltb page.number (slice_index (map length t.tcs) page.enclave) placed.within)
+
+    by_place : (at : Place) → place past page ≡ at → place past page ≡ Absent
+    by_place Absent is = is
+    by_place (Here f) is = absurd (no_place (ap is_absent is))
+    by_place (Leaving f) is = absurd (no_place (ap is_absent is))
+    by_place (Loading f slot) is = absurd (no_place (ap is_absent is))
+    by_place (Away slot) is = absurd (no_place (ap is_absent is))
+
+-- .. so it is waited for
+pub absent_waits : (j : JobView) (d : Driver) (past : List Entry) (t : Turns) (page : Page) (due : Due) → ShowsTables j d past
+    → ShowsTurns j past t → has_place t.tcs page ≡ false → due ≡ fetches j.epc past page (place past page)
+    → due ≡ Waits (waits.Busy page)
+absent_waits j d past t page due shows turns has is =
+    is ∙ ap (fetches j.epc past page) (absent_there j d past t page shows turns has)
 
 -- a page that is here is waited for
 pub here_waits : (frames : ℕ) (past : List Entry) (page : Page) (at : Place) → is_here at ≡ true

@@ -48,7 +48,7 @@ use Rattle.fault_handler.specs.inner.Due.{IsEnd, IsRight, IsRightEnd, ShowsEnd}
 use Rattle.fault_handler.specs.inner.Finishing.{CanFinish, IsFinished}
 use Rattle.fault_handler.specs.inner.Resolving.{IsResolved}
 use Rattle.fault_handler.proofs.EndLaws.{can_finish, finished_is_right}
-use Rattle.reclaim_worker.specs.inner.Standing.{is_sealing}
+use Rattle.reclaim_worker.specs.inner.Standing.{is_kicked, is_sealing}
 use Rattle.reclaim_worker.specs.inner.Stored.{still_out}
 use Rattle.table_notes.specs.inner.Arrays.{KeepsArrays}
 use Rattle.table_notes.proofs.ArrayLaws.{arrays_late, arrays_moved, arrays_stay}
@@ -64,12 +64,13 @@ use Rattle.run_bytes.specs.inner.Records.{StaysWith}
 use Rattle.run_records.specs.inner.Silent.{OfBus}
 use Rattle.run_records.proofs.LoadRecords.{end_told}
 use Rattle.run_turns.specs.declared.course.Course.{Course}
-use Rattle.run_turns.specs.inner.Courses.{Grows, KeepsCourse, has_open_load, open_starts, past_of}
+use Rattle.run_turns.specs.inner.Courses.{Grows, IsClear, KeepsCourse, has_open_load, open_starts, past_of}
 use Rattle.run_turns.specs.inner.Recording.{CanTake, IsRecorded, IsTaken}
 use Rattle.run_turns.specs.inner.Turns.{EndsBy, EndsLoad, RefusesLoad}
 use Rattle.run_turns.proofs.KeepLaws.{few_cpus, room_behind}
 use Rattle.run_turns.proofs.LoadCourse.{Stands, is_open, kept_room, bus_starts, ended_starts, one_longer, stands_keeps}
 use Rattle.run_turns.proofs.LoadCourse.{taken_stands}
+use Rattle.run_turns.proofs.SpentLaws.{done_calm, used_calm}
 use Rattle.run_turns.proofs.LoadLaws.{IsOfAway, due_quiet, end_of_load, starts_set, end_quiet, loading_told, none_behind_bus}
 use Rattle.run_turns.proofs.LoadLaws.{none_more}
 use Rattle.run_turns.proofs.RecordLaws.{newest}
@@ -91,6 +92,7 @@ pub record TookIn (c c' : Course) (before : Mode) (e : Entry) (longer : Option (
   pub noted : IsNoted c.job c.turns before e c'.turns
   pub places : still_out c'.pass.taken.items c'.pass.phase ≡ still_out c.pass.taken.items c.pass.phase
   pub sealing : is_sealing c'.pass.phase ≡ is_sealing c.pass.phase
+  pub kicks : is_kicked c'.pass.phase ≡ is_kicked c.pass.phase
 
 -- all that is said of it for whatever made it
 pub record Takes (c c' : Course) (before : Mode) (e : Entry) : Type 0 where
@@ -103,6 +105,7 @@ pub record Takes (c c' : Course) (before : Mode) (e : Entry) : Type 0 where
   pub noted : IsNoted c.job c.turns before e c'.turns
   pub places : still_out c'.pass.taken.items c'.pass.phase ≡ still_out c.pass.taken.items c.pass.phase
   pub sealing : is_sealing c'.pass.phase ≡ is_sealing c.pass.phase
+  pub kicks : is_kicked c'.pass.phase ≡ is_kicked c.pass.phase
 
 -- .. where it could be taken in
 pub took_in : (c c' : Course) (before : Mode) (e : Entry) → Takes c c' before e → (take : CanTake c before e)
@@ -118,6 +121,7 @@ took_in c c' before e t take = record {
   noted = t.noted;
   places = t.places;
   sealing = t.sealing;
+  kicks = t.kicks;
 }
 
 -- the newest entry stands first
@@ -130,27 +134,30 @@ took_past c c' past longer before e same took =
 
 -- by one entry
 pub grows_one : (old new : Course) (cpu : Cpu) (e : Entry) (told : Option (List Call)) (spare : ℕ) → e.actor ≡ actors.Cpu cpu
-    → past_of new ≡ e ∷ past_of old → new.job ≡ old.job → KeepsCourse new told spare → Grows old (actors.Cpu cpu) 1 new told spare
-grows_one old new cpu e told spare by past job keeps = record {
+    → past_of new ≡ e ∷ past_of old → new.job ≡ old.job → is_kicked new.pass.phase ≡ is_kicked old.pass.phase → KeepsCourse new told spare
+    → Grows old (actors.Cpu cpu) 1 new told spare
+grows_one old new cpu e told spare by past job kicks keeps = record {
   entries = e ∷ [];
   count = refl;
   actors = All-cons (λ (x : Entry). x.actor ≡ actors.Cpu cpu) e [] by (All-nil (λ (x : Entry). x.actor ≡ actors.Cpu cpu));
   past = past;
   job = job;
+  kicks = kicks;
   keeps = keeps;
 }
 
 -- .. by two
 pub grows_two : (old new : Course) (cpu : Cpu) (e e' : Entry) (told : Option (List Call)) (spare : ℕ) → e.actor ≡ actors.Cpu cpu
-    → e'.actor ≡ actors.Cpu cpu → past_of new ≡ e' ∷ e ∷ past_of old → new.job ≡ old.job → KeepsCourse new told spare
-    → Grows old (actors.Cpu cpu) 2 new told spare
-grows_two old new cpu e e' told spare by by' past job keeps = record {
+    → e'.actor ≡ actors.Cpu cpu → past_of new ≡ e' ∷ e ∷ past_of old → new.job ≡ old.job
+    → is_kicked new.pass.phase ≡ is_kicked old.pass.phase → KeepsCourse new told spare → Grows old (actors.Cpu cpu) 2 new told spare
+grows_two old new cpu e e' told spare by by' past job kicks keeps = record {
   entries = e' ∷ e ∷ [];
   count = refl;
   actors = All-cons (λ (x : Entry). x.actor ≡ actors.Cpu cpu) e' (e ∷ []) by'
       (All-cons (λ (x : Entry). x.actor ≡ actors.Cpu cpu) e [] by (All-nil (λ (x : Entry). x.actor ≡ actors.Cpu cpu)));
   past = past;
   job = job;
+  kicks = kicks;
   keeps = keeps;
 }
 
@@ -199,6 +206,13 @@ load_ends_so c past e cpu page reason f is acts fails = subst (EndsLoad 2) (sym 
 
 -- ---- a fault step
 
+-- what is so of the entries is so behind one that finds no number used up
+clear_more : (c c' : Course) (past : List Entry) (e : Entry) → c'.job ≡ c.job → spends e.event ≡ false → IsClear c.job past
+    → NoneFails (e ∷ past) → IsClear c'.job (e ∷ past)
+clear_more c c' past e job calm clear none =
+    subst (λ (j : JobView). IsClear j (e ∷ past)) (sym job)
+    (record { none = none; spent = (used_calm c.job past e.event calm, clear.spent) })
+
 -- what stands behind an entry that was taken in
 pub took_stands : (c c' : Course) (past : List Entry) (told longer : Option (List Call)) (spare : ℕ) (d : Driver) (m : Parts)
     (before : Mode) (e : Entry) → Stands c past told spare d m → TookIn c c' before e longer → IsForRecord past e.event
@@ -209,14 +223,14 @@ took_stands c c' past told longer spare d m before e s took =
 -- behind the entry of a fault step is a course between two turns
 pub fetched_keeps : (c c' : Course) (past : List Entry) (told longer : Option (List Call)) (spare : ℕ) (d : Driver) (m : Parts)
     (before : Mode) (e : Entry) (page : Page) → Stands c past told spare d m → TookIn c c' before e longer
-    → IsOfAway past e.event (place past page) → NoneFails past → vec_len c.entries + 64 ≤ vec_capacity c.entries
-    → KeepsCourse c' longer spare
-fetched_keeps c c' past told longer spare d m before e page s took away none room =
+    → IsOfAway past e.event (place past page) → spends e.event ≡ false → IsClear c.job past
+    → vec_len c.entries + 64 ≤ vec_capacity c.entries → KeepsCourse c' longer spare
+fetched_keeps c c' past told longer spare d m before e page s took away calm clear room =
     let s' = took_stands c c' past told longer spare d m before e s took away.quiet.for_record in
     let longer_by = one_longer c.entries c'.entries e took.kept in
     let cap = took.room in
     stands_keeps c' (e ∷ past) longer spare s' (arrays_late c'.job c'.driver.slots past e page s.book.agrees.sound away.there)
-    (none_more past e away.quiet.fails none)
+    (clear_more c c' past e took.job calm clear (none_more past e away.quiet.fails clear.none))
     (room_behind c' (few_cpus (machine_of c'.job) c'.job (e ∷ past) longer c'.driver c'.machine c'.turns s'.book)
     (omega (arith, longer_by, cap, room)))
 
@@ -244,16 +258,17 @@ pub back_keeps : (c c' : Course) (past : List Entry) (told : Option (List Call))
     (e : Entry) (cpu : Cpu) (f : Frame) → Stands c past told spare d m
     → IsMade (machine_of c.job) c.job past told d m e told c.driver c.machine → TookIn c c' before e told → e.actor ≡ actors.Cpu cpu
     → action_of e.event ≡ Some (actions.Eld f) → is_refused e.event ≡ false → cpu.0 < length c.turns.cpus
-    → has_open_load (turn_at c.turns.cpus cpu.0) ≡ true → NoneFails past
+    → has_open_load (turn_at c.turns.cpus cpu.0) ≡ true → IsClear c.job past
     → vec_len c.entries + 2 * open_starts c ≤ vec_capacity c.entries → KeepsCourse c' told spare
-back_keeps c c' past told spare d m before e cpu f s made took by acts done low loads none room =
+back_keeps c c' past told spare d m before e cpu f s made took by acts done low loads clear room =
     let quiet = end_quiet past f e.event acts done in
     let s' = took_stands c c' past told told spare d m before e s took quiet.for_record in
     let longer_by = one_longer c.entries c'.entries e took.kept in
     let cap = took.room in
     let closed = ended_starts c.job c c' before cpu e low loads by (end_of_load f e.event acts) took.noted took.sealing in
     stands_keeps c' (e ∷ past) told spare s' (end_arrays c'.job c'.driver.slots past told c c' spare d m f e s made acts)
-    (none_more past e quiet.fails none) (omega (arith, longer_by, cap, closed, room))
+    (clear_more c c' past e took.job (done_calm e.event done) clear (none_more past e quiet.fails clear.none))
+    (omega (arith, longer_by, cap, closed, room))
 
 -- ---- a refused load
 
@@ -316,9 +331,10 @@ pub refused_keeps : (c c' c'' : Course) (past : List Entry) (told : Option (List
     → IsMade (machine_of c.job) c.job past told d m e told c.driver c.machine
     → Stands c' (e ∷ past) told spare c'.driver c'.machine → TookIn c c' before e told
     → TookIn c' c'' between (bus_of cpu page reason) told → e.actor ≡ actors.Cpu cpu → action_of e.event ≡ Some (actions.Eld f)
-    → cpu.0 < length c.turns.cpus → has_open_load (turn_at c.turns.cpus cpu.0) ≡ true → cpu.0 < length c'.turns.cpus → NoneFails past
+    → cpu.0 < length c.turns.cpus → has_open_load (turn_at c.turns.cpus cpu.0) ≡ true → cpu.0 < length c'.turns.cpus
+    → spends e.event ≡ false → IsClear c.job past
     → vec_len c.entries + 2 * open_starts c ≤ vec_capacity c.entries → KeepsCourse c'' told spare
-refused_keeps c c' c'' past told spare d m before between e cpu f page reason s made s' took took' by acts low loads low' none room =
+refused_keeps c c' c'' past told spare d m before between e cpu f page reason s made s' took took' by acts low loads low' calm clear room =
     let s'' = took_stands c' c'' (e ∷ past) told told spare c'.driver c'.machine between (bus_of cpu page reason) s' took' tt in
     let longer_by = one_longer c.entries c'.entries e took.kept in
     let longer_by' = one_longer c'.entries c''.entries (bus_of cpu page reason) took'.kept in
@@ -330,7 +346,11 @@ refused_keeps c c' c'' past told spare d m before between e cpu f page reason s 
     stands_keeps c'' (bus_of cpu page reason ∷ e ∷ past) told spare s''
     (arrays_stay c''.job c'.driver.slots c''.driver.slots (e ∷ past) (bus_of cpu page reason) refl (ap (λ (k : Keeper). k.frames) slots)
     (ap (λ (k : Keeper). k.room) slots) (end_arrays c''.job c'.driver.slots past told c c' spare d m f e s made acts))
-    (none_behind_bus past cpu page reason e by none) (omega (arith, longer_by, longer_by', cap, cap', closed, opens, room))
+    (subst (λ (j : JobView). IsClear j (bus_of cpu page reason ∷ e ∷ past)) (sym (took'.job ∙ took.job))
+    (record {
+      none = none_behind_bus past cpu page reason e by clear.none;
+      spent = (refl, (used_calm c.job past e.event calm, clear.spent));
+    })) (omega (arith, longer_by, longer_by', cap, cap', closed, opens, room))
 
 -- there is room for the bus
 pub room_for_bus : (c c' : Course) (before : Mode) (e : Entry) (cpu : Cpu) (f : Frame) (told : Option (List Call))

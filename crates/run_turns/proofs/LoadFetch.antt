@@ -1,9 +1,10 @@
 -- What a fault step's answer is for a turn.
-use Rattle.std.proofs.Common.{◌≡◌, ℕ, ◌+◌, ◌≤◌, ◌<◌, List, ◌∷◌, Option, Some, None, length, reverse, vec_len}
-use Rattle.std.proofs.Common.{vec_capacity, refl, sym, ap, subst, ◌∙◌, arith, true}
+use Rattle.std.proofs.Common.{◌≡◌, ℕ, ◌+◌, ◌≤◌, ◌<◌, List, ◌∷◌, Option, Some, None, IfSome, length, reverse, vec_len}
+use Rattle.std.proofs.Common.{vec_capacity, refl, sym, ap, subst, ◌∙◌, arith, false, true}
 use Rattle.std.specs.Global.{Vec}
 use Rattle.sgx_types.specs.declared.names.Actor.TheVariants as actors
 use Rattle.sgx_rules.specs.declared.entries.BusWhy.{BusWhy}
+use Rattle.sgx_rules.specs.declared.entries.BusWhy.TheVariants as reasons
 use Rattle.sgx_rules.specs.declared.entries.Entry.{Entry}
 use Rattle.sgx_types.specs.declared.names.Cpu.{Cpu}
 use Rattle.sgx_types.specs.declared.names.Page.{Page}
@@ -15,15 +16,20 @@ use Rattle.seal_record.specs.declared.unseal.UnsealWork.{UnsealWork}
 use Rattle.backing_store.specs.Calls.{Call}
 use Rattle.active_list.specs.inner.Places.{IsPlaced}
 use Rattle.active_list.specs.inner.States.{state_of as page_state}
+use Rattle.active_list.specs.declared.page_states.PageState.{PageState}
+use Rattle.active_list.specs.declared.page_states.PageState.TheVariants as states
 use Rattle.paging_laws.specs.inner.Shape.{FitsApart, ShapeWithRules}
 use Rattle.paging_machine.specs.inner.Parts.{Parts, cpu_at, state_of}
 use Rattle.driver_rules.specs.declared.waits.Why.{Why}
 use Rattle.driver_rules.specs.declared.waits.Why.TheVariants as waits
 use Rattle.driver_rules.specs.Dues.{Due, Fetches, Waits}
-use Rattle.driver_rules.specs.Places.{place}
+use Rattle.driver_rules.specs.Places.{Absent, Away, Here, Leaving, Loading, Place, place}
+use Rattle.sgx_rules.specs.Frames.{content, least_free}
 use Rattle.driver_rules.specs.Turns.{cpu_due, fetches}
 use Rattle.driver_tables.specs.declared.driver.Driver.{Driver}
 use Rattle.driver_calls.specs.inner.Comes.{bus_of}
+use Rattle.book_laws.specs.inner.Stores.{TellsStore, is_lost_state}
+use Rattle.run_history.specs.Calls.{is_lost}
 use Rattle.fault_handler.specs.declared.answers.FaultAnswer.{FaultAnswer}
 use Rattle.fault_handler.specs.declared.answers.FaultAnswer.TheVariants as answers
 use Rattle.fault_handler.specs.inner.Due.{IsRight, WaitsBy}
@@ -38,7 +44,7 @@ use Rattle.run_bytes.specs.inner.Records.{StaysWith}
 use Rattle.run_turns.specs.declared.course.Course.{Course}
 use Rattle.run_turns.specs.inner.Courses.{Grows, IsSame, KeepsCourse, past_of}
 use Rattle.run_turns.specs.inner.Recording.{CanTake}
-use Rattle.run_turns.specs.inner.Turns.{IsWaitBy, OpensFor}
+use Rattle.run_turns.specs.inner.Turns.{IsNotLost, IsWaitBy, OpensFor}
 use Rattle.run_turns.proofs.LoadCourse.{can_take, course_stands, here_waits, kept_room, placed_there}
 use Rattle.run_turns.proofs.LoadEnds.{Takes, fetch_made, fetched_keeps, grows_one, notes_of, right_away, took_in, took_past}
 use Rattle.run_turns.proofs.SameLaws.{same_keeps}
@@ -104,6 +110,39 @@ still s entries d' m' driver machine items room = record {
   room = room;
 }
 
+-- ---- what is waited for is not lost
+
+-- a fault step that tells no failed put has found the page elsewhere
+not_lost : (cpu : Cpu) (page : Page) (state : PageState) (d d' : Driver) (m m' : Parts) (told told' : Option (List Call))
+    (answer : FaultAnswer) → (answer ≡ answers.Bus reasons.PutFailed → ⊥) → IsResolved cpu page state d m told answer d' m' told'
+    → is_lost_state state ≡ false
+not_lost cpu page (states.Lost slot) d d' m m' told told' answer other does = absurd (other does.does.says)
+not_lost cpu page (states.Here f) d d' m m' told told' answer other does = refl
+not_lost cpu page (states.Away slot) d d' m m' told told' answer other does = refl
+not_lost cpu page (states.Leaving f) d d' m m' told told' answer other does = refl
+not_lost cpu page (states.Loading f slot) d d' m m' told told' answer other does = refl
+not_lost cpu page states.Absent d d' m m' told told' answer other does = refl
+
+-- of the page that is needed
+needs_unlost : (told : Option (List Call)) (frames : ℕ) (past : List Entry) (g : Page) (at : Place)
+    → IfSome told (λ calls. is_lost calls g ≡ false) → IsNotLost told (fetches frames past g at)
+needs_unlost told frames past g (Away slot) h = by_free (least_free frames (content past))
+  where
+    by_free : (o : Option ℕ) → IsNotLost told (Fetches g slot o)
+    by_free None = h
+    by_free (Some f) = tt
+needs_unlost told frames past g Absent h = tt
+needs_unlost told frames past g (Here f) h = tt
+needs_unlost told frames past g (Leaving f) h = tt
+needs_unlost told frames past g (Loading f slot) h = tt
+
+-- by what the tables tell of the store's calls
+told_unlost : (key : List ℕ) (past : List Entry) (d : Driver) (g : Page) (o : Option (List Call))
+    → IfSome o (λ calls. TellsStore key past calls d) → IsPlaced d.states.counts g → is_lost_state (page_state d.states g) ≡ false
+    → IfSome o (λ calls. is_lost calls g ≡ false)
+told_unlost key past d g None tells placed is = tt
+told_unlost key past d g (Some calls) tells placed is = sym (tells.lost g placed) ∙ is
+
 module _ {s : Course} {entries : Vec Entry} {d' : Driver} {m' : Parts} {told told' : Option (List Call)} {spare : ℕ} {cpu : Cpu}
     {page : Page} {before : Mode} where
   -- .. and what it leaves
@@ -153,6 +192,25 @@ module _ {s : Course} {entries : Vec Entry} {d' : Driver} {m' : Parts} {told tol
       by_due (Fetches g slot None) h = h
       by_due _ h = absurd h
 
+  -- where it waits for a free frame, its page is not lost
+  unlost : (answer : FaultAnswer) → (answer ≡ answers.Bus reasons.PutFailed → ⊥)
+      → Fetched s entries d' m' told told' spare cpu page before answer → IsNotLost told (cpu_due s.job (past_of s) cpu.0)
+  unlost answer other f =
+      subst (IsNotLost told) (sym f.due)
+      (needs_unlost told s.job.epc (past_of s) page (place (past_of s) page)
+      (told_unlost s.job.key (past_of s) s.driver page told f.keeps.book.store f.placed
+      (not_lost cpu page (page_state s.driver.states page) s.driver d' s.machine m' told told' answer other f.does)))
+
+  pub here_unlost : Fetched s entries d' m' told told' spare cpu page before answers.Here
+      → IsNotLost told' (cpu_due s.job (past_of s) cpu.0)
+  here_unlost f =
+      subst (λ o. IsNotLost o (cpu_due s.job (past_of s) cpu.0)) (sym (here_told f)) (unlost answers.Here (λ same. cc) f)
+
+  pub again_unlost : (why : Why) → Fetched s entries d' m' told told' spare cpu page before (answers.Again why)
+      → IsNotLost told' (cpu_due s.job (past_of s) cpu.0)
+  again_unlost why f =
+      subst (λ o. IsNotLost o (cpu_due s.job (past_of s) cpu.0)) (sym (again_told why f)) (unlost (answers.Again why) (λ same. cc) f)
+
   -- ---- the start of a load
 
   -- it was made
@@ -183,9 +241,10 @@ module _ {s : Course} {entries : Vec Entry} {d' : Driver} {m' : Parts} {told tol
       let right = right_of s entries d' m' told told' spare cpu page before (answers.Started e work) f in
       let away = right_away s.job (past_of s) cpu page (answers.Started e work) d' right in
       grows_one s new cpu e told' spare away.0
-      (took_past (mid s entries d' m') new (past_of s) told' before e (ap reverse f.items) took) took.job
+      (took_past (mid s entries d' m') new (past_of s) told' before e (ap reverse f.items) took) took.job takes.kicks
       (fetched_keeps (mid s entries d' m') new (past_of s) told told' spare s.driver s.machine before e page
-      (course_stands s entries d' m' told spare f.items f.keeps) took away.1 f.keeps.none f.room)
+      (course_stands s entries d' m' told spare f.items f.keeps) took away.1 (left_by (answers.Started e work) f).calm f.keeps.clear
+      f.room)
 
   -- what is left is to open the record
   pub start_opens : (e : Entry) (work : Box UnsealWork) (new : Course)
@@ -230,9 +289,9 @@ module _ {s : Course} {entries : Vec Entry} {d' : Driver} {m' : Parts} {told tol
       let right = right_of s entries d' m' told told' spare cpu page before (answers.Bus reason) f in
       let away = right_away s.job (past_of s) cpu page (answers.Bus reason) d' right in
       grows_one s new cpu (bus_of cpu page reason) told' spare refl
-      (took_past (mid s entries d' m') new (past_of s) told' before (bus_of cpu page reason) (ap reverse f.items) took) took.job
+      (took_past (mid s entries d' m') new (past_of s) told' before (bus_of cpu page reason) (ap reverse f.items) took) took.job takes.kicks
       (fetched_keeps (mid s entries d' m') new (past_of s) told told' spare s.driver s.machine before (bus_of cpu page reason) page
-      (course_stands s entries d' m' told spare f.items f.keeps) took away.1 f.keeps.none f.room)
+      (course_stands s entries d' m' told spare f.items f.keeps) took away.1 refl f.keeps.clear f.room)
 
   -- ---- what the turn owes
 

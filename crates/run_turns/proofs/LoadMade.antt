@@ -67,7 +67,8 @@ use Rattle.run_records.proofs.FlatSteps.{flat_other}
 use Rattle.run_records.proofs.LoadRecords.{end_flat, end_told, fault_flat, fault_told}
 use Rattle.run_turns.proofs.LoadLaws.{due_quiet, end_of_load}
 use Rattle.run_records.proofs.HonestRecords.{acts_back, fetched_back, not_lost}
-use Rattle.driver_rules.specs.Stops.{is_bus}
+use Rattle.driver_rules.specs.Stops.{is_bus, spends}
+use Rattle.run_turns.proofs.SpentLaws.{step_calm}
 use Rattle.run_history.specs.Honest.{IsHonest}
 use Rattle.run_history.specs.Stored.{StoreCalls}
 use Rattle.table_notes.proofs.EntryLaws.{IsEntryOf, entry_by}
@@ -87,6 +88,7 @@ pub record IsBegun (cpu : Cpu) (page : Page) (d d' : Driver) (m' : Parts) (e : E
   pub driver : is_refused e.event ≡ false → d' ≡ with_load d cpu page slot frame rec
   pub opens : is_refused e.event ≡ false → IsToOpen (state_of m') frame.0 rec work.value
   pub back : is_bus e.event ≡ false
+  pub calm : spends e.event ≡ false
 
 -- tables and machine are as before
 pub record IsAsBefore (d d' : Driver) (m m' : Parts) : Type 0 where
@@ -122,6 +124,7 @@ begun cpu page slot f rec answer d d' m m' told told' is = rw is.says record {
   driver = λ done. is.driver ∙ ap (λ b. if b then d else with_load d cpu page slot f rec) done;
   opens = is.work_is;
   back = step_back (state_of m) (state_of m') (actors.Cpu cpu) (EldStart f page slot) is.entry is.step;
+  calm = step_calm (state_of m) (state_of m') (actors.Cpu cpu) (EldStart f page slot) is.entry refl is.step;
 }
 
 -- by what the store gave

@@ -24,8 +24,8 @@ use Rattle.run_turns.specs.declared.course.Course.{Course}
 use Rattle.run_turns.specs.inner.Courses.{Grows, KeepsCourse, past_of}
 use Rattle.run_turns.specs.inner.Recording.{CanTake}
 use Rattle.run_turns.proofs.LoadCourse.{Stands, can_take, course_stands}
-use Rattle.run_turns.proofs.LoadEnds.{EndFacts, Takes, TookIn, grows_two, notes_of, own_last, refused_bus, refused_keeps}
-use Rattle.run_turns.proofs.LoadEnds.{room_for_bus}
+use Rattle.run_turns.proofs.LoadEnds.{EndFacts, Takes, TookIn, fails_not_spent, grows_two, notes_of, own_last, refused_bus}
+use Rattle.run_turns.proofs.LoadEnds.{refused_keeps, room_for_bus}
 use Rattle.run_turns.proofs.LoadEnds.{took_in, took_past, took_stands, turns_room}
 use Rattle.run_turns.proofs.LoadLaws.{fails_for_record}
 use Rattle.run_turns.proofs.LoadMade.{NotesBus}
@@ -87,8 +87,10 @@ pub pair_grows : (s new last : Course) (told : Option (List Call)) (spare : ℕ)
 pair_grows s new last told spare cpu page d' m' before between e reason k mine f took stands second =
     grows_two s last cpu e (bus_of cpu page reason) told spare f.by refl
     (took_past new last (e ∷ past_of s) told between (bus_of cpu page reason) stands.same second) (second.job ∙ took.job)
+    (second.kicks ∙ took.kicks)
     (refused_keeps (record s { driver = d'; machine = m' }) new last (past_of s) told spare s.driver s.machine before between e cpu f.frame
     page reason (course_stands s s.entries d' m' told spare refl k) f.made stands took second f.by f.acts f.low f.opened
     (turns_room new.job (e ∷ past_of s) new.turns cpu.0 stands.book.turns
     (subst (λ (j : JobView). cpu.0 < length j.scripts) (sym took.job) mine))
-    k.none k.room)
+    (fails_not_spent (past_of s) e.event page reason
+    (sym (own_last (past_of s) cpu e f.by) ∙ end_last s told cpu page d' m' e reason f)) k.clear k.room)

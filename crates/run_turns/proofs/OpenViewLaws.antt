@@ -17,7 +17,7 @@ use Rattle.active_list.specs.inner.Keeping.{Kept, kept_at, page_kept, record_kep
 use Rattle.backing_store.specs.Calls.{Call}
 use Rattle.paging_laws.proofs.ColumnLaws.{start_is}
 use Rattle.driver_rules.specs.Places.{Loading}
-use Rattle.driver_rules.specs.Turns.{Loads, last_of}
+use Rattle.driver_rules.specs.Turns.{Loads, cpu_due, last_of}
 use Rattle.driver_laws.specs.inner.Sound.{is_absent}
 use Rattle.driver_laws.proofs.LoadLaws.{loading_place}
 use Rattle.driver_tables.specs.inner.Tables.{place_in}
@@ -29,7 +29,7 @@ use Rattle.run_turns.specs.declared.turn.Turn.{Turn}
 use Rattle.run_turns.specs.declared.turn.Turn.TheVariants as turns
 use Rattle.run_turns.specs.inner.Courses.{IsSame, KeepsCourse, past_of}
 use Rattle.run_turns.specs.inner.Kept.{IsKept, view_of}
-use Rattle.run_turns.specs.inner.Turns.{IsCpuTurn, IsOpened, OpensFor}
+use Rattle.run_turns.specs.inner.Turns.{IsCpuTurn, IsNotLost, IsOpened, OpensFor}
 use Rattle.run_turns.specs.inner.Views.{IsLoadEnd, IsRun, OpensLoad}
 use Rattle.run_turns.proofs.LoadCourse.{is_open}
 use Rattle.run_turns.proofs.SameLaws.{same_keeps, same_view}
@@ -92,7 +92,7 @@ again_seen c c' told told' plans plans' out_of_memory s calm lines =
 
 -- a turn of a book to which no refused memory was told, behind which the store tells these calls
 module _ (c c' : Course) (told told' : Option (List Call)) (plans plans' : List PlanLine) (spare' : ℕ) (cpu : Cpu)
-    (k : KeepsCourse c' told' spare') (same_plans : plans' ≡ plans) where
+    (k : KeepsCourse c' told' spare') (same_plans : plans' ≡ plans) (tells : is_some told' ≡ is_some told) where
   -- where nothing has changed, the book is the one that it was
   same_seen : IsSame c c' → told' ≡ told → view_of c' told' plans' false ≡ view_of c told plans false
   same_seen s calm = same_view c c' told' plans' false s ∙ (λ i. view_of c (calm i) (same_plans i) false)
@@ -100,16 +100,18 @@ module _ (c c' : Course) (told told' : Option (List Call)) (plans plans' : List 
   run_seen : (turn : Turn) → (past_of c' ≡ past_of c → told' ≡ told) → IsCpuTurn c cpu turn c' told' spare'
       → IsRun (view_of c told plans false) cpu turn (view_of c' told' plans' false)
   run_seen (turns.Did n) calm (one, quiet, g) =
-      (one, quiet, grown_seen c c' (actors.Cpu cpu) 1 told told' told' plans plans' spare' false g)
+      (one, quiet, grown_seen c c' (actors.Cpu cpu) 1 told told' told' plans plans' spare' false tells g)
   run_seen (turns.Unseal work) calm (opens, inl g) = (
     opens_seen c' told' spare' cpu work k plans' false opens,
-    inl (grown_seen c c' (actors.Cpu cpu) 1 told told' told' plans plans' spare' false g),
+    inl (grown_seen c c' (actors.Cpu cpu) 1 told told' told' plans plans' spare' false tells g),
   )
   run_seen (turns.Unseal work) calm (opens, inr s) = (
     opens_seen c' told' spare' cpu work k plans' false opens,
     inr (same_seen s (calm (ap reverse s.entries))),
   )
-  run_seen (turns.Again why) calm (due, s) = (due, same_seen s (calm (ap reverse s.entries)))
+  run_seen (turns.Again why) calm (due, there, s) =
+      let same = calm (ap reverse s.entries) in
+      (due, subst (λ o. IsNotLost o (cpu_due c.job (past_of c) cpu.0)) same there, same_seen s same)
   run_seen turns.Finished calm (due, s) = (due, same_seen s (calm (ap reverse s.entries)))
   run_seen turns.Stopped calm (due, s) =
       (cpu_stopped c.job (past_of c) cpu.0 due, same_seen s (calm (ap reverse s.entries)))
@@ -125,14 +127,14 @@ module _ (c c' : Course) (told told' : Option (List Call)) (plans plans' : List 
   run_job (turns.Did n) (one, quiet, g) = g.job
   run_job (turns.Unseal work) (opens, inl g) = g.job
   run_job (turns.Unseal work) (opens, inr s) = s.job
-  run_job (turns.Again why) (due, s) = s.job
+  run_job (turns.Again why) (due, there, s) = s.job
   run_job turns.Finished (due, s) = s.job
   run_job turns.Stopped (due, s) = s.job
   run_job (turns.Seal work) is = absurd is
 
-  pub run_turn_kept : (r : Result Turn Memory) (spare : ℕ) (X : Type 0) → IsKept c told plans spare → is_some told' ≡ is_some told
+  pub run_turn_kept : (r : Result Turn Memory) (spare : ℕ) (X : Type 0) → IsKept c told plans spare
       → IfOk r (λ turn. IsCpuTurn c cpu turn c' told' spare') → OnErr r (IsSame c c' × X) → IsKept c' told' plans' spare'
-  run_turn_kept r spare X kept tells is same =
+  run_turn_kept r spare X kept is same =
       record { keeps = k; plans_are = plans_told c c' told told' plans plans' same_plans (job r is same) tells kept.plans_are }
     where
       job : (x : Result Turn Memory) → IfOk x (λ turn. IsCpuTurn c cpu turn c' told' spare') → OnErr x (IsSame c c' × X) → c'.job ≡ c.job
@@ -146,7 +148,7 @@ module _ (c c' : Course) (told : Option (List Call)) (plans : List PlanLine) (sp
       → IsLoadEnd (view_of c told plans false) cpu turn (view_of c' told plans false)
   opened_seen (turns.Did zero) (none, s) = (none, same_view c c' told plans false s)
   opened_seen (turns.Did (suc n)) (ends, g) =
-      (ends, grown_seen c c' (actors.Cpu cpu) (suc n) told told told plans plans spare false g)
+      (ends, grown_seen c c' (actors.Cpu cpu) (suc n) told told told plans plans spare false refl g)
   opened_seen turns.Stopped (spent, s) = (spent, same_view c c' told plans false s)
   opened_seen (turns.Seal work) is = absurd is
   opened_seen (turns.Unseal work) is = absurd is

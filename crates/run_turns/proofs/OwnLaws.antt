@@ -67,11 +67,12 @@ own_grows c c' e longer spare own book stands kept capacity noted driver places 
       actors = All-cons (λ (x : Entry). x.actor ≡ actors.Reclaimer) e [] own.actor (All-nil (λ (x : Entry). x.actor ≡ actors.Reclaimer));
       past = newest c.entries.items c'.entries.items e kept;
       job = job;
+      kicks = tt;
       keeps = taken_keeps c c' e longer spare own.take.can.tcs job kept
           (subst (λ told. IsRecorded c e told c') own.same book) stands
           (subst (λ n. n ≤ spare) (sym places) own.places)
           (subst (λ (d : Driver). KeepsArrays c.job d.slots (e ∷ past_of c)) (sym driver) own.arrays)
-          own.ends own.none room;
+          own.ends own.clear room;
     }
   where
     starts : open_starts c' ≡ count_by has_open_load (with_kick e.event c.turns.cpus) + (if is_sealing c.pass.phase then 1 else 0)

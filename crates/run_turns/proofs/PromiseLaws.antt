@@ -113,8 +113,9 @@ holds_anyhow c told plans spare out_of_memory kept =
       stale = book.agrees.follows.stale;
       evict = book.agrees.follows.evict;
       rising = book.agrees.follows.rising;
+      spent = kept.keeps.clear.spent;
       store = store_true c.job (past_of c) plans told c.driver book.store kept.plans_are;
-      ended = run_ended c.job (past_of c) book.script kept.keeps.ends kept.keeps.none;
+      ended = run_ended c.job (past_of c) book.script kept.keeps.ends kept.keeps.clear.none;
       honest = all_back (past_of c) told book.honest;
     }
 

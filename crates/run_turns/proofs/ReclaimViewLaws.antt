@@ -1,10 +1,9 @@
 -- The turns of the reclaimer, as the book shows them.
-use Rattle.std.proofs.Common.{◌≡◌, ℕ, zero, suc, ◌⊎◌, Bool, true, false, List, [], Option, Some, None, is_some, Result, Ok}
-use Rattle.std.proofs.Common.{Err, IfOk, OnErr, IfSome, reverse, slice_get, refl, sym, ap, subst, ◌∙◌, inl, inr}
+use Rattle.std.proofs.Common.{◌≡◌, ℕ, zero, suc, ◌⊎◌, Bool, true, false, List, Option, Some, None, is_some, Result, Ok}
+use Rattle.std.proofs.Common.{Err, IfOk, OnErr, IfSome, reverse, slice_get, refl, sym, ap, ◌∙◌, inl, inr}
 use Rattle.std.specs.Option.{IsSomeAnd}
 use Rattle.std.proofs.lemmas.Bool.{false≢true}
 use Rattle.sgx_types.specs.declared.names.Actor.TheVariants as actors
-use Rattle.sgx_rules.specs.declared.entries.Entry.{Entry}
 use Rattle.sgx_types.specs.declared.names.Memory.{Memory}
 use Rattle.sgx_types.specs.declared.names.Kind.{Kind}
 use Rattle.sgx_types.specs.declared.names.Page.{Page}
@@ -23,11 +22,7 @@ use Rattle.paging_laws.proofs.ColumnLaws.{content_is}
 use Rattle.paging_laws.proofs.SlotLaws.{started_as}
 use Rattle.paging_machine.specs.inner.Parts.{state_of}
 use Rattle.turn_rules.specs.Machines.{machine_of}
-use Rattle.job_grammar.specs.Jobs.{JobView}
-use Rattle.driver_rules.specs.Dues.{KicksAll}
-use Rattle.driver_rules.specs.Passes.{Form, Third, ToKick, Tries, keepers, pass}
-use Rattle.driver_rules.specs.inner.Reclaims.{all_finished, pass_due, reclaimer_due}
-use Rattle.driver_rules.specs.Stops.{is_spent}
+use Rattle.driver_rules.specs.Passes.{Tries, pass}
 use Rattle.driver_rules.specs.inner.Stops.{frame_started, last_event}
 use Rattle.run_history.specs.Given.{UnforgedRun}
 use Rattle.run_book.specs.inner.Books.{KeepsBytes}
@@ -35,7 +30,7 @@ use Rattle.run_records.proofs.PassRecords.{header_held}
 use Rattle.reclaim_worker.specs.declared.turns.Phase.{Phase}
 use Rattle.reclaim_worker.specs.declared.turns.Phase.TheVariants as phases
 use Rattle.reclaim_worker.specs.declared.turns.Taken.{Taken}
-use Rattle.reclaim_worker.specs.inner.Standing.{StandsFor, is_kicked, is_sealing, pages_in}
+use Rattle.reclaim_worker.specs.inner.Standing.{is_kicked, is_sealing}
 use Rattle.reclaim_worker.specs.declared.turns.Form.TheVariants as code
 use Rattle.reclaim_worker.specs.inner.Stored.{IsToSeal}
 use Rattle.run_turns.specs.declared.course.Course.{Course}
@@ -44,8 +39,8 @@ use Rattle.run_turns.specs.declared.turn.Turn.TheVariants as turns
 use Rattle.run_turns.specs.inner.Courses.{IsSame, KeepsCourse, past_of}
 use Rattle.run_turns.specs.inner.Kept.{IsKept, view_of}
 use Rattle.run_turns.specs.inner.Passing.{EndsNone, IsWaiting}
-use Rattle.run_turns.specs.inner.Turns.{IsReclaimerTurn, IsSealed, SealsFor, due_of}
-use Rattle.run_turns.specs.inner.Views.{IsDueNow, IsOutEnd, IsReclaim, SealsPageOut}
+use Rattle.run_turns.specs.inner.Turns.{IsReclaimerTurn, IsSealed, SealsFor}
+use Rattle.run_turns.specs.inner.Views.{IsOutEnd, IsReclaim, SealsPageOut}
 use Rattle.run_turns.proofs.StartLaws.{none_started}
 use Rattle.run_turns.proofs.ViewLaws.{grown_seen, plans_told}
 
@@ -96,59 +91,6 @@ seals_seen c told spare work plans out_of_memory k = by_phase c.pass.phase
 
 -- ---- turns
 
--- what is due with a turn of kicks made is due without, or that turn is due and has nobody to kick
-either_due : (j : JobView) (past : List Entry)
-    → (pass_due j past true (pass j past) ≡ pass_due j past false (pass j past)) ⊎ (pass_due j past false (pass j past) ≡ KicksAll [])
-    → (reclaimer_due j past true ≡ reclaimer_due j past false) ⊎ (reclaimer_due j past false ≡ KicksAll [])
-either_due j past either = by (is_spent past) refl (frame_started (last_event past actors.Reclaimer)) refl (all_finished j past) refl
-  where
-    by : (spent : Bool) → is_spent past ≡ spent → (o : Option ℕ) → frame_started (last_event past actors.Reclaimer) ≡ o
-        → (all : Bool) → all_finished j past ≡ all
-        → (reclaimer_due j past true ≡ reclaimer_due j past false) ⊎ (reclaimer_due j past false ≡ KicksAll [])
-    by true s o started all finished = inl (rw s refl)
-    by false s (Some f) started all finished = inl (rw (s, started) refl)
-    by false s None started true finished = inl (rw (s, started, finished) refl)
-    by false s None started false finished = rw (s, started, finished) either
-
--- the reclaimer knows what is due
-due_now : (c : Course) (told : Option (List Call)) (spare : ℕ) (plans : List PlanLine) → KeepsCourse c told spare
-    → IsDueNow (view_of c told plans false) (due_of c)
-due_now c told spare plans k = by_phase c.pass.phase k.stands
-  where
-    past : List Entry
-    past = past_of c
-
-    j : JobView
-    j = c.job
-
-    none : IsDueNow (view_of c told plans false) (reclaimer_due j past false)
-    none = inl refl
-
-    behind : (reclaimer_due j past true ≡ reclaimer_due j past false) ⊎ (reclaimer_due j past false ≡ KicksAll [])
-        → IsDueNow (view_of c told plans false) (reclaimer_due j past true)
-    behind (inl same) = inl same
-    behind (inr nobody) = inr (nobody, refl)
-
-    with_page : (g : Page) (rest : List Page) (to : Form) → pass j past ≡ Tries g rest to
-        → (to ≡ Third) ⊎ ((to ≡ ToKick) × (keepers past g ≡ []))
-        → (pass_due j past true (pass j past) ≡ pass_due j past false (pass j past)) ⊎ (pass_due j past false (pass j past) ≡ KicksAll [])
-    with_page g rest to at (inl third) = inl (rw (at, third) refl)
-    with_page g rest to at (inr (kick, nobody)) = inr (rw (at, kick) (ap KicksAll nobody))
-
-    by_phase : (phase : Phase) → StandsFor j.start_epoch past c.pass.taken.items phase (pass j past)
-        → IsDueNow (view_of c told plans false) (reclaimer_due j past (is_kicked phase))
-    by_phase (phases.Idle works) stands = none
-    by_phase (phases.Scan left) stands = none
-    by_phase (phases.Block next) stands = none
-    by_phase (phases.Sealing next slot) stands = none
-    by_phase (phases.Tries next code.First block) stands = none
-    by_phase (phases.Tries next code.Track block) stands = none
-    by_phase (phases.Tries next code.Second block) stands = none
-    by_phase (phases.Tries next code.Kick block) stands = none
-    by_phase (phases.Tries next code.Third block) stands =
-        let w = stands.0 in
-        behind (either_due j past (with_page w.one.page (pages_in w.rest) w.to w.same w.fits.0))
-
 -- a write-out that has started is the one that the pass waits for
 pub open_seals : (c : Course) (told : Option (List Call)) (spare : ℕ) → KeepsCourse c told spare
     → is_some (frame_started (last_event (past_of c) actors.Reclaimer)) ≡ true → is_sealing c.pass.phase ≡ true
@@ -161,16 +103,17 @@ open_seals c told spare k pending = by (is_sealing c.pass.phase) refl
         at pending))
 
 module _ (c c' : Course) (told told' : Option (List Call)) (plans plans' : List PlanLine) (spare' : ℕ) (k : KeepsCourse c' told' spare')
-    (same_plans : plans' ≡ plans) where
+    (same_plans : plans' ≡ plans) (tells : is_some told' ≡ is_some told) where
   -- where entries and job are as before, the book is the one that it was
-  rest_seen : c'.job ≡ c.job → c'.entries.items ≡ c.entries.items → told' ≡ told
+  rest_seen : c'.job ≡ c.job → c'.entries.items ≡ c.entries.items → c'.pass.phase ≡ c.pass.phase → told' ≡ told
       → view_of c' told' plans' false ≡ view_of c told plans false
-  rest_seen job items calm = λ i. record {
+  rest_seen job items phase calm = λ i. record {
     job = job i;
     past = reverse (items i);
     told = calm i;
     plans = same_plans i;
     out_of_memory = false;
+    kicked = is_kicked (phase i);
   }
 
   -- a work for it is of a write-out that is open
@@ -189,24 +132,23 @@ module _ (c c' : Course) (told told' : Option (List Call)) (plans plans' : List 
   reclaim_seen : (turn : Turn) (spare : ℕ) → KeepsCourse c told spare → (IsWaiting turn → told' ≡ told)
       → (is_sealing c.pass.phase ≡ true → told' ≡ told) → IsReclaimerTurn c turn c' told' spare'
       → IsReclaim (view_of c told plans false) turn (view_of c' told' plans' false)
-  reclaim_seen (turns.Did n) spare before calm again (many, quiet, g) = (
-    (due_of c, due_now c told spare plans before, many),
+  reclaim_seen (turns.Did n) spare before calm again (many, kicks, quiet, g) = (
+    many,
+    kicks,
     quiet,
-    grown_seen c c' actors.Reclaimer n told told' told' plans plans' spare' false g,
+    grown_seen c c' actors.Reclaimer n told told' told' plans plans' spare' false tells g,
   )
   reclaim_seen (turns.Seal work) spare before calm again (seals, inl g) = (
     seals_seen c' told' spare' work.value plans' false k seals,
-    inl (grown_seen c c' actors.Reclaimer 1 told told' told' plans plans' spare' false g),
+    inl (grown_seen c c' actors.Reclaimer 1 told told' told' plans plans' spare' false tells g),
   )
   reclaim_seen (turns.Seal work) spare before calm again (seals, inr s) = (
     seals_seen c' told' spare' work.value plans' false k seals,
-    inr (rest_seen s.job s.entries (again (ap is_sealing (sym s.phase) ∙ open_work work.value seals))),
+    inr (rest_seen s.job s.entries s.phase (again (ap is_sealing (sym s.phase) ∙ open_work work.value seals))),
   )
-  reclaim_seen (turns.Again why) spare before calm again (due, s) =
-      ((due_of c, due_now c told spare plans before, due), rest_seen s.job s.entries (calm tt))
-  reclaim_seen turns.Finished spare before calm again (due, s) =
-      (subst (IsDueNow (view_of c told plans false)) due (due_now c told spare plans before), rest_seen s.job s.entries (calm tt))
-  reclaim_seen turns.Stopped spare before calm again (spent, s) = (spent, rest_seen s.job s.entries (calm tt))
+  reclaim_seen (turns.Again why) spare before calm again (due, s) = (due, rest_seen s.job s.entries s.phase (calm tt))
+  reclaim_seen turns.Finished spare before calm again (due, s) = (due, rest_seen s.job s.entries s.phase (calm tt))
+  reclaim_seen turns.Stopped spare before calm again (spent, s) = (spent, rest_seen s.job s.entries s.phase (calm tt))
   reclaim_seen (turns.Unseal work) spare before calm again is = absurd is
 
   pub reclaim_turn_seen : (r : Result Turn Memory) (spare : ℕ) (X : Type 0) → KeepsCourse c told spare → (X → told' ≡ told)
@@ -218,7 +160,7 @@ module _ (c c' : Course) (told told' : Option (List Call)) (plans plans' : List 
   reclaim_turn_seen (Err memory) spare X before calm rests again is = tt
 
   reclaim_job : (turn : Turn) → IsReclaimerTurn c turn c' told' spare' → c'.job ≡ c.job
-  reclaim_job (turns.Did n) (many, quiet, g) = g.job
+  reclaim_job (turns.Did n) (many, kicks, quiet, g) = g.job
   reclaim_job (turns.Seal work) (seals, inl g) = g.job
   reclaim_job (turns.Seal work) (seals, inr s) = s.job
   reclaim_job (turns.Again why) (due, s) = s.job
@@ -226,9 +168,9 @@ module _ (c c' : Course) (told told' : Option (List Call)) (plans plans' : List 
   reclaim_job turns.Stopped (due, s) = s.job
   reclaim_job (turns.Unseal work) is = absurd is
 
-  pub reclaim_turn_kept : (r : Result Turn Memory) (spare : ℕ) (X : Type 0) → IsKept c told plans spare → is_some told' ≡ is_some told
+  pub reclaim_turn_kept : (r : Result Turn Memory) (spare : ℕ) (X : Type 0) → IsKept c told plans spare
       → IfOk r (λ turn. IsReclaimerTurn c turn c' told' spare') → OnErr r (IsSame c c' × X) → IsKept c' told' plans' spare'
-  reclaim_turn_kept r spare X kept tells is same =
+  reclaim_turn_kept r spare X kept is same =
       record { keeps = k; plans_are = plans_told c c' told told' plans plans' same_plans (job r is same) tells kept.plans_are }
     where
       job : (x : Result Turn Memory) → IfOk x (λ turn. IsReclaimerTurn c turn c' told' spare') → OnErr x (IsSame c c' × X)
@@ -242,24 +184,24 @@ module _ (c c' : Course) (told told' : Option (List Call)) (plans plans' : List 
       → IsSealed c turn c' told' spare' → IsOutEnd (view_of c told plans false) turn (view_of c' told' plans' false)
   sealed_seen (turns.Did zero) spare before calm (idle, s) = (
     none_started c.job.start_epoch c.job (past_of c) c.pass.taken.items c.pass.phase before.stands before.book.age idle,
-    rest_seen s.job s.entries (calm tt),
+    rest_seen s.job s.entries s.phase (calm tt),
   )
-  sealed_seen (turns.Did (suc n)) spare before calm (one, ends, g) =
-      (one, ends, grown_seen c c' actors.Reclaimer 1 told told' told' plans plans' spare' false g)
-  sealed_seen turns.Stopped spare before calm (spent, s) = (spent, rest_seen s.job s.entries (calm tt))
+  sealed_seen (turns.Did (suc n)) spare before calm (one, ends, kicks, g) =
+      (one, ends, kicks, grown_seen c c' actors.Reclaimer 1 told told' told' plans plans' spare' false tells g)
+  sealed_seen turns.Stopped spare before calm (spent, s) = (spent, rest_seen s.job s.entries s.phase (calm tt))
   sealed_seen (turns.Seal work) spare before calm is = absurd is
   sealed_seen (turns.Unseal work) spare before calm is = absurd is
   sealed_seen (turns.Again why) spare before calm is = absurd is
   sealed_seen turns.Finished spare before calm is = absurd is
 
-  pub sealed_kept : (turn : Turn) (spare : ℕ) → IsKept c told plans spare → is_some told' ≡ is_some told
+  pub sealed_kept : (turn : Turn) (spare : ℕ) → IsKept c told plans spare
       → IsSealed c turn c' told' spare' → IsKept c' told' plans' spare'
-  sealed_kept turn spare kept tells is =
+  sealed_kept turn spare kept is =
       record { keeps = k; plans_are = plans_told c c' told told' plans plans' same_plans (job turn is) tells kept.plans_are }
     where
       job : (x : Turn) → IsSealed c x c' told' spare' → c'.job ≡ c.job
       job (turns.Did zero) (idle, s) = s.job
-      job (turns.Did (suc n)) (one, ends, g) = g.job
+      job (turns.Did (suc n)) (one, ends, kicks, g) = g.job
       job turns.Stopped (spent, s) = s.job
       job (turns.Seal work) y = absurd y
       job (turns.Unseal work) y = absurd y

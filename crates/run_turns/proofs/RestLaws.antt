@@ -15,15 +15,15 @@ use Rattle.driver_laws.specs.inner.Three.{TcsAreApart}
 use Rattle.driver_rules.specs.Passes.{pass}
 use Rattle.driver_tables.specs.declared.driver.Driver.{Driver}
 use Rattle.reclaim_worker.specs.declared.turns.Phase.{Phase}
-use Rattle.reclaim_worker.specs.inner.Standing.{StandsFor, is_sealing}
+use Rattle.reclaim_worker.specs.inner.Standing.{StandsFor, is_kicked, is_sealing}
 use Rattle.reclaim_worker.specs.inner.Stored.{still_out}
 use Rattle.run_history.specs.Given.{UnforgedRun, made_in}
 use Rattle.run_book.specs.inner.Books.{KeepsBook}
 use Rattle.table_notes.specs.inner.Arrays.{KeepsArrays}
 use Rattle.turn_tables.specs.declared.turns.Turns.{Turns}
-use Rattle.turn_tables.specs.inner.Ending.{EndsAreTold, NoneFails}
+use Rattle.turn_tables.specs.inner.Ending.{EndsAreTold}
 use Rattle.run_turns.specs.declared.course.Course.{Course}
-use Rattle.run_turns.specs.inner.Courses.{Grows, IsSame, KeepsCourse, has_open_load, open_starts, past_of}
+use Rattle.run_turns.specs.inner.Courses.{Grows, IsClear, IsSame, KeepsCourse, KeepsKicks, has_open_load, open_starts, past_of}
 use Rattle.run_turns.specs.inner.Turns.{IsAtRest}
 
 -- what a book keeps of a machine it keeps of another one in the same state
@@ -97,7 +97,7 @@ rest_keeps c c' told spare rests k =
           (subst (KeepsArrays c.job c'.driver.slots) (sym past)
           (subst (λ (d : Driver). KeepsArrays c.job d.slots (past_of c)) (sym rests.driver) k.arrays));
       ends = subst EndsAreTold (sym past) k.ends;
-      none = subst NoneFails (sym past) k.none;
+      clear = subst (λ (j : JobView). IsClear j (past_of c')) (sym rests.job) (subst (IsClear c.job) (sym past) k.clear);
       room =
           let long = c'.entries.ok.0 ∙ ap length rests.entries ∙ sym c.entries.ok.0 in
           let starts = same_starts c c' rests.turns rests.phase in
@@ -150,12 +150,13 @@ rest_behind a b c one two = record {
 
 -- a course that is the same but for its room grows by the same entries
 pub same_grows : (a b c : Course) (by : Actor) (n : ℕ) (told : Option (List Call)) (spare : ℕ) → b.job ≡ a.job → past_of b ≡ past_of a
-    → Grows b by n c told spare → Grows a by n c told spare
-same_grows a b c by n told spare job past g = record {
+    → KeepsKicks by (is_kicked a.pass.phase) (is_kicked c.pass.phase) → Grows b by n c told spare → Grows a by n c told spare
+same_grows a b c by n told spare job past kicks g = record {
   entries = g.entries;
   count = g.count;
   actors = g.actors;
   past = g.past ∙ ap (λ h. g.entries ++ h) past;
   job = g.job ∙ job;
+  kicks = kicks;
   keeps = g.keeps;
 }

@@ -12,14 +12,14 @@ use Rattle.driver_laws.specs.inner.Three.{TcsAreApart}
 use Rattle.driver_tables.specs.declared.driver.Driver.{Driver}
 use Rattle.reclaim_worker.specs.declared.turns.Phase.{Phase}
 use Rattle.reclaim_worker.specs.declared.turns.Taken.{Taken}
-use Rattle.reclaim_worker.specs.inner.Standing.{StandsFor, is_sealing}
+use Rattle.reclaim_worker.specs.inner.Standing.{StandsFor, is_kicked, is_sealing}
 use Rattle.reclaim_worker.specs.inner.Stored.{still_out}
 use Rattle.turn_tables.specs.declared.turns.Turns.{Turns}
-use Rattle.turn_tables.specs.inner.Ending.{EndsAreTold, NoneFails}
+use Rattle.turn_tables.specs.inner.Ending.{EndsAreTold}
 use Rattle.table_notes.specs.inner.Arrays.{KeepsArrays}
 use Rattle.run_book.specs.inner.Books.{KeepsBook}
 use Rattle.run_turns.specs.declared.course.Course.{Course}
-use Rattle.run_turns.specs.inner.Courses.{IsSame, KeepsCourse, has_open_load, open_starts, past_of}
+use Rattle.run_turns.specs.inner.Courses.{IsClear, IsSame, KeepsCourse, has_open_load, open_starts, past_of}
 use Rattle.run_turns.specs.inner.Kept.{view_of}
 use Rattle.run_turns.specs.inner.Views.{BookView}
 
@@ -54,7 +54,7 @@ same_keeps c c' told spare s k =
       places = by_parts c c' s (λ j h d m t taken phase. still_out taken phase ≤ spare) k.places;
       arrays = by_parts c c' s (λ j h d m t taken phase. KeepsArrays j d.slots h) k.arrays;
       ends = by_parts c c' s (λ j h d m t taken phase. EndsAreTold h) k.ends;
-      none = by_parts c c' s (λ j h d m t taken phase. NoneFails h) k.none;
+      clear = by_parts c c' s (λ j h d m t taken phase. IsClear j h) k.clear;
       room = omega (arith, room, more, starts, size, one, two);
     }
 
@@ -63,4 +63,5 @@ pub same_view : (c c' : Course) (told : Option (List Call)) (plans : List PlanLi
     → view_of c' told plans out_of_memory ≡ view_of c told plans out_of_memory
 same_view c c' told plans out_of_memory s =
     by_parts c c' s (λ j h d m t taken phase. ◌≡◌ {A = BookView}
-    (record { job = j; past = h; told = told; plans = plans; out_of_memory = out_of_memory }) (view_of c told plans out_of_memory)) refl
+    (record { job = j; past = h; told = told; plans = plans; out_of_memory = out_of_memory; kicked = is_kicked phase })
+    (view_of c told plans out_of_memory)) refl

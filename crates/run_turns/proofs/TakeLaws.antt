@@ -22,6 +22,7 @@ use Rattle.table_notes.specs.inner.Arrays.{KeepsArrays}
 use Rattle.table_notes.proofs.ArrayLaws.{arrays_in_pass}
 use Rattle.turn_tables.specs.inner.Holding.{mode_of}
 use Rattle.turn_tables.specs.inner.Noting.{with_kick}
+use Rattle.run_turns.specs.Spent.{IsUsedUp}
 use Rattle.run_turns.specs.declared.course.Course.{Course}
 use Rattle.run_turns.specs.inner.Courses.{KeepsCourse, has_open_load, past_of}
 use Rattle.run_turns.specs.inner.Passing.{IsOwnEntry}
@@ -34,6 +35,7 @@ pub record IsTurnMade (c : Course) (told longer : Option (List Call)) (spare : �
   pub next : IsNextOf (machine_of c.job) c.job (past_of c) c.driver c.machine e d m
   pub own : d.active.own ≡ c.driver.active.own
   pub mine : IsTurnEntry e
+  pub used : IsUsedUp c.job (past_of c) e.event
   pub flat : EnclavesAreFlat (e ∷ past_of c)
   pub store : AreTold c.job (past_of c) e told longer c.driver d
   pub bytes : IfSome longer (λ calls. CarriesBytes (machine_of c.job) c.job (past_of c) c.machine e m calls)
@@ -79,6 +81,6 @@ own_entry c told longer before spare e p d m k made = record {
       (subst (λ (a : Actor). AgeRule c.job (past_of c) (record { actor = a; event = e.event })) made.mine.actor made.next.age)
       made.next.can);
   ends = own_ends (past_of c) e made.mine.actor k.ends;
-  none = own_none (past_of c) e made.mine.actor k.none;
+  clear = record { none = own_none (past_of c) e made.mine.actor k.clear.none; spent = (made.used, k.clear.spent) };
   room = made.room;
 }

@@ -21,10 +21,18 @@ use Rattle.run_turns.proofs.ReportLaws.{builder_stopped}
 
 -- entries more
 pub grown_seen : (c c' : Course) (by : Actor) (n : ℕ) (told told' longer : Option (List Call)) (plans plans' : List PlanLine) (spare : ℕ)
-    (out_of_memory : Bool) → Grows c by n c' longer spare
+    (out_of_memory : Bool) → is_some told' ≡ is_some told → Grows c by n c' longer spare
     → HasGrown (view_of c told plans out_of_memory) by n (view_of c' told' plans' out_of_memory)
-grown_seen c c' by n told told' longer plans plans' spare out_of_memory g =
-    record { entries = g.entries; count = g.count; actors = g.actors; past = g.past; job = g.job; out_of_memory = refl }
+grown_seen c c' by n told told' longer plans plans' spare out_of_memory tells g = record {
+  entries = g.entries;
+  count = g.count;
+  actors = g.actors;
+  past = g.past;
+  job = g.job;
+  out_of_memory = refl;
+  tells = tells;
+  kicks = g.kicks;
+}
 
 -- a course of the same job that keeps what it has to
 abbrev pub GoesOn : Course → Course → Option (List Call) → ℕ → Type 0
@@ -58,7 +66,7 @@ module _ (c : Course) (told : Option (List Call)) (plans : List PlanLine) (spare
   -- a turn of a book to which no refused memory was told
   build_seen : (c' : Course) (turn : Turn) → IsBuilderTurn c turn c' told spare
       → IsBuild (view_of c told plans false) turn (view_of c' told plans false)
-  build_seen c' (turns.Did n) (one, g) = (one, grown_seen c c' actors.Builder 1 told told told plans plans spare false g)
+  build_seen c' (turns.Did n) (one, g) = (one, grown_seen c c' actors.Builder 1 told told told plans plans spare false refl g)
   build_seen c' (turns.Again why) (due, same) = (due, same_view c c' told plans false same)
   build_seen c' turns.Finished (due, same) = (due, same_view c c' told plans false same)
   build_seen c' turns.Stopped (due, same) = (builder_stopped c.job (past_of c) due, same_view c c' told plans false same)

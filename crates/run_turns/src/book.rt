@@ -49,6 +49,7 @@ impl<B: Backing> Book<B> {
         ensures past { IfOk result (λ book. book.past ≡ []) }
         ensures told { IfOk result (λ book. book.told ≡ B.told store) }
         ensures out_of_memory { IfOk result (λ book. book.out_of_memory ≡ false) }
+        ensures kicked { IfOk result (λ book. book.kicked ≡ false) }
     {
         let mut store = store;
         store.plan(alloc, job.plans())?;

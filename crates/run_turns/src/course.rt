@@ -1,7 +1,8 @@
 //! How far a run is.
 
-ghost use Rattle.std.specs.Prelude.{◌≡◌, ℕ, [], List, Option, IfOk, IfSome};
+ghost use Rattle.std.specs.Prelude.{◌≡◌, ℕ, [], false, List, Option, IfOk, IfSome};
 ghost use Rattle.backing_store.specs.Calls.{Call};
+ghost use Rattle.reclaim_worker.specs.inner.Standing.{is_kicked};
 ghost use Rattle.run_turns.specs.inner.Courses.{KeepsCourse};
 
 use crate::building::ROOM;
@@ -37,9 +38,15 @@ impl Course {
     pub fn new(alloc: Global, job: Job) -> Result<Course, Memory>
         ensures job { IfOk result (λ course. course.job ≡ job) }
         ensures entries { IfOk result (λ course. course.entries.items ≡ []) }
+        ensures kicks { IfOk result (λ course. is_kicked course.pass.phase ≡ false) }
         ensures keeps { IfOk result (λ course. (told : Option (List Call)) (spare : ℕ) → IfSome told (λ calls. calls ≡ [])
             → KeepsCourse course told spare) }
     {
+        let pass = Pass::new(alloc)?;
+        let entries = no_entries(alloc, &job)?;
+        let turns = Turns::new(alloc, &job)?;
+        let driver = Driver::new(alloc, &job)?;
+        // The machine comes last, so that no other refusal has to give it back.
         let machine = Machine::new(
             alloc,
             job.epc(),
@@ -48,10 +55,6 @@ impl Course {
             job.start_epoch(),
             job.start_version(),
         )?;
-        let driver = Driver::new(alloc, &job)?;
-        let turns = Turns::new(alloc, &job)?;
-        let pass = Pass::new(alloc)?;
-        let entries = no_entries(alloc, &job)?;
         Ok(Course {
             job,
             machine,

@@ -4,7 +4,7 @@ ghost use Rattle.std.specs.Prelude.{◌≡◌, ◌+◌, ◌≤◌, ◌∷◌, []
 ghost use Rattle.std.specs.Prelude.{vec_capacity};
 ghost use Rattle.driver_rules.specs.inner.Reclaims.{all_finished};
 ghost use Rattle.driver_rules.specs.Stops.{is_spent};
-ghost use Rattle.reclaim_worker.specs.inner.Standing.{is_sealing};
+ghost use Rattle.reclaim_worker.specs.inner.Standing.{is_kicked, is_sealing};
 ghost use Rattle.run_turns.specs.inner.Courses.{Grows, IsSame, KeepsCourse, past_of};
 ghost use Rattle.run_turns.specs.inner.Kicking.{CanKick, CanKickOne, HasKicked};
 ghost use Rattle.run_turns.specs.inner.Passing.{CanFollow, CanTakeOwn, EndsNone, IsFollowed, IsSealOf, IsWaiting, is_building};
@@ -161,6 +161,7 @@ impl Course {
         ensures grows { (can : CanTakeOwn self.old entry) → Grows self.old actors.Reclaimer 1 self.new can.longer can.spare }
         ensures past { past_of self.new ≡ entry ∷ past_of self.old }
         ensures sealing { is_sealing self.new.pass.phase ≡ is_sealing self.old.pass.phase }
+        ensures kicks { is_kicked self.new.pass.phase ≡ is_kicked self.old.pass.phase }
         ensures room { self.new.room ≡ self.old.room }
     {
         self.take_in(Mode::Outside, &entry);
@@ -247,6 +248,7 @@ impl Course {
         requires sealing { is_sealing self.old.pass.phase ≡ true }
         ensures grows { Grows self.old actors.Reclaimer 1 self.new (S.told store.new) (S.spare store.new) }
         ensures ends { EndsOut (past_of self.new) }
+        ensures kicks { is_kicked self.new.pass.phase ≡ false }
         ensures plans { S.plans store.new ≡ S.plans store.old }
         ensures tells { is_some (S.told store.new) ≡ is_some (S.told store.old) }
     {

@@ -1,7 +1,7 @@
 //! What is done with each entry.
 
 ghost use Rattle.std.specs.Prelude.{◌≡◌, ◌++◌, ◌∷◌, [], vec_capacity};
-ghost use Rattle.reclaim_worker.specs.inner.Standing.{is_sealing};
+ghost use Rattle.reclaim_worker.specs.inner.Standing.{is_kicked, is_sealing};
 ghost use Rattle.reclaim_worker.specs.inner.Stored.{still_out};
 ghost use Rattle.run_book.specs.inner.Books.{with_own};
 ghost use Rattle.run_turns.specs.inner.Recording.{CanRecord, CanTake, IsRecorded, IsTaken};
@@ -26,6 +26,7 @@ impl Course {
         ensures taken { self.new.pass.taken ≡ self.old.pass.taken }
         ensures places { still_out self.new.pass.taken.items self.new.pass.phase ≡ still_out self.old.pass.taken.items self.old.pass.phase }
         ensures sealing { is_sealing self.new.pass.phase ≡ is_sealing self.old.pass.phase }
+        ensures kicks { is_kicked self.new.pass.phase ≡ is_kicked self.old.pass.phase }
         ensures others { self.new ≡ record self.old {
           driver = self.new.driver;
           turns = self.new.turns;

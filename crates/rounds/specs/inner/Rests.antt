@@ -1,16 +1,17 @@
 -- What a turn leaves to its actor, and what it keeps.
-use Rattle.std.specs.Prelude.{ℕ, ◌≡◌, ◌<◌, false}
+use Rattle.std.specs.Prelude.{ℕ, ◌≡◌, ◌<◌, false, is_some}
 use Rattle.driver_rules.specs.Dues.{Finished}
 use Rattle.driver_rules.specs.Stops.{is_spent}
 use Rattle.driver_rules.specs.Turns.{builder_due, cpu_due}
 use Rattle.machine_book.specs.inner.Views.{BookView}
 use Rattle.machine_book.specs.inner.Words.{MachineView}
 
--- a book of the same job and of the same words, to which no refused memory was told
+-- a book of the same job and of the same words, to which no refused memory was told. A store that tells its calls goes on to
 pub record IsSameRun (old new : MachineView) : Type 0 where
   pub job : new.book.job ≡ old.book.job
   pub words : new.words ≡ old.words
   pub out_of_memory : new.book.out_of_memory ≡ false
+  pub tells : is_some new.book.told ≡ is_some old.book.told
 
 -- the builder has nothing more to do, unless the run was stopped
 abbrev pub BuilderRests : BookView → Type 0

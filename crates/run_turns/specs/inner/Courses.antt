@@ -2,12 +2,15 @@
 use Rattle.std.specs.Prelude.{ℕ, ◌≡◌, ◌+◌, ◌*◌, ◌≤◌, ◌++◌, All, Bool, true, false, if◌then◌else◌, List}
 use Rattle.std.specs.Prelude.{Option, count_by, length, reverse, vec_len, vec_capacity}
 use Rattle.sgx_types.specs.declared.names.Actor.{Actor}
+use Rattle.sgx_types.specs.declared.names.Actor.TheVariants as actors
 use Rattle.sgx_rules.specs.declared.entries.Entry.{Entry}
+use Rattle.sgx_rules.specs.Rules.{Along}
+use Rattle.job_grammar.specs.Jobs.{JobView}
 use Rattle.turn_rules.specs.Machines.{machine_of}
 use Rattle.backing_store.specs.Calls.{Call}
 use Rattle.driver_rules.specs.Passes.{pass}
 use Rattle.driver_laws.specs.inner.Three.{TcsAreApart}
-use Rattle.reclaim_worker.specs.inner.Standing.{StandsFor, is_sealing}
+use Rattle.reclaim_worker.specs.inner.Standing.{StandsFor, is_kicked, is_sealing}
 use Rattle.reclaim_worker.specs.inner.Stored.{still_out}
 use Rattle.turn_tables.specs.declared.cpu_turns.CpuTurn.{CpuTurn}
 use Rattle.turn_tables.specs.declared.cpu_turns.Last.{Last}
@@ -16,6 +19,7 @@ use Rattle.turn_tables.specs.inner.Ending.{EndsAreTold, NoneFails}
 use Rattle.table_notes.specs.inner.Arrays.{KeepsArrays}
 use Rattle.run_book.specs.inner.Books.{KeepsBook}
 use Rattle.run_turns.specs.declared.course.Course.{Course}
+use Rattle.run_turns.specs.Spent.{SpentRule}
 
 -- the entries so far, the newest first
 abbrev pub past_of : Course → List Entry
@@ -37,6 +41,12 @@ open_starts c = count_by has_open_load c.turns.cpus + (if is_sealing c.pass.phas
 
 -- ---- between two turns
 
+-- what is so of the entries between two turns: no refused load has still to be told, and epochs and versions were refused only where they
+-- were used up
+pub record IsClear (j : JobView) (past : List Entry) : Type 0 where
+  pub none : NoneFails past
+  pub spent : Along (SpentRule j) past
+
 -- of a course over a store that tells these calls, where it does, and has so many places for records
 pub record KeepsCourse (c : Course) (told : Option (List Call)) (spare : ℕ) : Type 0 where
   -- no two scripts name one TCS page
@@ -49,7 +59,7 @@ pub record KeepsCourse (c : Course) (told : Option (List Call)) (spare : ℕ) : 
   pub arrays : KeepsArrays c.job c.driver.slots (past_of c)
   -- who was ended was told why
   pub ends : EndsAreTold (past_of c)
-  pub none : NoneFails (past_of c)
+  pub clear : IsClear c.job (past_of c)
   -- each open start has room for the two entries of its end
   pub room : vec_len c.entries + 2 * open_starts c ≤ vec_capacity c.entries
 
@@ -64,6 +74,11 @@ pub record IsSame (old new : Course) : Type 0 where
   pub entries : new.entries.items ≡ old.entries.items
   pub room : vec_capacity old.entries ≤ vec_capacity new.entries
 
+-- whether the pass is behind its turn of kicks is as before, but behind a turn of the reclaimer
+abbrev pub KeepsKicks : Actor → Bool → Bool → Type 0
+KeepsKicks actors.Reclaimer before behind = Unit {0}
+KeepsKicks actor before behind = behind ≡ before
+
 -- so many entries more, all of this actor
 pub record Grows (old : Course) (by : Actor) (n : ℕ) (new : Course) (told : Option (List Call)) (spare : ℕ) : Type 0 where
   pub entries : List Entry
@@ -71,4 +86,5 @@ pub record Grows (old : Course) (by : Actor) (n : ℕ) (new : Course) (told : Op
   pub actors : All (λ (e : Entry). e.actor ≡ by) entries
   pub past : past_of new ≡ entries ++ past_of old
   pub job : new.job ≡ old.job
+  pub kicks : KeepsKicks by (is_kicked old.pass.phase) (is_kicked new.pass.phase)
   pub keeps : KeepsCourse new told spare

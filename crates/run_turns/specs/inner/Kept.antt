@@ -2,13 +2,21 @@
 use Rattle.std.specs.Prelude.{◌≡◌, ℕ, Bool, List, Option, IfSome}
 use Rattle.io_edges.specs.declared.plans.PlanLine.{PlanLine}
 use Rattle.backing_store.specs.Calls.{Call}
+use Rattle.reclaim_worker.specs.inner.Standing.{is_kicked}
 use Rattle.run_turns.specs.declared.course.Course.{Course}
 use Rattle.run_turns.specs.inner.Courses.{KeepsCourse, past_of}
 use Rattle.run_turns.specs.inner.Views.{BookView}
 
 -- a course over a store that tells these calls, was handed these plan lines and has so many places
 abbrev pub view_of : Course → Option (List Call) → List PlanLine → Bool → BookView
-view_of c told plans out_of_memory = record { job = c.job; past = past_of c; told = told; plans = plans; out_of_memory = out_of_memory }
+view_of c told plans out_of_memory = record {
+  job = c.job;
+  past = past_of c;
+  told = told;
+  plans = plans;
+  out_of_memory = out_of_memory;
+  kicked = is_kicked c.pass.phase;
+}
 
 pub record IsKept (c : Course) (told : Option (List Call)) (plans : List PlanLine) (spare : ℕ) : Type 0 where
   pub keeps : KeepsCourse c told spare

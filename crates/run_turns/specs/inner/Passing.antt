@@ -9,7 +9,7 @@ use Rattle.driver_rules.specs.Dues.{KicksAll}
 use Rattle.driver_rules.specs.Passes.{pass}
 use Rattle.driver_rules.specs.inner.Reclaims.{pass_due}
 use Rattle.reclaim_worker.specs.inner.After.{kicked_past}
-use Rattle.reclaim_worker.specs.inner.Standing.{StandsFor, is_sealing}
+use Rattle.reclaim_worker.specs.inner.Standing.{StandsFor, is_kicked, is_sealing}
 use Rattle.reclaim_worker.specs.inner.Stored.{still_out}
 use Rattle.reclaim_worker.specs.declared.turns.PassTurn.{PassTurn}
 use Rattle.reclaim_worker.specs.declared.turns.PassTurn.TheVariants as passed
@@ -17,13 +17,13 @@ use Rattle.turn_tables.specs.declared.dues.BuilderDue.{BuilderDue}
 use Rattle.turn_tables.specs.declared.dues.BuilderDue.TheVariants as builders
 use Rattle.turn_tables.specs.declared.dues.CpuDue.{CpuDue}
 use Rattle.turn_tables.specs.declared.dues.CpuDue.TheVariants as dues
-use Rattle.turn_tables.specs.inner.Ending.{EndsAreTold, NoneFails}
+use Rattle.turn_tables.specs.inner.Ending.{EndsAreTold}
 use Rattle.turn_tables.specs.inner.Noting.{with_kick}
 use Rattle.table_notes.specs.inner.Arrays.{KeepsArrays}
 use Rattle.run_turns.specs.declared.course.Course.{Course}
 use Rattle.run_turns.specs.declared.turn.Turn.{Turn}
 use Rattle.run_turns.specs.declared.turn.Turn.TheVariants as turns
-use Rattle.run_turns.specs.inner.Courses.{Grows, has_open_load, past_of}
+use Rattle.run_turns.specs.inner.Courses.{Grows, IsClear, has_open_load, past_of}
 use Rattle.run_turns.specs.inner.Kicking.{CanKick}
 use Rattle.run_turns.specs.inner.Recording.{CanTake}
 use Rattle.run_turns.specs.inner.Turns.{SealsFor}
@@ -38,7 +38,7 @@ pub record IsOwnEntry (c : Course) (e : Entry) (longer : Option (List Call)) (sp
   pub places : still_out c.pass.taken.items c.pass.phase ≤ spare
   pub arrays : KeepsArrays c.job c.driver.slots (e ∷ past_of c)
   pub ends : EndsAreTold (e ∷ past_of c)
-  pub none : NoneFails (e ∷ past_of c)
+  pub clear : IsClear c.job (e ∷ past_of c)
   -- the entry, and the ends of the starts that are open behind it
   pub room : vec_len c.entries + 1 + 2
       * (count_by has_open_load (with_kick e.event c.turns.cpus) + (if is_sealing c.pass.phase then 1 else 0)) ≤ vec_capacity c.entries
@@ -58,7 +58,7 @@ pub record IsOwnKicks (c : Course) (bits : ℕ) (longer : Option (List Call)) (s
   pub places : still_out c.pass.taken.items c.pass.phase ≤ spare
   pub arrays : KeepsArrays c.job c.driver.slots (past_of c)
   pub ends : EndsAreTold (past_of c)
-  pub none : NoneFails (past_of c)
+  pub clear : IsClear c.job (past_of c)
   pub room : vec_len c.entries + 64 ≤ vec_capacity c.entries
 
 -- ---- what a turn made
@@ -80,7 +80,8 @@ pub record CanFollow (c : Course) (turn : PassTurn) : Type 0 where
 -- one entry more of the reclaimer
 abbrev pub HasOne : Entry → Course → Turn → Course → Option (List Call) → ℕ → Type 0
 HasOne e old (turns.Did n) new told spare =
-    (n ≡ 1) × (past_of new ≡ e ∷ past_of old) × Grows old actors.Reclaimer 1 new told spare
+    (n ≡ 1) × (past_of new ≡ e ∷ past_of old) × (is_kicked new.pass.phase ≡ is_kicked old.pass.phase)
+    × Grows old actors.Reclaimer 1 new told spare
 HasOne e old _ new told spare = ⊥
 
 -- one for each processor that was due to be kicked
@@ -88,7 +89,7 @@ abbrev pub HasKicks : Course → Turn → Course → Option (List Call) → ℕ 
 HasKicks old (turns.Did n) new told spare =
     ((cpus : List ℕ) → pass_due old.job (past_of old) false (pass old.job (past_of old)) ≡ KicksAll cpus
     → (n ≡ length cpus) × (past_of new ≡ kicked_past cpus (past_of old)))
-    × Grows old actors.Reclaimer n new told spare
+    × (is_kicked new.pass.phase ≡ is_kicked old.pass.phase) × Grows old actors.Reclaimer n new told spare
 HasKicks old _ new told spare = ⊥
 
 -- one entry more, and the work of the started write-out

@@ -1,6 +1,6 @@
 -- What each turn asks, and what it answers.
-use Rattle.std.specs.Prelude.{ℕ, zero, suc, ◌≡◌, ◌⊎◌, ◌<◌, ◌≤◌, true, false, List, [], ◌∷◌, Option, None}
-use Rattle.std.specs.Prelude.{Some, length, vec_capacity}
+use Rattle.std.specs.Prelude.{ℕ, zero, suc, ◌≡◌, ◌⊎◌, ◌<◌, ◌≤◌, Bool, true, false, List, [], ◌∷◌, Option, None}
+use Rattle.std.specs.Prelude.{Some, IfSome, length, vec_capacity}
 use Rattle.sgx_rules.specs.declared.entries.Action.{Action}
 use Rattle.sgx_rules.specs.declared.entries.Action.TheVariants.{Eld, Ewb}
 use Rattle.sgx_types.specs.declared.names.Actor.{Actor}
@@ -23,6 +23,7 @@ use Rattle.driver_rules.specs.inner.Stops.{started}
 use Rattle.driver_rules.specs.Turns.{builder_due, cpu_due, last_of}
 use Rattle.driver_laws.specs.inner.Agrees.{loaded_by}
 use Rattle.fault_handler.specs.inner.Repeating.{IsAgain}
+use Rattle.run_history.specs.Calls.{is_lost}
 use Rattle.reclaim_worker.specs.inner.Stored.{IsToSeal}
 use Rattle.reclaim_worker.specs.inner.Standing.{is_kicked, is_sealing}
 use Rattle.run_turns.specs.declared.course.Course.{Course}
@@ -58,6 +59,11 @@ IsWaitBy (Waits why) said = said ≡ why
 IsWaitBy (Fetches page slot None) said = said ≡ waits.NoFrame
 IsWaitBy due said = ⊥
 
+-- who waits for a free frame needs a page that is not lost, where the store tells its calls
+abbrev pub IsNotLost : Option (List Call) → Due → Type 0
+IsNotLost told (Fetches page slot None) = IfSome told (λ calls. is_lost calls page ≡ false)
+IsNotLost told due = Unit {0}
+
 -- a turn of the builder
 abbrev pub IsBuilderTurn : Course → Turn → Course → Option (List Call) → ℕ → Type 0
 IsBuilderTurn old (turns.Did n) new told spare = (n ≡ 1) × Grows old actors.Builder 1 new told spare
@@ -76,7 +82,8 @@ IsCpuTurn old cpu (turns.Did n) new told spare =
     (n ≡ 1) × (started (past_of new) (actors.Cpu cpu) ≡ false) × Grows old (actors.Cpu cpu) 1 new told spare
 IsCpuTurn old cpu (turns.Unseal work) new told spare =
     OpensFor new cpu work × (Grows old (actors.Cpu cpu) 1 new told spare ⊎ IsSame old new)
-IsCpuTurn old cpu (turns.Again why) new told spare = IsWaitBy (cpu_due old.job (past_of old) cpu.0) why × IsSame old new
+IsCpuTurn old cpu (turns.Again why) new told spare =
+    IsWaitBy (cpu_due old.job (past_of old) cpu.0) why × IsNotLost told (cpu_due old.job (past_of old) cpu.0) × IsSame old new
 IsCpuTurn old cpu turns.Finished new told spare = (cpu_due old.job (past_of old) cpu.0 ≡ Finished) × IsSame old new
 IsCpuTurn old cpu turns.Stopped new told spare = (cpu_due old.job (past_of old) cpu.0 ≡ Stopped) × IsSame old new
 IsCpuTurn old cpu _ new told spare = ⊥
@@ -135,10 +142,16 @@ MakesMany (TriesOut f) n = n ≡ 1
 MakesMany (KicksAll cpus) n = n ≡ length cpus
 MakesMany due n = ⊥
 
+-- the turn of kicks was made behind a turn exactly where it was that turn, or was made before
+abbrev pub KicksBy : Due → Bool → Bool → Type 0
+KicksBy (KicksAll cpus) before behind = behind ≡ true
+KicksBy due before behind = behind ≡ true → before ≡ true
+
 -- a turn of the reclaimer. By entries it starts nothing; or a write-out has started in it, or was open before
 abbrev pub IsReclaimerTurn : Course → Turn → Course → Option (List Call) → ℕ → Type 0
 IsReclaimerTurn old (turns.Did n) new told spare =
-    MakesMany (due_of old) n × (started (past_of new) actors.Reclaimer ≡ false) × Grows old actors.Reclaimer n new told spare
+    MakesMany (due_of old) n × KicksBy (due_of old) (is_kicked old.pass.phase) (is_kicked new.pass.phase)
+    × (started (past_of new) actors.Reclaimer ≡ false) × Grows old actors.Reclaimer n new told spare
 IsReclaimerTurn old (turns.Seal work) new told spare =
     SealsFor new work.value × (Grows old actors.Reclaimer 1 new told spare ⊎ IsSame old new)
 IsReclaimerTurn old (turns.Again why) new told spare = IsWaitBy (due_of old) why × IsAtRest old new
@@ -158,6 +171,7 @@ EndsOut (e ∷ past) = WritesOut e.event
 -- the end of the started write-out
 abbrev pub IsSealed : Course → Turn → Course → Option (List Call) → ℕ → Type 0
 IsSealed old (turns.Did zero) new told spare = (is_sealing old.pass.phase ≡ false) × IsSame old new
-IsSealed old (turns.Did (suc n)) new told spare = (n ≡ 0) × EndsOut (past_of new) × Grows old actors.Reclaimer 1 new told spare
+IsSealed old (turns.Did (suc n)) new told spare =
+    (n ≡ 0) × EndsOut (past_of new) × (is_kicked new.pass.phase ≡ false) × Grows old actors.Reclaimer 1 new told spare
 IsSealed old turns.Stopped new told spare = (is_spent (past_of old) ≡ true) × IsSame old new
 IsSealed old _ new told spare = ⊥

@@ -1,6 +1,6 @@
 -- The book as its callers see it, and what is so of every book.
 use Rattle.std.specs.Prelude.{ℕ, zero, suc, ◌≡◌, ◌<◌, ◌++◌, ◌⊎◌, All, Bool, true, false, if◌then◌else◌, List}
-use Rattle.std.specs.Prelude.{[], Option, None, Some, IfSome, length}
+use Rattle.std.specs.Prelude.{Option, None, Some, IfSome, is_some, length}
 use Rattle.std.specs.Option.{IsSomeAnd}
 use Rattle.sgx_types.specs.declared.names.Actor.{Actor}
 use Rattle.sgx_types.specs.declared.names.Actor.TheVariants as actors
@@ -17,7 +17,7 @@ use Rattle.backing_store.specs.Calls.{Call}
 use Rattle.seal_record.specs.declared.seal.SealWork.{SealWork}
 use Rattle.seal_record.specs.declared.unseal.UnsealWork.{UnsealWork}
 use Rattle.driver_rules.specs.Ages.{AgeRule, KickRule}
-use Rattle.driver_rules.specs.Dues.{Due, Finished, KicksAll}
+use Rattle.driver_rules.specs.Dues.{Due, Finished}
 use Rattle.driver_rules.specs.inner.Reclaims.{reclaimer_due}
 use Rattle.driver_rules.specs.Scripts.{IsEnded, ScriptRule}
 use Rattle.driver_rules.specs.Stops.{is_spent}
@@ -30,17 +30,21 @@ use Rattle.run_history.specs.inner.Histories.{GoesOn}
 use Rattle.run_history.specs.Honest.{IsHonest}
 use Rattle.run_history.specs.Stored.{PutsAreFlat, StoreTrue}
 use Rattle.run_book.specs.Lost.{AllCameBack}
+use Rattle.run_turns.specs.Spent.{SpentRule}
 use Rattle.run_turns.specs.declared.turn.Turn.{Turn}
 use Rattle.run_turns.specs.declared.turn.Turn.TheVariants as turns
-use Rattle.run_turns.specs.inner.Turns.{EndsLoad, EndsOut, IsWaitBy, MakesMany}
+use Rattle.run_turns.specs.inner.Courses.{KeepsKicks}
+use Rattle.run_turns.specs.inner.Turns.{EndsLoad, EndsOut, IsNotLost, IsWaitBy, KicksBy, MakesMany}
 
--- the job, the entries so far, the newest first, what the store tells, and whether memory was refused to a worker
+-- the job, the entries so far, the newest first, what the store tells, whether memory was refused to a worker, and what no entry tells
 pub record BookView : Type 0 where
   pub job : JobView
   pub past : List Entry
   pub told : Option (List Call)
   pub plans : List PlanLine
   pub out_of_memory : Bool
+  -- the reclaimer's pass is behind its turn of kicks. Where that had nobody to kick, no entry tells it
+  pub kicked : Bool
 
 -- nothing more is done
 abbrev pub is_stopped : BookView → Bool
@@ -52,7 +56,8 @@ tells_stop turns.Stopped = true
 tells_stop _ = false
 
 -- whatever the store gave: who makes which entry, the reclaimer's looks and kicks, who is inside since which epoch, no frame twice, no
--- stale translation, only drained pages go out, versions rise, and the store's calls are those of the entries
+-- stale translation, only drained pages go out, versions rise, none is refused before the last one, nor an epoch, and the store's calls
+-- are those of the entries
 pub record HoldsAnyhow (b : BookView) : Type 0 where
   pub script : Along (ScriptRule b.job) b.past
   pub age : Along (AgeRule b.job) b.past
@@ -62,6 +67,7 @@ pub record HoldsAnyhow (b : BookView) : Type 0 where
   pub stale : Stale b.past
   pub evict : Along EvictRule b.past
   pub rising : Along (RisingRule b.job.start_version) b.past
+  pub spent : Along (SpentRule b.job) b.past
   pub store : StoreTrue b.job b.past b.plans b.told
   -- where the builder and each processor have nothing more to do, the run is at its end
   pub ended : builder_due b.job b.past ≡ Finished → ((p : ℕ) → p < length b.job.scripts → cpu_due b.job b.past p ≡ Finished)
@@ -77,7 +83,8 @@ pub record Holds (b : BookView) : Type 0 where
   pub anyhow : HoldsAnyhow b
   pub unforged : IfSome b.told (HoldsUnforged b)
 
--- so many entries more, all of this actor, of one job; whether memory was refused to a worker is as before
+-- so many entries more, all of this actor, of one job; whether memory was refused to a worker is as before, and a store that tells its
+-- calls goes on to
 pub record HasGrown (old : BookView) (by : Actor) (n : ℕ) (new : BookView) : Type 0 where
   pub entries : List Entry
   pub count : length entries ≡ n
@@ -85,6 +92,8 @@ pub record HasGrown (old : BookView) (by : Actor) (n : ℕ) (new : BookView) : T
   pub past : new.past ≡ entries ++ old.past
   pub job : new.job ≡ old.job
   pub out_of_memory : new.out_of_memory ≡ old.out_of_memory
+  pub tells : is_some new.told ≡ is_some old.told
+  pub kicks : KeepsKicks by old.kicked new.kicked
 
 -- ---- turns
 
@@ -109,7 +118,8 @@ pub record OpensLoad (b : BookView) (cpu : Cpu) (work : UnsealWork) : Type 0 whe
 abbrev pub IsRun : BookView → Cpu → Turn → BookView → Type 0
 IsRun old cpu (turns.Did n) new = (n ≡ 1) × (started new.past (actors.Cpu cpu) ≡ false) × HasGrown old (actors.Cpu cpu) 1 new
 IsRun old cpu (turns.Unseal work) new = OpensLoad new cpu work.value × (HasGrown old (actors.Cpu cpu) 1 new ⊎ (new ≡ old))
-IsRun old cpu (turns.Again why) new = IsWaitBy (cpu_due old.job old.past cpu.0) why × (new ≡ old)
+IsRun old cpu (turns.Again why) new =
+    IsWaitBy (cpu_due old.job old.past cpu.0) why × IsNotLost old.told (cpu_due old.job old.past cpu.0) × (new ≡ old)
 IsRun old cpu turns.Finished new = (cpu_due old.job old.past cpu.0 ≡ Finished) × (new ≡ old)
 IsRun old cpu turns.Stopped new = (is_stopped old ≡ true) × (new ≡ old)
 IsRun old cpu _ new = ⊥
@@ -134,25 +144,32 @@ pub record SealsPageOut (b : BookView) (work : SealWork) : Type 0 where
   pub header : header_at b.past page ≡ Some work.header
   pub bytes : IfSome b.told (λ calls. UnforgedRun b.job.key b.past calls → work.plain.items ≡ bytes_at b.past page)
 
--- what is due to the reclaimer. Where a turn of kicks has nobody to kick, no entry tells whether it was made: what comes
--- behind it may be due
-abbrev pub IsDueNow : BookView → Due → Type 0
-IsDueNow b due = (due ≡ reclaimer_due b.job b.past false)
-    ⊎ ((reclaimer_due b.job b.past false ≡ KicksAll []) × (due ≡ reclaimer_due b.job b.past true))
+-- what is due to the reclaimer
+abbrev pub reclaim_due : BookView → Due
+reclaim_due b = reclaimer_due b.job b.past b.kicked
 
 -- a turn of the reclaimer. By entries it starts nothing; or a write-out has started in it, or was open before
 abbrev pub IsReclaim : BookView → Turn → BookView → Type 0
 IsReclaim old (turns.Did n) new =
-    ((due : Due) × IsDueNow old due × MakesMany due n) × (started new.past actors.Reclaimer ≡ false) × HasGrown old actors.Reclaimer n new
+    MakesMany (reclaim_due old) n × KicksBy (reclaim_due old) old.kicked new.kicked × (started new.past actors.Reclaimer ≡ false)
+    × HasGrown old actors.Reclaimer n new
 IsReclaim old (turns.Seal work) new = SealsPageOut new work.value × (HasGrown old actors.Reclaimer 1 new ⊎ (new ≡ old))
-IsReclaim old (turns.Again why) new = ((due : Due) × IsDueNow old due × IsWaitBy due why) × (new ≡ old)
-IsReclaim old turns.Finished new = IsDueNow old Finished × (new ≡ old)
+IsReclaim old (turns.Again why) new = IsWaitBy (reclaim_due old) why × (new ≡ old)
+IsReclaim old turns.Finished new = (reclaim_due old ≡ Finished) × (new ≡ old)
 IsReclaim old turns.Stopped new = (is_stopped old ≡ true) × (new ≡ old)
 IsReclaim old _ new = ⊥
 
 -- the end of the started write-out
 abbrev pub IsOutEnd : BookView → Turn → BookView → Type 0
 IsOutEnd old (turns.Did zero) new = (frame_started (last_event old.past actors.Reclaimer) ≡ None) × (new ≡ old)
-IsOutEnd old (turns.Did (suc n)) new = (n ≡ 0) × EndsOut new.past × HasGrown old actors.Reclaimer 1 new
+IsOutEnd old (turns.Did (suc n)) new = (n ≡ 0) × EndsOut new.past × (new.kicked ≡ false) × HasGrown old actors.Reclaimer 1 new
 IsOutEnd old turns.Stopped new = (is_stopped old ≡ true) × (new ≡ old)
 IsOutEnd old _ new = ⊥
+
+-- ---- whose turns load
+
+-- a turn that starts a load, or goes on with one, is a processor's
+abbrev pub MayLoad : Actor → Turn → Type 0
+MayLoad (actors.Cpu cpu) turn = Unit {0}
+MayLoad who (turns.Unseal work) = ⊥
+MayLoad who turn = Unit {0}

@@ -16,3 +16,13 @@ returns-in-Ok-run_job-clause-broke g c = λ failed.
           (summary_of c.args.size entries))
           c.in-Ok.ensures c.in-Ok-run_job.ensures.job c.in-Ok-run_job.ensures.run (c.sum_up.ensures.broke failed)),
     ))
+
+pub returns-in-Ok-run_job-clause-back : goal.returns-in-Ok-run_job-clause-back
+returns-in-Ok-run_job-clause-back g c =
+    let run = c.in-Ok-run_job.run' in
+    rw c.sum_up.ensures.store (
+      run.end,
+      demo-by c.args.number c.args.size c.in-Ok.job run.job run.entries.items run.end (g.B.Backing.told run.store)
+          (g.B.Backing.plans run.store) (λ (entries : List Entry). Unit {0}) c.in-Ok.ensures c.in-Ok-run_job.ensures.job
+          c.in-Ok-run_job.ensures.run tt,
+    )

@@ -14,3 +14,11 @@ returns-in-Ok-run_job-clause-broke g c = λ failed.
     (g.L.Sink.given c.args.trace.now) (g.L.Sink.given c.give_run.new.trace))
     c.in-Ok.ensures.job c.in-Ok-run_job.ensures.job c.in-Ok-run_job.ensures.run (c.give_run.ensures.broke failed) in
     (ran.0, ran.1, inr (run.end, rw c.give_run.ensures.store ran.2)))
+
+pub returns-in-Ok-run_job-clause-back : goal.returns-in-Ok-run_job-clause-back
+returns-in-Ok-run_job-clause-back g c =
+    let run = c.in-Ok-run_job.run' in
+    let ran = ran-by (g.J.Source.left c.args.job.now) c.in-Ok.job run.job (reverse run.entries.items) run.end
+    (g.B.Backing.told run.store) (g.B.Backing.plans run.store) (λ (j : JobView) (past : List Entry). Unit {0})
+    c.in-Ok.ensures.job c.in-Ok-run_job.ensures.job c.in-Ok-run_job.ensures.run tt in
+    rw c.give_run.ensures.store (ran.0, ran.1, (run.end, ran.2))

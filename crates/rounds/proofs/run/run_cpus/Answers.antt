@@ -11,6 +11,7 @@ loop-number-preserved g c = (
     job = c.in_ok-run_cpu.ensures.run.job ∙ c.loop-number.invariant.0.job;
     words = c.in_ok-run_cpu.ensures.run.words ∙ c.loop-number.invariant.0.words;
     out_of_memory = c.in_ok-run_cpu.ensures.run.out_of_memory;
+    tells = c.in_ok-run_cpu.ensures.run.tells ∙ c.loop-number.invariant.0.tells;
   },
   elim c.if-not-branch.branch [
     | then-not-branch w ↦ λ done. absurd (false≢true (sym w.is_done-is ∙ done))

@@ -28,4 +28,5 @@ returns-clause-turn g c =
 
 pub returns-clause-stopped : goal.returns-clause-stopped
 returns-clause-stopped g c =
-    load_goes c.args.self.now _ (sym c.is_stopped.ensures ∙ c.if-is_stopped.false) c.args.cpu c.commit_opened.result (returns-clause-turn g c)
+    load_goes c.args.self.now _ (sym c.is_stopped.ensures ∙ c.if-is_stopped.false) c.args.cpu c.commit_opened.result
+    (returns-clause-turn g c)

@@ -8,8 +8,9 @@ pub invariant_of-self : goal.invariant_of-self
 invariant_of-self g c =
     sealed_kept c.self.inside.course.value c.commit_sealed.new.self (g.B.Backing.told c.self.inside.store)
     (g.B.Backing.told c.commit_sealed.new.store) (g.B.Backing.plans c.self.inside.store) (g.B.Backing.plans c.commit_sealed.new.store)
-    (g.B.Backing.spare c.commit_sealed.new.store) c.commit_sealed.ensures.keeps c.commit_sealed.ensures.plans c.commit_sealed.result
-    (g.B.Backing.spare c.self.inside.store) c.self.invariant c.commit_sealed.ensures.tells
+    (g.B.Backing.spare c.commit_sealed.new.store) c.commit_sealed.ensures.keeps c.commit_sealed.ensures.plans c.commit_sealed.ensures.tells
+    c.commit_sealed.result
+    (g.B.Backing.spare c.self.inside.store) c.self.invariant
     (rw c.deref_mut.ensures.value at c.commit_sealed.ensures.turn)
 
 pub returns-clause-turn : goal.returns-clause-turn
@@ -18,7 +19,8 @@ returns-clause-turn g c =
     rw (← c.self.view_is, first_false c.self.inside.out_of_memory _ going)
     (sealed_seen c.self.inside.course.value c.commit_sealed.new.self (g.B.Backing.told c.self.inside.store)
     (g.B.Backing.told c.commit_sealed.new.store) (g.B.Backing.plans c.self.inside.store) (g.B.Backing.plans c.commit_sealed.new.store)
-    (g.B.Backing.spare c.commit_sealed.new.store) c.commit_sealed.ensures.keeps c.commit_sealed.ensures.plans c.commit_sealed.result
+    (g.B.Backing.spare c.commit_sealed.new.store) c.commit_sealed.ensures.keeps c.commit_sealed.ensures.plans c.commit_sealed.ensures.tells
+    c.commit_sealed.result
     (g.B.Backing.spare c.self.inside.store) c.self.invariant.keeps (λ none. ap g.B.Backing.told (c.commit_sealed.ensures.none none))
     (rw c.deref_mut.ensures.value at c.commit_sealed.ensures.turn))
 

@@ -11,8 +11,9 @@ pub invariant_of-self : goal.invariant_of-self
 invariant_of-self g c =
     reclaim_turn_kept c.self.inside.course.value c.reclaim_turn.new.self (g.B.Backing.told c.self.inside.store)
     (g.B.Backing.told c.reclaim_turn.new.store) (g.B.Backing.plans c.self.inside.store) (g.B.Backing.plans c.reclaim_turn.new.store)
-    (g.B.Backing.spare c.reclaim_turn.new.store) c.reclaim_turn.ensures.keeps c.reclaim_turn.ensures.plans c.reclaim_turn.result
-    (g.B.Backing.spare c.self.inside.store) (c.reclaim_turn.new.store ≡ c.self.inside.store) c.self.invariant c.reclaim_turn.ensures.tells
+    (g.B.Backing.spare c.reclaim_turn.new.store) c.reclaim_turn.ensures.keeps c.reclaim_turn.ensures.plans c.reclaim_turn.ensures.tells
+    c.reclaim_turn.result
+    (g.B.Backing.spare c.self.inside.store) (c.reclaim_turn.new.store ≡ c.self.inside.store) c.self.invariant
     (rw c.deref_mut.ensures.value at c.reclaim_turn.ensures.turn) (rw c.deref_mut.ensures.value at c.reclaim_turn.ensures.memory)
 
 pub returns-clause-turn : goal.returns-clause-turn
@@ -21,7 +22,8 @@ returns-clause-turn g c =
     rw (← c.self.view_is, first_false c.self.inside.out_of_memory _ going)
     (reclaim_turn_seen c.self.inside.course.value c.reclaim_turn.new.self (g.B.Backing.told c.self.inside.store)
     (g.B.Backing.told c.reclaim_turn.new.store) (g.B.Backing.plans c.self.inside.store) (g.B.Backing.plans c.reclaim_turn.new.store)
-    (g.B.Backing.spare c.reclaim_turn.new.store) c.reclaim_turn.ensures.keeps c.reclaim_turn.ensures.plans c.reclaim_turn.result
+    (g.B.Backing.spare c.reclaim_turn.new.store) c.reclaim_turn.ensures.keeps c.reclaim_turn.ensures.plans c.reclaim_turn.ensures.tells
+    c.reclaim_turn.result
     (g.B.Backing.spare c.self.inside.store) (c.reclaim_turn.new.store ≡ c.self.inside.store) c.self.invariant.keeps (ap g.B.Backing.told)
     c.reclaim_turn.ensures.rests (λ sealing. ((rw c.deref_mut.ensures.value at c.reclaim_turn.ensures.again) sealing).1)
     (rw c.deref_mut.ensures.value at c.reclaim_turn.ensures.turn))

@@ -1,5 +1,6 @@
 use Rattle.std.proofs.Common.{◌≡◌, IfSome, [], sym, ap, subst, ◌∙◌}
 use Rattle.job_grammar.specs.Jobs.{JobView}
+use Rattle.reclaim_worker.specs.inner.Standing.{is_kicked}
 use Rattle.run_turns.specs.declared.course.Course.{Course}
 use Rattle.run_turns.specs.inner.Kept.{IsKept}
 use Rattle.run_turns.proofs.ViewLaws.{plans_begin}
@@ -16,3 +17,7 @@ invariant_of-result g c =
       plans_are = plans_begin told (g.B.Backing.plans c.plan.new.self) c.plans.result.now c.in_ok-new.field-0.job.plans
           c.in_ok-plan.ensures.lines (c.plans.ensures ∙ sym (ap (λ (j : JobView). j.plans) c.in_ok-new.ensures.job));
     })
+
+pub returns-clause-kicked : goal.returns-clause-kicked
+returns-clause-kicked g c =
+    ap (λ (x : Course). is_kicked x.pass.phase) c.in_ok-course.ensures.ok ∙ c.in_ok-new.ensures.kicks

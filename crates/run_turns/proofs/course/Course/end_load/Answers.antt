@@ -61,14 +61,15 @@ returns-in-Here c = λ can.
       noted = c.take_in.ensures.noted;
       places = c.take_in.ensures.places;
       sealing = c.take_in.ensures.sealing;
+      kicks = c.take_in.ensures.kicks;
     })
     (can_take x (past_of s) can.told can.told can.spare s.driver s.machine c.mode-before.result e stands f.made
     (c.mode-before.ensures ∙ sym (ap (mode_of s.machine) f.by)) f.place (ap is_reclaimer f.by)) in
     let keeps = back_keeps x new (past_of s) can.told can.spare s.driver s.machine c.mode-before.result e c.args.cpu f.frame stands f.made
-    took f.by f.acts (back_done s can.told c.args.cpu c.args.page x.driver x.machine e f) f.low f.opened can.keeps.none can.keeps.room in
+    took f.by f.acts (back_done s can.told c.args.cpu c.args.page x.driver x.machine e f) f.low f.opened can.keeps.clear can.keeps.room in
     let past = took_past x new (past_of s) can.told c.mode-before.result e refl took in (
       load_ends_here new (past_of s) e f.frame past f.acts (back_done s can.told c.args.cpu c.args.page x.driver x.machine e f),
-      grows_one s new c.args.cpu e can.told can.spare f.by past took.job keeps,
+      grows_one s new c.args.cpu e can.told can.spare f.by past took.job took.kicks keeps,
     ))
 
 pub mode-between-requires : goal.mode-between-requires
@@ -99,6 +100,7 @@ take_in-requires-in-Bus-2 c =
       noted = c.take_in-in-Bus.ensures.noted;
       places = c.take_in-in-Bus.ensures.places;
       sealing = c.take_in-in-Bus.ensures.sealing;
+      kicks = c.take_in-in-Bus.ensures.kicks;
     }) in
     subst (CanTake new c.mode-between.result) (sym c.bus-told.ensures)
     (second_can s new k.told k.spare c.args.cpu c.args.page c.finish.new.driver c.finish.new.machine c.mode-before.result
@@ -126,6 +128,7 @@ returns-in-Bus c = λ can.
       noted = c.take_in-in-Bus.ensures.noted;
       places = c.take_in-in-Bus.ensures.places;
       sealing = c.take_in-in-Bus.ensures.sealing;
+      kicks = c.take_in-in-Bus.ensures.kicks;
     }) in
     let stands = first_stands s new can.told can.spare c.args.cpu c.args.page c.finish.new.driver c.finish.new.machine
     c.mode-before.result e c.in-Bus.why can.keeps f took in
@@ -141,6 +144,7 @@ returns-in-Bus c = λ can.
       noted = c.take_in-in-Bus-2.ensures.noted;
       places = c.take_in-in-Bus-2.ensures.places;
       sealing = c.take_in-in-Bus-2.ensures.sealing;
+      kicks = c.take_in-in-Bus-2.ensures.kicks;
     }) in
     let second = took_in new last c.mode-between.result (bus_of c.args.cpu c.args.page c.in-Bus.why) takes
     (second_can s new can.told can.spare c.args.cpu c.args.page c.finish.new.driver c.finish.new.machine c.mode-before.result

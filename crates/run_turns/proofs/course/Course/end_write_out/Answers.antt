@@ -1,10 +1,11 @@
-use Rattle.std.proofs.Common.{subst, sym}
+use Rattle.std.proofs.Common.{subst, sym, ap, ◌∙◌}
+use Rattle.reclaim_worker.specs.inner.Standing.{is_kicked}
 use Rattle.turn_rules.specs.Machines.{machine_of}
 use Rattle.run_turns.specs.inner.Courses.{past_of}
 use Rattle.paging_machine.specs.inner.Parts.{state_of}
 use Rattle.run_turns.specs.inner.Turns.{EndsOut}
 use Rattle.run_turns.proofs.CallLaws.{stored_tells, stored_writes}
-use Rattle.run_turns.proofs.EndTurnLaws.{course_open, end_is_own, one_out}
+use Rattle.run_turns.proofs.EndTurnLaws.{course_open, end_is_own, kicks_behind, one_out}
 use Rattle.run_turns.proofs.course.Course.end_write_out.Goals as goal
 
 pub stored-entry-requires-clause-started : goal.stored-entry-requires-clause-started
@@ -49,7 +50,15 @@ returns-clause-grows g c =
           e.says e.phase e.taken e.used (e.shape made past k.book.agrees.follows)
           (e.fits made past k.book.agrees.follows k.book.agrees.fits) e.cpus;
     }) in
-    record { entries = grows.entries; count = grows.count; actors = grows.actors; past = grows.past; job = grows.job; keeps = grows.keeps }
+    record {
+      entries = grows.entries;
+      count = grows.count;
+      actors = grows.actors;
+      past = grows.past;
+      job = grows.job;
+      kicks = tt;
+      keeps = grows.keeps;
+    }
 
 pub returns-clause-ends : goal.returns-clause-ends
 returns-clause-ends g c =
@@ -65,3 +74,8 @@ returns-clause-tells g c =
     (state_of c.stored-entry.new.machine) c.args.self.now.driver c.stored-entry.new.driver (g.S.Backing.told c.args.store.now)
     (g.S.Backing.told c.stored-entry.new.store) (g.S.Backing.faults c.args.store.now) (g.S.Backing.faults c.stored-entry.new.store)
     c.stored-entry.result c.stored-entry.ensures.says
+
+pub returns-clause-kicks : goal.returns-clause-kicks
+returns-clause-kicks g c =
+    c.take_own.ensures.kicks ∙ (ap is_kicked c.stored-entry.ensures.phase
+    ∙ kicks_behind c.args.self.now.pass.taken.items c.args.self.now.pass.phase c.requires.sealing)

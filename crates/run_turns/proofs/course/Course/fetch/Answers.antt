@@ -2,13 +2,18 @@ use Rattle.std.proofs.Common.{◌≡◌, false, reverse, ◌∷◌, ◌++◌, []
 use Rattle.fault_handler.specs.declared.answers.FaultAnswer.TheVariants as answers
 use Rattle.run_turns.specs.inner.Courses.{KeepsCourse}
 use Rattle.run_turns.proofs.LoadFetch.{again_keeps, again_same, again_waits_by, fetched_of, here_keeps, here_same, here_waits_by}
-use Rattle.run_turns.proofs.LoadFetch.{mid}
+use Rattle.run_turns.proofs.LoadFetch.{again_unlost, here_unlost, mid}
 use Rattle.run_turns.proofs.LoadFetch.{start_can, start_turns, told_takes, told_turns}
 use Rattle.run_turns.proofs.RecordLaws.{longer_apart, newest, none_started_by}
 use Rattle.driver_calls.specs.inner.Comes.{bus_of}
 use Rattle.driver_rules.specs.inner.Stops.{started}
 use Rattle.sgx_types.specs.declared.names.Actor.TheVariants as actors
 use Rattle.sgx_rules.specs.declared.entries.Entry.{Entry}
+use Rattle.driver_rules.specs.declared.waits.Why.TheVariants as waits
+use Rattle.run_turns.specs.inner.Courses.{past_of}
+use Rattle.run_turns.specs.inner.Turns.{IsNotLost, IsWaitBy}
+use Rattle.run_turns.proofs.KeepLaws.{same_self}
+use Rattle.run_turns.proofs.LoadCourse.{absent_waits}
 use Rattle.run_turns.proofs.SameLaws.{same_keeps}
 use Rattle.run_turns.proofs.course.Course.fetch.Goals as goal
 
@@ -75,7 +80,7 @@ returns-in-Here-clause-turn g c =
     c.in_ok-resolve.field-0 answers.Here c.requires.keeps c.requires.cpu c.requires.due
     (sym c.has_place.ensures ∙ c.if-not-has_place.false) c.mode-before.ensures c.reserve.ensures.items (omega (arith, room))
     c.in_ok-resolve.ensures.does c.resolve.ensures.cpus c.in-Here.is in
-    (here_waits_by f, here_same f c.reserve.ensures.capacity)
+    (here_waits_by f, here_unlost f, here_same f c.reserve.ensures.capacity)
 
 pub returns-in-Here-clause-keeps : goal.returns-in-Here-clause-keeps
 returns-in-Here-clause-keeps g c =
@@ -97,7 +102,7 @@ returns-in-Again-clause-turn g c =
     c.in_ok-resolve.field-0 (answers.Again c.in-Again.why) c.requires.keeps c.requires.cpu c.requires.due
     (sym c.has_place.ensures ∙ c.if-not-has_place.false) c.mode-before.ensures c.reserve.ensures.items (omega (arith, room))
     c.in_ok-resolve.ensures.does c.resolve.ensures.cpus c.in-Again.is in
-    (again_waits_by c.in-Again.why f, again_same c.in-Again.why f c.reserve.ensures.capacity)
+    (again_waits_by c.in-Again.why f, again_unlost c.in-Again.why f, again_same c.in-Again.why f c.reserve.ensures.capacity)
 
 pub returns-in-Again-clause-keeps : goal.returns-in-Again-clause-keeps
 returns-in-Again-clause-keeps g c =
@@ -136,6 +141,7 @@ returns-in-Bus-clause-turn g c =
             noted = c.take_in.ensures.noted;
             places = c.take_in.ensures.places;
             sealing = c.take_in.ensures.sealing;
+            kicks = c.take_in.ensures.kicks;
           }) c.resolve.ensures.spare,
     )
 
@@ -160,6 +166,7 @@ returns-in-Bus-clause-keeps g c =
       noted = c.take_in.ensures.noted;
       places = c.take_in.ensures.places;
       sealing = c.take_in.ensures.sealing;
+      kicks = c.take_in.ensures.kicks;
     }) c.resolve.ensures.spare).keeps
 
 pub returns-in-Started-clause-turn : goal.returns-in-Started-clause-turn
@@ -182,6 +189,7 @@ returns-in-Started-clause-turn g c =
       noted = c.take_in-in-Started.ensures.noted;
       places = c.take_in-in-Started.ensures.places;
       sealing = c.take_in-in-Started.ensures.sealing;
+      kicks = c.take_in-in-Started.ensures.kicks;
     }) c.resolve.ensures.spare in
     (both.0, inl both.1)
 
@@ -205,9 +213,25 @@ returns-in-Started-clause-keeps g c =
       noted = c.take_in-in-Started.ensures.noted;
       places = c.take_in-in-Started.ensures.places;
       sealing = c.take_in-in-Started.ensures.sealing;
+      kicks = c.take_in-in-Started.ensures.kicks;
     }) c.resolve.ensures.spare).1.keeps
 
 pub returns-in-Started-clause-calm : goal.returns-in-Started-clause-calm
 returns-in-Started-clause-calm g c = λ same.
     absurd (longer_apart c.args.self.now.entries.items c.take_in-in-Started.new.self.entries.items c.in-Started.entry
     (c.take_in-in-Started.ensures.kept ∙ ap (λ items. items ++ c.in-Started.entry ∷ []) c.reserve.ensures.items) same)
+
+pub returns-then-not-has_place-clause-turn : goal.returns-then-not-has_place-clause-turn
+returns-then-not-has_place-clause-turn g c =
+    let s = c.args.self.now in
+    let due = absent_waits s.job s.driver (past_of s) s.turns c.args.page _ c.requires.keeps.book.agrees.shows
+    c.requires.keeps.book.turns (sym c.has_place.ensures ∙ c.if-not-has_place.true) c.requires.due in (
+      subst (λ d. IsWaitBy d (waits.Busy c.args.page)) (sym due) refl,
+      subst (IsNotLost (g.S.Backing.told c.args.store.now)) (sym due) tt,
+      same_self s,
+    )
+
+pub returns-in-Bus-clause-calm : goal.returns-in-Bus-clause-calm
+returns-in-Bus-clause-calm g c = λ same.
+    absurd (longer_apart c.args.self.now.entries.items c.take_in.new.self.entries.items c.bus-entry.result
+    (c.take_in.ensures.kept ∙ ap (λ items. items ++ c.bus-entry.result ∷ []) c.reserve.ensures.items) same)

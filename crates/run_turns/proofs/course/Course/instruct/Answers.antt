@@ -9,6 +9,7 @@ use Rattle.run_turns.proofs.EndedLaws.{ends_told, none_fail}
 use Rattle.run_turns.proofs.InstructLaws.{none_started_of, acts, entered, lawful, notable, noted_by, plain_event}
 use Rattle.run_turns.proofs.KeepLaws.{grown_by_one, take_at}
 use Rattle.driver_rules.specs.inner.Stops.{started}
+use Rattle.run_turns.proofs.SpentLaws.{plain_draws, step_calm, used_calm}
 use Rattle.run_turns.proofs.RecordLaws.{newest, plain_is_none}
 use Rattle.run_turns.proofs.course.Course.instruct.Goals as goal
 
@@ -60,7 +61,17 @@ returns-clause-more c = λ can.
     })
     (subst (λ n. n ≤ can.spare) (sym c.take_in.ensures.places) can.keeps.places)
     (subst (λ k. KeepsArrays s.job k (e ∷ past_of s)) (sym (ap (λ (d : Driver). d.slots) c.take_in.ensures.driver)) noted.arrays)
-    (ends_told (past_of s) e quiet can.keeps.ends) (none_fail (past_of s) e quiet can.keeps.none) (omega (arith, room)) both.0)
+    (ends_told (past_of s) e quiet can.keeps.ends) 
+    (record {
+      none = none_fail (past_of s) e quiet can.keeps.clear.none;
+      spent = (
+        used_calm s.job (past_of s) e.event
+            (step_calm (state_of s.machine) (state_of c.apply.new.self) c.args.actor c.args.action.now e
+            (plain_draws c.args.action.now (lawful s c.args.actor c.args.action.now can).plain) c.in_ok-entry.ensures.step),
+        can.keeps.clear.spent,
+      );
+    }) (omega (arith, room)) both.0
+    c.take_in.ensures.kicks)
 
 pub returns-clause-quiet : goal.returns-clause-quiet
 returns-clause-quiet c = λ can.

@@ -4,6 +4,7 @@ use Rattle.turn_rules.specs.Machines.{machine_of}
 use Rattle.active_list.specs.inner.Active.{ActiveList}
 use Rattle.turn_tables.specs.inner.Holding.{KeepsHolds}
 use Rattle.turn_tables.proofs.FirstLaws.{counts_few}
+use Rattle.turn_tables.proofs.NoteLaws.{noted_shown}
 use Rattle.run_book.specs.inner.Books.{KeepsBook}
 use Rattle.run_book.proofs.BookLaws.{book_more}
 use Rattle.run_steps.proofs.EntryLaws.{can_hold, can_note}
@@ -34,5 +35,6 @@ returns-clause-book c = λ can.
     subst (λ (list : ActiveList). KeepsBook (machine_of s.job) s.job (c.args.entry.now ∷ past_of s) can.longer
     (record s.driver { active = list }) s.machine c.note.new.self) (sym c.hold.ensures.others)
     (book_more (machine_of s.job) s.job (past_of s) can.told can.longer can.d s.driver can.m s.machine s.turns c.note.new.self
-    c.args.entry.now c.hold.new.active.own can.tcs can.book can.made (c.note.ensures.right (past_of s) can.book.turns note)
+    c.args.entry.now c.hold.new.active.own can.tcs can.book can.made
+    (noted_shown s.job (past_of s) s.turns c.note.new.self c.args.before c.args.entry.now c.note.ensures can.book.turns note)
     (subst (λ past. KeepsHolds s.job c.hold.new.active.own (c.args.entry.now ∷ past)) hold.same (c.hold.ensures.holds hold.can))))

@@ -5,7 +5,7 @@ use Rattle.driver_rules.specs.Places.{place}
 use Rattle.turn_tables.specs.inner.Due.{due_in}
 use Rattle.run_turns.specs.declared.course.Course.{Course}
 use Rattle.run_turns.specs.inner.Courses.{IsSame, past_of}
-use Rattle.run_turns.specs.inner.Turns.{IsWaitBy}
+use Rattle.run_turns.specs.inner.Turns.{IsNotLost, IsWaitBy}
 use Rattle.run_turns.proofs.ReportLaws.{none_reports}
 use Rattle.run_turns.proofs.IdleLaws.{fetches_none, makes_none}
 use Rattle.run_turns.proofs.KeepLaws.{same_self}
@@ -39,7 +39,7 @@ pub unreachable-requires : goal.unreachable-requires
 unreachable-requires g c =
     let s = c.args.self.now in
     let k = c.requires.keeps.book in
-    none_reports s.job (past_of s) c.args.cpu.0 c.in-Reports.page c.in-Reports.why c.requires.keeps.none
+    none_reports s.job (past_of s) c.args.cpu.0 c.in-Reports.page c.in-Reports.why c.requires.keeps.clear.none
     (sym (c.cpu_due-due.ensures (machine_of s.job) (past_of s) k.agrees k.orderly k.turns) ∙ ap (due_in s.job (past_of s)) c.in-Reports.is)
 
 pub fetch-requires-clause-due : goal.fetch-requires-clause-due
@@ -72,6 +72,9 @@ returns-in-Waits-clause-turn g c =
       subst (λ due. IsWaitBy due c.in-Waits.why)
           (sym (ap (due_in s.job (past_of s)) c.in-Waits.is)
           ∙ c.cpu_due-due.ensures (machine_of s.job) (past_of s) k.agrees k.orderly k.turns) refl,
+      subst (IsNotLost (g.S.Backing.told c.args.store.now))
+          (sym (ap (due_in s.job (past_of s)) c.in-Waits.is)
+          ∙ c.cpu_due-due.ensures (machine_of s.job) (past_of s) k.agrees k.orderly k.turns) tt,
       same_self s,
     )
 
@@ -118,7 +121,10 @@ returns-in-Waits-clause-again g c = λ pending. (same_self c.args.self.now, refl
 
 pub returns-in-Ends-clause-again : goal.returns-in-Ends-clause-again
 returns-in-Ends-clause-again g c = λ pending.
-    (subst (λ (x : Course). IsSame c.args.self.now x) (sym c.open_again.ensures.same) (same_self c.args.self.now), c.open_again.ensures.store)
+    (
+      subst (λ (x : Course). IsSame c.args.self.now x) (sym c.open_again.ensures.same) (same_self c.args.self.now),
+      c.open_again.ensures.store,
+    )
 
 pub returns-in-Makes-clause-again : goal.returns-in-Makes-clause-again
 returns-in-Makes-clause-again g c = λ pending.
