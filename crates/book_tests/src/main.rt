@@ -1,6 +1,7 @@
 // Runs jobs by rounds of turns on one book each, over a store that does what the job plans, and prints their traces. A version may stand in
-// another slot than another program would take: the rules leave that open. So the names of slots are not printed. Behind `zeros` the work
-// between starts and their ends is done over zeros, and the trace is the same. Behind `ends` is only told how the run ended.
+// another slot than the reference program took, a plain, unverified program with the same command line: the rules leave that open. So the
+// names of slots are not printed. Behind `zeros` the work between starts and their ends is done over zeros, and the trace is the same.
+// Behind `ends` is only told how the run ended.
 #![tactic(auto)]
 
 mod texts;

@@ -1,4 +1,4 @@
-//! Traces that are audited, with their jobs. They are those of another program, which follows the same rules.
+//! Traces that are audited, with their jobs. The reference program made them.
 
 /// A job whose pages do not fit: eight pages of an enclave for seven frames.
 pub const RELOAD_JOB: &[u8] = b"epc 7\n\

@@ -1,4 +1,4 @@
-//! The first job cut to its first bytes, with how a run of it ends. What is given is that of another program.
+//! The first job cut to its first bytes, with how a run of it ends and what it gives, by the reference program.
 
 use crate::run_tests::{OUT, TRACE};
 use page_commands::status::Status;

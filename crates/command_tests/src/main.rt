@@ -1,5 +1,5 @@
-// Runs the jobs that are named, from files beside it, and prints how each ended and its output. Its file stdout is what another program
-// gave, which follows the same rules. Beside it the tests of the commands, over memory.
+// Runs the jobs that are named, from files beside it, and prints how each ended and its output. Its file stdout is what the reference
+// program gave: a plain, unverified program with the same command line. Beside it the tests of the commands, over memory.
 #![tactic(auto)]
 
 #[cfg(test)]

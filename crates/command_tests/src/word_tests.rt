@@ -15,7 +15,7 @@ use std::thread::Threads;
 
 const SUMMARY: &str = "pages 209\noperations 808\nloads 1955\nxadds 217\n";
 
-// Commands that read nothing and give no trace, and how the output of each begins. The sums are those of another program.
+// Commands that read nothing and give no trace, and how the output of each begins. The sums are the reference program's.
 const MADE: &[(&[&str], &str)] = &[
     (&["make", "1", "200"], "epc 128\nmarks 32 64 16\n"),
     (&["demo", "1", "200"], SUMMARY),

@@ -1,4 +1,4 @@
-//! Worked jobs, with the output and the trace of each. The digests are those of another program over the blocks.
+//! Worked jobs, with the output and the trace of each. The reference program computed the digests, over the blocks.
 
 /// A job, and what a run of it gives.
 pub struct Run {

@@ -1,4 +1,5 @@
-//! Runs, and what is told of their records. How many were put, given and opened is what another program counted.
+//! Runs, and what is told of their records. How many were put, given and opened is what the reference program counted. That is a plain,
+//! unverified program with the same command line.
 
 use crate::jobs::{Gifts, NEWEST, NO_ROOM, OLDER, Row, SHORT, text_of};
 use crate::records::records_of;

@@ -1,4 +1,4 @@
-//! Sealed pages, as another program seals them.
+//! Sealed pages, as the reference program seals them. That is a plain, unverified program with the same command line.
 
 ghost use Rattle.std.specs.Prelude.{◌≡◌};
 

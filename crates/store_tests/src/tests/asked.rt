@@ -1,4 +1,5 @@
-//! What is asked of a store under a plan, and what comes of it. The tables of it were made by another program.
+//! What is asked of a store under a plan, and what comes of it. The tables of it were made by the reference program. That is a
+//! plain, unverified program with the same command line.
 
 use io_edges::plans::PlanLine;
 use sgx_types::names::Page;
