@@ -1,3 +1,4 @@
 pub mod BareLaws
+pub mod FitLaws
 pub mod LineReads
 pub mod ReadLaws

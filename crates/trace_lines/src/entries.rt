@@ -1,97 +1,76 @@
 //! Entries that are read of their words.
 
 ghost use Rattle.std.specs.Prelude.{◌≡◌, IfOk, IfSome};
-ghost use Rattle.trace_text.specs.Readable.{FitsEvent, IsReadable, may_make};
-ghost use Rattle.trace_lines.specs.inner.Reading.{age_of, bus_of, done_of, entry_of, event_of, kick_of, refused_of, texts};
-ghost use Rattle.trace_lines.specs.inner.Reading.{words_of};
+ghost use Rattle.trace_lines.specs.inner.Reading.{Took, done_of, entry_of, event_of, kick_of, left, refused_of, texts, words_in};
+ghost use Rattle.trace_text.specs.Fields.{AllFit, event_fields};
+ghost use Rattle.trace_text.specs.Readable.{IsReadable, IsTold, may_make};
 
-use crate::answers::answer;
-use crate::instructions::action;
-use crate::refusals::refusal;
+use crate::cursor::{Cursor, page};
+use crate::operands::action;
+use crate::outcomes::{answer, refusal};
 use sgx_rules::entries::{Entry, Event};
-use sgx_types::names::{Actor, Memory, Page};
+use sgx_types::names::{Actor, Memory};
 use std::alloc::{AllocError, Global};
-use text_words::readers::small;
 use trace_words::names::{look, stop};
-use trace_words::words::{actor, cpu, enclave};
+use trace_words::words::{actor, cpu};
 
-#[tactic(auto, unfolding(crate::specs::inner::Reading::refused_of))]
-fn refused(words: &[&[u8]]) -> Option<Event>
-    ensures read { result ≡ refused_of (texts words.now) }
-    ensures fits { IfSome result FitsEvent }
+#[tactic(auto, using(crate::proofs::FitLaws::fit_both), unfolding(crate::specs::inner::Reading::refused_of))]
+fn refused(words: &mut Cursor) -> Option<Event>
+    ensures read { Took result (left words.new) (refused_of (left words.old)) }
+    ensures fits { IfSome result (λ event. AllFit (event_fields event)) }
+    ensures told { IfSome result IsTold }
 {
-    let (action, fields) = action(words)?;
-    let why = refusal(fields)?;
+    let name = words.next();
+    let action = action(name, words)?;
+    let why = refusal(words)?;
     Some(Event::Refused { action, why })
 }
 
-#[tactic(auto, unfolding(crate::specs::inner::Reading::done_of))]
-fn done(words: &[&[u8]]) -> Option<Event>
-    ensures read { result ≡ done_of (texts words.now) }
-    ensures fits { IfSome result FitsEvent }
+#[tactic(auto, using(crate::proofs::FitLaws::fit_both), unfolding(crate::specs::inner::Reading::done_of))]
+fn done(name: &[u8], words: &mut Cursor) -> Option<Event>
+    ensures read { Took result (left words.new) (done_of name.now (left words.old)) }
+    ensures fits { IfSome result (λ event. AllFit (event_fields event)) }
+    ensures told { IfSome result IsTold }
 {
-    let (action, fields) = action(words)?;
-    let answer = answer(&action, fields)?;
+    let action = action(name, words)?;
+    let answer = answer(&action, words);
     Some(Event::Did { action, answer })
 }
 
-#[tactic(auto, unfolding(crate::specs::inner::Reading::age_of))]
-fn age(words: &[&[u8]]) -> Option<Event>
-    ensures read { result ≡ age_of (texts words.now) }
-    ensures fits { IfSome result FitsEvent }
-{
-    let [enclave_word, number, look_word] = words else {
-        return None;
-    };
-    let page = Page {
-        enclave: enclave(enclave_word)?,
-        number: small(number)?,
-    };
-    let look = look(look_word)?;
-    Some(Event::Age { page, look })
-}
-
 #[tactic(auto, unfolding(crate::specs::inner::Reading::kick_of))]
-fn kick(words: &[&[u8]]) -> Option<Event>
-    ensures read { result ≡ kick_of (texts words.now) }
-    ensures fits { IfSome result FitsEvent }
+fn kick(words: &mut Cursor) -> Option<Event>
+    ensures read { Took result (left words.new) (kick_of (left words.old)) }
+    ensures fits { IfSome result (λ event. AllFit (event_fields event)) }
+    ensures told { IfSome result IsTold }
 {
-    let [word] = words else {
-        return None;
-    };
-    Some(Event::Kick { cpu: cpu(word)? })
-}
-
-#[tactic(auto, unfolding(crate::specs::inner::Reading::bus_of))]
-fn bus(words: &[&[u8]]) -> Option<Event>
-    ensures read { result ≡ bus_of (texts words.now) }
-    ensures fits { IfSome result FitsEvent }
-{
-    let [enclave_word, number, why_word] = words else {
-        return None;
-    };
-    let page = Page {
-        enclave: enclave(enclave_word)?,
-        number: small(number)?,
-    };
-    let why = stop(why_word)?;
-    Some(Event::Bus { page, why })
+    Some(Event::Kick {
+        cpu: cpu(words.next())?,
+    })
 }
 
 #[tactic(auto, unfolding(crate::specs::inner::Reading::event_of))]
-fn event(words: &[&[u8]]) -> Option<Event>
-    ensures read { result ≡ event_of (texts words.now) }
-    ensures fits { IfSome result FitsEvent }
+fn event(words: &mut Cursor) -> Option<Event>
+    ensures read { Took result (left words.new) (event_of (left words.old)) }
+    ensures fits { IfSome result (λ event. AllFit (event_fields event)) }
+    ensures told { IfSome result IsTold }
 {
-    let [first, rest @ ..] = words else {
-        return None;
-    };
-    match *first {
-        b"refused" => refused(rest),
-        b"age" => age(rest),
-        b"kick" => kick(rest),
-        b"bus" => bus(rest),
-        _ => done(words),
+    let name = words.next();
+    if name == b"refused".as_slice() {
+        refused(words)
+    } else if name == b"age".as_slice() {
+        Some(Event::Age {
+            page: page(words),
+            look: look(words.next()),
+        })
+    } else if name == b"kick".as_slice() {
+        kick(words)
+    } else if name == b"bus".as_slice() {
+        Some(Event::Bus {
+            page: page(words),
+            why: stop(words.next()),
+        })
+    } else {
+        done(name, words)
     }
 }
 
@@ -112,12 +91,10 @@ fn entry(words: &[&[u8]]) -> Option<Entry>
     ensures read { result ≡ entry_of (texts words.now) }
     ensures fits { IfSome result IsReadable }
 {
-    let [first, rest @ ..] = words else {
-        return None;
-    };
-    let actor = actor(first)?;
-    let event = event(rest)?;
-    if is_own(actor, event) {
+    let mut words = Cursor::new(words);
+    let actor = actor(words.next())?;
+    let event = event(&mut words)?;
+    if is_own(actor, event) && words.is_at_end() {
         Some(Entry { actor, event })
     } else {
         None
@@ -125,16 +102,16 @@ fn entry(words: &[&[u8]]) -> Option<Entry>
 }
 
 /// The words of a line. No entry has more than 15, so that more than 16 need not be looked at.
-#[tactic(auto, unfolding(crate::specs::inner::Reading::words_of))]
+#[tactic(auto, unfolding(crate::specs::inner::Reading::words_in))]
 fn line_words(alloc: Global, line: &[u8]) -> Result<Vec<&[u8]>, AllocError>
-    ensures { IfOk result (λ words. texts words.items ≡ words_of line.now) }
+    ensures { IfOk result (λ words. texts words.items ≡ words_in line.now) }
 {
     line.split(|byte| *byte == b' ').take(16).collect(alloc)
 }
 
 /// The entry that the words of a line tell, in any spelling of their numbers.
 pub(crate) fn entry_in(alloc: Global, line: &[u8]) -> Result<Option<Entry>, Memory>
-    ensures read { IfOk result (λ read. read ≡ entry_of (words_of line.now)) }
+    ensures read { IfOk result (λ read. read ≡ entry_of (words_in line.now)) }
     ensures fits { IfOk result (λ read. IfSome read IsReadable) }
 {
     let words = line_words(alloc, line)?;

@@ -1,8 +1,8 @@
 // A line of a trace is read: exactly the line of a readable entry is read as that entry.
 #![tactic(auto)]
 
-mod answers;
+mod cursor;
 mod entries;
-mod instructions;
 pub mod lines;
-mod refusals;
+mod operands;
+mod outcomes;

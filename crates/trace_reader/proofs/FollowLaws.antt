@@ -8,7 +8,8 @@ use Rattle.sgx_types.specs.declared.names.Actor.{Actor}
 use Rattle.sgx_types.specs.declared.names.Actor.TheVariants as actors
 use Rattle.text_words.specs.Words.{Words}
 use Rattle.trace_text.specs.Readable.{AreReadable, IsReadable}
-use Rattle.trace_text.specs.TraceText.{actor_word, event_words, spelling}
+use Rattle.trace_text.specs.Fields.{event_fields, words_of}
+use Rattle.trace_text.specs.TraceText.{actor_word, spelling}
 use Rattle.trace_lines.proofs.LineReads.{same_entry}
 use Rattle.trace_reader.specs.declared.lines.Stage.{Stage}
 use Rattle.trace_reader.specs.declared.lines.Stage.TheVariants.{First, Entries, Ended}
@@ -31,7 +32,7 @@ begins-other (actors.Cpu p) words same = let f : true ≡ false = ap is-e (same 
 
 pub last-no_entry : (e : Entry) (count : ℕ) → last_line count ≡ spelling e → ⊥
 unfolding spelling
-last-no_entry e count same = begins-other e.actor (event_words e.event) (ap (take 1) same)
+last-no_entry e count same = begins-other e.actor (words_of (event_fields e.event)) (ap (take 1) same)
 
 -- ---- what a trace has behind some of its entries' lines
 

@@ -1,2 +1,4 @@
+pub mod Names
+pub mod Fields
 pub mod TraceText
 pub mod Readable

@@ -1,8 +1,8 @@
 //! The words for the cases of an enum.
 
 ghost use Rattle.std.specs.Prelude.{◌≡◌, ◌≤◌, [], ◌∷◌, length};
-ghost use Rattle.trace_text.specs.TraceText.{access_word, cause_word, fault_word, kind_word, look_word, perms_word, refusal_name};
-ghost use Rattle.trace_text.specs.TraceText.{stop_word};
+ghost use Rattle.trace_text.specs.Names.{access_word, cause_word, fault_word, kind_word, look_word, perms_word, stop_word};
+ghost use Rattle.trace_text.specs.TraceText.{refusal_name};
 
 use crate::room::LONGEST_NAME;
 use sgx_rules::entries::{AccessOp, BusWhy, Cause, Look, PfWhy};

@@ -1,9 +1,8 @@
 //! The text of a trace.
 
 ghost use Rattle.std.specs.Prelude.{◌≡◌, ◌++◌, drop, reverse, IfOk};
-ghost use Rattle.trace_text.specs.TraceText.{actor_word, answer_words, entry_text, event_words, first_line, last_line};
-ghost use Rattle.trace_text.specs.TraceText.{refusal_words};
-ghost use Rattle.trace_text.specs.TraceText.{spelling, trace_of};
+ghost use Rattle.trace_text.specs.Fields.{answer_fields, event_fields, refusal_fields, words_of};
+ghost use Rattle.trace_text.specs.TraceText.{actor_word, entry_text, first_line, last_line, spelling, trace_of};
 ghost use Rattle.text_words.specs.inner.Room.{HasRoom, UsesRoom};
 ghost use Rattle.text_words.specs.inner.Words.{with_words};
 
@@ -89,10 +88,10 @@ fn write_actor(actor: &Actor, onto: &mut Vec<u8>)
 }
 
 // A function pays at its entry for the lists of words of all its arms, so each arm with a list of them is one of its own.
-#[tactic(auto, using(text_words::proofs::LineLaws::with_words_append))]
+#[tactic(auto, using(text_words::proofs::LineLaws::with_words_append, crate::proofs::FieldLaws::words_append))]
 fn write_event(event: &Event, onto: &mut Vec<u8>)
     requires { HasRoom EVENT_ROOM onto.old }
-    ensures text { onto.new.items ≡ with_words onto.old.items (event_words event.now) }
+    ensures text { onto.new.items ≡ with_words onto.old.items (words_of (event_fields event.now)) }
     ensures room { UsesRoom EVENT_ROOM onto.old onto.new }
 {
     match event {
@@ -107,10 +106,10 @@ fn write_event(event: &Event, onto: &mut Vec<u8>)
     }
 }
 
-#[tactic(auto, using(text_words::proofs::LineLaws::with_words_append))]
+#[tactic(auto, using(text_words::proofs::LineLaws::with_words_append, crate::proofs::FieldLaws::words_append))]
 fn write_refused(action: &Action, why: &Refusal, onto: &mut Vec<u8>)
     requires { HasRoom EVENT_ROOM onto.old }
-    ensures text { onto.new.items ≡ with_words onto.old.items (event_words (Event.Refused action.now why.now)) }
+    ensures text { onto.new.items ≡ with_words onto.old.items (words_of (event_fields (Event.Refused action.now why.now))) }
     ensures room { UsesRoom EVENT_ROOM onto.old onto.new }
 {
     write_spaced(Name("refused"), onto);
@@ -120,7 +119,7 @@ fn write_refused(action: &Action, why: &Refusal, onto: &mut Vec<u8>)
 
 fn write_age(page: Page, look: Look, onto: &mut Vec<u8>)
     requires { HasRoom EVENT_ROOM onto.old }
-    ensures text { onto.new.items ≡ with_words onto.old.items (event_words (Event.Age page look)) }
+    ensures text { onto.new.items ≡ with_words onto.old.items (words_of (event_fields (Event.Age page look))) }
     ensures room { UsesRoom EVENT_ROOM onto.old onto.new }
 {
     write_words(
@@ -136,7 +135,7 @@ fn write_age(page: Page, look: Look, onto: &mut Vec<u8>)
 
 fn write_kick(cpu: Cpu, onto: &mut Vec<u8>)
     requires { HasRoom EVENT_ROOM onto.old }
-    ensures text { onto.new.items ≡ with_words onto.old.items (event_words (Event.Kick cpu)) }
+    ensures text { onto.new.items ≡ with_words onto.old.items (words_of (event_fields (Event.Kick cpu))) }
     ensures room { UsesRoom EVENT_ROOM onto.old onto.new }
 {
     write_words(&[Name("kick"), Decimal(cpu.0.into())], onto);
@@ -144,7 +143,7 @@ fn write_kick(cpu: Cpu, onto: &mut Vec<u8>)
 
 fn write_bus(page: Page, why: BusWhy, onto: &mut Vec<u8>)
     requires { HasRoom EVENT_ROOM onto.old }
-    ensures text { onto.new.items ≡ with_words onto.old.items (event_words (Event.Bus page why)) }
+    ensures text { onto.new.items ≡ with_words onto.old.items (words_of (event_fields (Event.Bus page why))) }
     ensures room { UsesRoom EVENT_ROOM onto.old onto.new }
 {
     write_words(
@@ -160,7 +159,7 @@ fn write_bus(page: Page, why: BusWhy, onto: &mut Vec<u8>)
 
 fn write_answer(answer: &Answer, onto: &mut Vec<u8>)
     requires { HasRoom ANSWER_ROOM onto.old }
-    ensures text { onto.new.items ≡ with_words onto.old.items (answer_words answer.now) }
+    ensures text { onto.new.items ≡ with_words onto.old.items (words_of (answer_fields answer.now)) }
     ensures room { UsesRoom ANSWER_ROOM onto.old onto.new }
 {
     match *answer {
@@ -176,7 +175,7 @@ fn write_answer(answer: &Answer, onto: &mut Vec<u8>)
 
 fn write_hash(digest: [u8; 32], onto: &mut Vec<u8>)
     requires { HasRoom ANSWER_ROOM onto.old }
-    ensures text { onto.new.items ≡ with_words onto.old.items (answer_words (Answer.Hash digest)) }
+    ensures text { onto.new.items ≡ with_words onto.old.items (words_of (answer_fields (Answer.Hash digest))) }
     ensures room { UsesRoom ANSWER_ROOM onto.old onto.new }
 {
     write_words(&[Digest(digest)], onto);
@@ -184,7 +183,7 @@ fn write_hash(digest: [u8; 32], onto: &mut Vec<u8>)
 
 fn write_moved(page: Page, version: u64, tag: [u8; 32], onto: &mut Vec<u8>)
     requires { HasRoom ANSWER_ROOM onto.old }
-    ensures text { onto.new.items ≡ with_words onto.old.items (answer_words (Answer.Moved page version tag)) }
+    ensures text { onto.new.items ≡ with_words onto.old.items (words_of (answer_fields (Answer.Moved page version tag))) }
     ensures room { UsesRoom ANSWER_ROOM onto.old onto.new }
 {
     write_words(
@@ -202,7 +201,7 @@ fn write_moved(page: Page, version: u64, tag: [u8; 32], onto: &mut Vec<u8>)
 #[tactic(auto, using(text_words::proofs::LineLaws::with_words_named))]
 fn write_refusal(refusal: &Refusal, onto: &mut Vec<u8>)
     requires { HasRoom ANSWER_ROOM onto.old }
-    ensures text { onto.new.items ≡ with_words onto.old.items (refusal_words refusal.now) }
+    ensures text { onto.new.items ≡ with_words onto.old.items (words_of (refusal_fields refusal.now)) }
     ensures room { UsesRoom ANSWER_ROOM onto.old onto.new }
 {
     write_words(&[Name(refusal_name(refusal))], onto);
@@ -211,7 +210,7 @@ fn write_refusal(refusal: &Refusal, onto: &mut Vec<u8>)
 
 fn write_refusal_fields(refusal: &Refusal, onto: &mut Vec<u8>)
     requires { HasRoom 250 onto.old }
-    ensures text { onto.new.items ≡ with_words onto.old.items (drop 1 (refusal_words refusal.now)) }
+    ensures text { onto.new.items ≡ with_words onto.old.items (drop 1 (words_of (refusal_fields refusal.now))) }
     ensures room { UsesRoom 250 onto.old onto.new }
 {
     match *refusal {

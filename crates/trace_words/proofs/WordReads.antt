@@ -1,6 +1,6 @@
 -- A word that is printed is a word, and is read again as what it was printed of.
-use Rattle.std.proofs.Common.{◌≡◌, ℕ, ◌+◌, ◌*◌, ◌^◌, ◌<◌, ◌≤◌, Bool, true, false, ltb, List, [], ◌∷◌}
-use Rattle.std.proofs.Common.{◌++◌, Option, Some, None, length, decimal, codes, bytes_eq, refl, ap, ◌∙◌, arith, lit≤, inl, inr}
+use Rattle.std.proofs.Common.{◌≡◌, ℕ, ◌*◌, ◌^◌, ◌<◌, ◌≤◌, Bool, true, false, ltb, List, [], ◌∷◌}
+use Rattle.std.proofs.Common.{Some, None, length, decimal, codes, bytes_eq, refl, ap, ◌∙◌, arith, lit≤, inl, inr}
 use Rattle.std.proofs.Common.{◌⊎◌}
 use Rattle.std.specs.List.{list_all}
 use Rattle.std.proofs.lemmas.Bool.{lt-ltb, le-leb, lt-leb, cases_lt, false_from_ne_true, and_from, and_parts}
@@ -26,33 +26,45 @@ use Rattle.sgx_rules.specs.declared.entries.BusWhy.TheVariants as stops
 use Rattle.sgx_types.specs.declared.names.Kind.{Kind}
 use Rattle.sgx_types.specs.declared.names.Kind.TheVariants as kinds
 use Rattle.sgx_types.specs.declared.names.Perm.{Perm}
-use Rattle.sgx_types.specs.declared.names.Cpu.{Cpu}
-use Rattle.text_words.specs.Words.{digest_word, enclave_word, letter}
+use Rattle.text_words.specs.Words.{digest_word, enclave_word, hexadecimal, letter}
 use Rattle.text_words.specs.Reading.{letter_of}
-use Rattle.text_words.proofs.Numerals.{number_of-decimal}
+use Rattle.text_words.proofs.Numerals.{number_of-decimal, number_of-hexadecimal}
 use Rattle.text_words.proofs.Splits.{is_word}
-use Rattle.text_words.proofs.WordLaws.{decimal-is_word, digest-is_word, digest_of-encode_lower, letter-is_word, letter_of-letter}
+use Rattle.text_words.proofs.WordLaws.{decimal-is_word, digest_of-encode_lower, letter-is_word, letter_of-letter}
 use Rattle.text_words.proofs.WordLaws.{small_of-decimal}
-use Rattle.trace_text.specs.TraceText.{access_word, actor_word, cause_word, expect_word, fault_word, kind_word, look_word}
-use Rattle.trace_text.specs.TraceText.{perms_word}
-use Rattle.trace_text.specs.TraceText.{stop_word}
-use Rattle.trace_text.specs.Readable.{FitsActor, FitsExpect}
-use Rattle.trace_words.specs.inner.Names.{access_of, cause_of, fault_of, kind_of, look_of, perm_of, stop_of}
-use Rattle.trace_words.specs.inner.Reading.{actor_of, byte_of, cpu_of, enclave_of, expect_of, frame_of, short_of}
+use Rattle.trace_text.specs.Fields.{Fits, digest}
+use Rattle.trace_text.specs.Names.{access_word, cause_word, fault_word, kind_word, look_word, perms_word, stop_word}
+use Rattle.trace_text.specs.TraceText.{actor_word}
+use Rattle.trace_text.specs.Readable.{FitsActor}
+use Rattle.trace_words.specs.inner.Names.{access_in, cause_in, fault_in, kind_in, look_in, perm_in, stop_in}
+use Rattle.trace_words.specs.inner.Reading.{actor_of, byte_in, cpu_of, enclave_in, expect_in, frame_in, number_in, short_in, small_in}
+use Rattle.trace_words.specs.inner.Reading.{tag_in}
 
 -- ---- read again
 
-pub short-read : (n : ℕ) → n < 2 ^ 16 → short_of (decimal n) ≡ Some n
-unfolding short_of
-short-read n lt = rw (number_of-decimal n (omega arith), lt-ltb n (2 ^ 16) lt) refl
+pub number-read : (n : ℕ) → n < 2 ^ 64 → number_in (decimal n) ≡ n
+unfolding number_in
+number-read n lt = rw (number_of-decimal n lt) refl
 
-pub byte-read : (n : ℕ) → n < 2 ^ 8 → byte_of (decimal n) ≡ Some n
-unfolding byte_of
-byte-read n lt = rw (number_of-decimal n (omega arith), lt-ltb n (2 ^ 8) lt) refl
+pub address-read : (n : ℕ) → n < 2 ^ 64 → number_in (hexadecimal n) ≡ n
+unfolding number_in
+address-read n lt = rw (number_of-hexadecimal n lt) refl
 
-pub frame-read : (n : ℕ) → n < 2 ^ 32 → frame_of (decimal n) ≡ Some (record { 0 = n })
-unfolding frame_of
-frame-read n lt = rw (small_of-decimal n lt) refl
+pub small-read : (n : ℕ) → n < 2 ^ 32 → small_in (decimal n) ≡ n
+unfolding small_in
+small-read n lt = rw (small_of-decimal n lt) refl
+
+pub short-read : (n : ℕ) → n < 2 ^ 16 → short_in (decimal n) ≡ n
+unfolding short_in
+short-read n lt = rw (number-read n (omega arith), lt-ltb n (2 ^ 16) lt) refl
+
+pub byte-read : (n : ℕ) → n < 2 ^ 8 → byte_in (decimal n) ≡ n
+unfolding byte_in
+byte-read n lt = rw (number-read n (omega arith), lt-ltb n (2 ^ 8) lt) refl
+
+pub frame-read : (n : ℕ) → n < 2 ^ 32 → frame_in (decimal n) ≡ record { 0 = n }
+unfolding frame_in
+frame-read n lt = rw (small-read n lt) refl
 
 pub cpu-read : (n : ℕ) → n < 16 → cpu_of (decimal n) ≡ Some (record { 0 = n })
 unfolding cpu_of
@@ -65,34 +77,41 @@ digits-no-letter [] all = refl
 digits-no-letter (c ∷ []) all = let low : digit_value c < 10 = all.0 in grind (arith, nat_tests, low)
 digits-no-letter (c ∷ d ∷ ds) all = refl
 
-enclave-digits : (enclave : ℕ) → enclave < 2 ^ 16 → enclave_of (decimal enclave) ≡ Some enclave
-unfolding enclave_of
+enclave-digits : (enclave : ℕ) → enclave < 2 ^ 16 → enclave_in (decimal enclave) ≡ enclave
+unfolding enclave_in
 enclave-digits enclave lt =
     let numeral = digits_is_IsNumeral 10 false (lit≤ tt) (lit≤ tt) enclave (omega arith) in
     rw (digits-no-letter (decimal enclave) numeral.0.1, short-read enclave lt) refl
 
-enclave-letter : (enclave : ℕ) → 1 ≤ enclave → enclave ≤ 8 → enclave_of (letter enclave) ≡ Some enclave
-unfolding enclave_of
+enclave-letter : (enclave : ℕ) → 1 ≤ enclave → enclave ≤ 8 → enclave_in (letter enclave) ≡ enclave
+unfolding enclave_in
 enclave-letter enclave low high = rw (letter_of-letter enclave (low, high)) refl
 
-pub enclave-read : (enclave : ℕ) → enclave < 2 ^ 16 → enclave_of (enclave_word enclave) ≡ Some enclave
+pub enclave-read : (enclave : ℕ) → enclave < 2 ^ 16 → enclave_in (enclave_word enclave) ≡ enclave
 enclave-read enclave lt = by_range (cases_lt enclave 1) (cases_lt 8 enclave)
   where
-    by_range : (enclave < 1) ⊎ (1 ≤ enclave) → (8 < enclave) ⊎ (enclave ≤ 8) → enclave_of (enclave_word enclave) ≡ Some enclave
+    by_range : (enclave < 1) ⊎ (1 ≤ enclave) → (8 < enclave) ⊎ (enclave ≤ 8) → enclave_in (enclave_word enclave) ≡ enclave
     by_range (inr low) (inr high) = rw (le-leb 1 enclave low, le-leb enclave 8 high) (enclave-letter enclave low high)
     by_range (inl low) high = rw (lt-leb 1 enclave low) (enclave-digits enclave lt)
     by_range (inr low) (inl high) = rw (le-leb 1 enclave low, lt-leb enclave 8 high) (enclave-digits enclave lt)
 
-pub expect-read : (expect : Option (List ℕ)) → FitsExpect expect → expect_of (expect_word expect) ≡ Some expect
-unfolding expect_of
-expect-read None fits = refl
-expect-read (Some digest) fits =
-    let other : bytes_eq (digest_word digest) (codes "-") ≡ false = false_from_ne_true _ (λ e.
-    let same : digest_word digest ≡ codes "-" = (bytes_eq-Decides (digest_word digest) (codes "-")).0 e in
-    let two : length (digest_word digest) ≡ 64 = length-encode_with lower_digits digest ∙ ap (λ (n : ℕ). 2 * n) fits.sized in
-    let one : length (digest_word digest) ≡ 1 = ap length same in
+pub tag-read : (bytes : List ℕ) → Fits (digest bytes) → tag_in (digest_word bytes) ≡ bytes
+unfolding tag_in
+tag-read bytes fits = rw (digest_of-encode_lower bytes fits) refl
+
+pub dash-read : expect_in (codes "-") ≡ None
+unfolding expect_in
+dash-read = refl
+
+pub expect-read : (bytes : List ℕ) → Fits (digest bytes) → expect_in (digest_word bytes) ≡ Some bytes
+unfolding expect_in
+expect-read bytes fits =
+    let other : bytes_eq (digest_word bytes) (codes "-") ≡ false = false_from_ne_true _ (λ e.
+    let same : digest_word bytes ≡ codes "-" = (bytes_eq-Decides (digest_word bytes) (codes "-")).0 e in
+    let two : length (digest_word bytes) ≡ 64 = length-encode_with lower_digits bytes ∙ ap (λ (n : ℕ). 2 * n) fits.sized in
+    let one : length (digest_word bytes) ≡ 1 = ap length same in
     omega (arith, two, one)) in
-    rw (other, digest_of-encode_lower digest fits) refl
+    rw (other, tag-read bytes fits) refl
 
 pub actor-read : (actor : Actor) → FitsActor actor → actor_of (actor_word actor) ≡ Some actor
 unfolding actor_of
@@ -100,52 +119,52 @@ actor-read actors.Builder fits = refl
 actor-read actors.Reclaimer fits = refl
 actor-read (actors.Cpu p) fits = rw (cpu-read p.0 fits) refl
 
-pub kind-read : (kind : Kind) → kind_of (kind_word kind) ≡ Some kind
-unfolding kind_of
+pub kind-read : (kind : Kind) → kind_in (kind_word kind) ≡ kind
+unfolding kind_in
 kind-read kinds.Secs = refl
 kind-read kinds.Tcs = refl
 kind-read kinds.Reg = refl
 kind-read kinds.Va = refl
 
-pub cause-read : (cause : Cause) → cause_of (cause_word cause) ≡ Some cause
-unfolding cause_of
+pub cause-read : (cause : Cause) → cause_in (cause_word cause) ≡ cause
+unfolding cause_in
 cause-read causes.Timer = refl
 cause-read causes.Fault = refl
 cause-read causes.Kick = refl
 cause-read causes.End = refl
 
-pub access-read : (access : AccessOp) → access_of (access_word access) ≡ Some access
-unfolding access_of
+pub access-read : (access : AccessOp) → access_in (access_word access) ≡ access
+unfolding access_in
 access-read accesses.Load = refl
 access-read accesses.Store = refl
 access-read accesses.Xadd = refl
 
-pub fault-read : (fault : PfWhy) → fault_of (fault_word fault) ≡ Some fault
-unfolding fault_of
+pub fault-read : (fault : PfWhy) → fault_in (fault_word fault) ≡ fault
+unfolding fault_in
 fault-read faults.Absent = refl
 fault-read faults.WrongType = refl
 fault-read faults.NoPerm = refl
 
-pub look-read : (look : Look) → look_of (look_word look) ≡ Some look
-unfolding look_of
+pub look-read : (look : Look) → look_in (look_word look) ≡ look
+unfolding look_in
 look-read looks.Young = refl
 look-read looks.Held = refl
 look-read looks.NoRoom = refl
 look-read looks.Taken = refl
 
-pub stop-read : (stop : BusWhy) → stop_of (stop_word stop) ≡ Some stop
-unfolding stop_of
+pub stop-read : (stop : BusWhy) → stop_in (stop_word stop) ≡ stop
+unfolding stop_in
 stop-read stops.GetFailed = refl
 stop-read stops.NoRecord = refl
 stop-read stops.PutFailed = refl
 stop-read stops.Mac = refl
 stop-read stops.Header = refl
 
-pub perm-read : (perm : Perm) → perm_of (perms_word perm) ≡ Some perm
-unfolding perm_of
+pub perm-read : (perm : Perm) → perm_in (perms_word perm) ≡ perm
+unfolding perm_in
 perm-read perm = by_bits perm.r perm.w perm.x
   where
-    by_bits : (r w x : Bool) → let p : Perm = record { r = r; w = w; x = x } in perm_of (perms_word p) ≡ Some p
+    by_bits : (r w x : Bool) → let p : Perm = record { r = r; w = w; x = x } in perm_in (perms_word p) ≡ p
     by_bits true true true = refl
     by_bits true true false = refl
     by_bits true false true = refl
@@ -157,35 +176,19 @@ perm-read perm = by_bits perm.r perm.w perm.x
 
 -- ---- words
 
-pub small-is_word : (n : ℕ) → n < 2 ^ 32 → is_word (decimal n) ≡ true
-small-is_word n lt = decimal-is_word n (omega arith)
-
-pub short-is_word : (n : ℕ) → n < 2 ^ 16 → is_word (decimal n) ≡ true
-short-is_word n lt = decimal-is_word n (omega arith)
-
-pub byte-is_word : (n : ℕ) → n < 2 ^ 8 → is_word (decimal n) ≡ true
-byte-is_word n lt = decimal-is_word n (omega arith)
-
-pub cpu-is_word : (n : ℕ) → n < 16 → is_word (decimal n) ≡ true
-cpu-is_word n lt = decimal-is_word n (omega arith)
-
 pub enclave-is_word : (enclave : ℕ) → enclave < 2 ^ 16 → is_word (enclave_word enclave) ≡ true
 enclave-is_word enclave lt = by_range (cases_lt enclave 1) (cases_lt 8 enclave)
   where
     by_range : (enclave < 1) ⊎ (1 ≤ enclave) → (8 < enclave) ⊎ (enclave ≤ 8) → is_word (enclave_word enclave) ≡ true
     by_range (inr low) (inr high) = rw (le-leb 1 enclave low, le-leb enclave 8 high) (letter-is_word enclave)
-    by_range (inl low) high = rw (lt-leb 1 enclave low) (short-is_word enclave lt)
-    by_range (inr low) (inl high) = rw (le-leb 1 enclave low, lt-leb enclave 8 high) (short-is_word enclave lt)
-
-pub expect-is_word : (expect : Option (List ℕ)) → FitsExpect expect → is_word (expect_word expect) ≡ true
-expect-is_word None fits = refl
-expect-is_word (Some digest) fits = digest-is_word digest fits
+    by_range (inl low) high = rw (lt-leb 1 enclave low) (decimal-is_word enclave (omega arith))
+    by_range (inr low) (inl high) = rw (le-leb 1 enclave low, lt-leb enclave 8 high) (decimal-is_word enclave (omega arith))
 
 pub actor-is_word : (actor : Actor) → FitsActor actor → is_word (actor_word actor) ≡ true
 actor-is_word actors.Builder fits = refl
 actor-is_word actors.Reclaimer fits = refl
 actor-is_word (actors.Cpu p) fits =
-    let parts = and_parts (ltb 0 (length (decimal p.0))) (list_all (ltb 32) (decimal p.0)) (cpu-is_word p.0 fits) in
+    let parts = and_parts (ltb 0 (length (decimal p.0))) (list_all (ltb 32) (decimal p.0)) (decimal-is_word p.0 (omega arith)) in
     and_from _ _ (lt-ltb 0 (length (actor_word (actors.Cpu p))) (omega arith)) parts.1
 
 pub kind-is_word : (kind : Kind) → is_word (kind_word kind) ≡ true

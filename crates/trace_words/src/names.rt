@@ -1,8 +1,8 @@
-//! Names that are read.
+//! Names that are read. A word that is none of a kind of names is read as one of them: who prints again what was read sees that the
+//! word was another.
 
 ghost use Rattle.std.specs.Prelude.{◌≡◌};
-ghost use Rattle.trace_words.specs.inner.Names.{access_of, bare_of, cause_of, fault_of, kind_of, look_of, perm_of, row_of};
-ghost use Rattle.trace_words.specs.inner.Names.{stop_of};
+ghost use Rattle.trace_words.specs.inner.Names.{access_in, bare_of, cause_in, fault_in, kind_in, look_in, perm_in, row_of, stop_in};
 
 use sgx_rules::entries::{AccessOp, BusWhy, Cause, Look, PfWhy};
 use sgx_rules::refusals::Refusal;
@@ -79,11 +79,11 @@ const KINDS: &[(&[u8], Kind)] = &[
     (b"va", Kind::Va),
 ];
 
-#[tactic(auto, unfolding(crate::specs::inner::Names::kind_of))]
-pub fn kind(word: &[u8]) -> Option<Kind>
-    ensures { result ≡ kind_of word.now }
+#[tactic(auto, unfolding(crate::specs::inner::Names::kind_in))]
+pub fn kind(word: &[u8]) -> Kind
+    ensures { result ≡ kind_in word.now }
 {
-    by_name(KINDS, word)
+    by_name(KINDS, word).unwrap_or(Kind::Reg)
 }
 
 // Whether R, W and X stand in permissions.
@@ -98,12 +98,12 @@ const PERMS: &[(&[u8], (bool, bool, bool))] = &[
     (b"rwx", (true, true, true)),
 ];
 
-#[tactic(auto, unfolding(crate::specs::inner::Names::perm_of))]
-pub fn perm(word: &[u8]) -> Option<Perm>
-    ensures { result ≡ perm_of word.now }
+#[tactic(auto, unfolding(crate::specs::inner::Names::perm_in))]
+pub fn perm(word: &[u8]) -> Perm
+    ensures { result ≡ perm_in word.now }
 {
-    let (r, w, x) = by_name(PERMS, word)?;
-    Some(Perm { r, w, x })
+    let (r, w, x) = by_name(PERMS, word).unwrap_or((false, false, false));
+    Perm { r, w, x }
 }
 
 const CAUSES: &[(&[u8], Cause)] = &[
@@ -113,11 +113,11 @@ const CAUSES: &[(&[u8], Cause)] = &[
     (b"end", Cause::End),
 ];
 
-#[tactic(auto, unfolding(crate::specs::inner::Names::cause_of))]
-pub fn cause(word: &[u8]) -> Option<Cause>
-    ensures { result ≡ cause_of word.now }
+#[tactic(auto, unfolding(crate::specs::inner::Names::cause_in))]
+pub fn cause(word: &[u8]) -> Cause
+    ensures { result ≡ cause_in word.now }
 {
-    by_name(CAUSES, word)
+    by_name(CAUSES, word).unwrap_or(Cause::Timer)
 }
 
 const ACCESSES: &[(&[u8], AccessOp)] = &[
@@ -126,11 +126,11 @@ const ACCESSES: &[(&[u8], AccessOp)] = &[
     (b"xadd", AccessOp::Xadd),
 ];
 
-#[tactic(auto, unfolding(crate::specs::inner::Names::access_of))]
-pub fn access(word: &[u8]) -> Option<AccessOp>
-    ensures { result ≡ access_of word.now }
+#[tactic(auto, unfolding(crate::specs::inner::Names::access_in))]
+pub fn access(word: &[u8]) -> AccessOp
+    ensures { result ≡ access_in word.now }
 {
-    by_name(ACCESSES, word)
+    by_name(ACCESSES, word).unwrap_or(AccessOp::Load)
 }
 
 const FAULTS: &[(&[u8], PfWhy)] = &[
@@ -139,11 +139,11 @@ const FAULTS: &[(&[u8], PfWhy)] = &[
     (b"perm", PfWhy::NoPerm),
 ];
 
-#[tactic(auto, unfolding(crate::specs::inner::Names::fault_of))]
-pub fn fault(word: &[u8]) -> Option<PfWhy>
-    ensures { result ≡ fault_of word.now }
+#[tactic(auto, unfolding(crate::specs::inner::Names::fault_in))]
+pub fn fault(word: &[u8]) -> PfWhy
+    ensures { result ≡ fault_in word.now }
 {
-    by_name(FAULTS, word)
+    by_name(FAULTS, word).unwrap_or(PfWhy::Absent)
 }
 
 const LOOKS: &[(&[u8], Look)] = &[
@@ -153,11 +153,11 @@ const LOOKS: &[(&[u8], Look)] = &[
     (b"taken", Look::Taken),
 ];
 
-#[tactic(auto, unfolding(crate::specs::inner::Names::look_of))]
-pub fn look(word: &[u8]) -> Option<Look>
-    ensures { result ≡ look_of word.now }
+#[tactic(auto, unfolding(crate::specs::inner::Names::look_in))]
+pub fn look(word: &[u8]) -> Look
+    ensures { result ≡ look_in word.now }
 {
-    by_name(LOOKS, word)
+    by_name(LOOKS, word).unwrap_or(Look::Young)
 }
 
 const STOPS: &[(&[u8], BusWhy)] = &[
@@ -168,11 +168,11 @@ const STOPS: &[(&[u8], BusWhy)] = &[
     (b"header", BusWhy::Header),
 ];
 
-#[tactic(auto, unfolding(crate::specs::inner::Names::stop_of))]
-pub fn stop(word: &[u8]) -> Option<BusWhy>
-    ensures { result ≡ stop_of word.now }
+#[tactic(auto, unfolding(crate::specs::inner::Names::stop_in))]
+pub fn stop(word: &[u8]) -> BusWhy
+    ensures { result ≡ stop_in word.now }
 {
-    by_name(STOPS, word)
+    by_name(STOPS, word).unwrap_or(BusWhy::GetFailed)
 }
 
 const BARE_REFUSALS: &[(&[u8], Refusal)] = &[

@@ -1,46 +1,64 @@
-//! Words that are read, in any spelling of their numbers.
+//! Words that are read, in any spelling of their numbers. A word that tells none is read as 0: who prints again what was read sees
+//! that the word was another.
 
 ghost use Rattle.std.specs.Prelude.{◌≡◌, IfSome};
 ghost use Rattle.sgx_types.specs.Digests.{IsDigest};
-ghost use Rattle.text_words.specs.Reading.{digest_of};
-ghost use Rattle.trace_text.specs.Readable.{FitsActor, FitsExpect};
-ghost use Rattle.trace_words.specs.inner.Reading.{actor_of, byte_of, cpu_of, enclave_of, expect_of, frame_of, short_of};
+ghost use Rattle.trace_text.specs.Fields.{Fits, expect_field};
+ghost use Rattle.trace_text.specs.Readable.{FitsActor};
+ghost use Rattle.trace_words.specs.inner.Reading.{actor_of, byte_in, cpu_of, enclave_in, expect_in, frame_in, number_in, short_in};
+ghost use Rattle.trace_words.specs.inner.Reading.{small_in, tag_in};
 
 use sgx_types::names::{Actor, Cpu, Frame};
-use text_words::readers::{digest, letter, number, small};
+use text_words::readers;
 
-/// A number below 2^16.
-#[tactic(auto, unfolding(crate::specs::inner::Reading::short_of))]
-pub fn short(word: &[u8]) -> Option<u16>
-    ensures { result ≡ short_of word.now }
+/// A number of 64 bits.
+#[tactic(auto, unfolding(crate::specs::inner::Reading::number_in))]
+pub fn number(word: &[u8]) -> u64
+    ensures { result ≡ number_in word.now }
 {
-    u16::try_from(number(word)?).ok()
+    readers::number(word).unwrap_or(0)
 }
 
-/// A number below 2^8.
-#[tactic(auto, unfolding(crate::specs::inner::Reading::byte_of))]
-pub fn byte(word: &[u8]) -> Option<u8>
-    ensures { result ≡ byte_of word.now }
+/// A number of 32 bits.
+#[tactic(auto, unfolding(crate::specs::inner::Reading::small_in))]
+pub fn small(word: &[u8]) -> u32
+    ensures { result ≡ small_in word.now }
 {
-    u8::try_from(number(word)?).ok()
+    readers::small(word).unwrap_or(0)
+}
+
+/// A number of 16 bits.
+#[tactic(auto, unfolding(crate::specs::inner::Reading::short_in))]
+pub fn short(word: &[u8]) -> u16
+    ensures { result ≡ short_in word.now }
+{
+    u16::try_from(number(word)).unwrap_or(0)
+}
+
+/// A number of 8 bits.
+#[tactic(auto, unfolding(crate::specs::inner::Reading::byte_in))]
+pub fn byte(word: &[u8]) -> u8
+    ensures { result ≡ byte_in word.now }
+{
+    u8::try_from(number(word)).unwrap_or(0)
 }
 
 /// An enclave by its letter, or by its digits.
-#[tactic(auto, unfolding(crate::specs::inner::Reading::enclave_of))]
-pub fn enclave(word: &[u8]) -> Option<u16>
-    ensures { result ≡ enclave_of word.now }
+#[tactic(auto, unfolding(crate::specs::inner::Reading::enclave_in))]
+pub fn enclave(word: &[u8]) -> u16
+    ensures { result ≡ enclave_in word.now }
 {
-    match letter(word) {
-        Some(enclave) => Some(enclave),
+    match readers::letter(word) {
+        Some(enclave) => enclave,
         None => short(word),
     }
 }
 
-#[tactic(auto, unfolding(crate::specs::inner::Reading::frame_of))]
-pub fn frame(word: &[u8]) -> Option<Frame>
-    ensures { result ≡ frame_of word.now }
+#[tactic(auto, unfolding(crate::specs::inner::Reading::frame_in))]
+pub fn frame(word: &[u8]) -> Frame
+    ensures { result ≡ frame_in word.now }
 {
-    Some(Frame(small(word)?))
+    Frame(small(word))
 }
 
 /// A processor from 0 to 15.
@@ -49,7 +67,7 @@ pub fn cpu(word: &[u8]) -> Option<Cpu>
     ensures read { result ≡ cpu_of word.now }
     ensures fits { IfSome result (λ cpu. FitsActor (Actor.Cpu cpu)) }
 {
-    let number = number(word)?;
+    let number = readers::number(word)?;
     if number < 16 {
         Some(Cpu(number as u8))
     } else {
@@ -73,22 +91,25 @@ pub fn actor(word: &[u8]) -> Option<Actor>
 }
 
 /// A digest or a tag.
-#[tactic(auto, using(crate::proofs::DigestLaws::digest_fits))]
-pub fn tag(word: &[u8]) -> Option<[u8; 32]>
-    ensures read { result ≡ digest_of word.now }
-    ensures fits { IfSome result IsDigest }
+#[tactic(auto, using(crate::proofs::DigestLaws::zeros_fit), unfolding(crate::specs::inner::Reading::tag_in))]
+pub fn tag(word: &[u8]) -> [u8; 32]
+    ensures read { result ≡ tag_in word.now }
+    ensures fits { IsDigest result }
 {
-    digest(word)
+    match readers::digest(word) {
+        Some(digest) => digest,
+        None => [0; 32],
+    }
 }
 
 /// A digest that is expected, or a dash.
-#[tactic(auto, unfolding(crate::specs::inner::Reading::expect_of))]
-pub fn expect(word: &[u8]) -> Option<Option<[u8; 32]>>
-    ensures read { result ≡ expect_of word.now }
-    ensures fits { IfSome result FitsExpect }
+#[tactic(auto, unfolding(crate::specs::inner::Reading::expect_in))]
+pub fn expect(word: &[u8]) -> Option<[u8; 32]>
+    ensures read { result ≡ expect_in word.now }
+    ensures fits { Fits (expect_field result) }
 {
     match word {
-        b"-" => Some(None),
-        _ => Some(Some(tag(word)?)),
+        b"-" => None,
+        _ => Some(tag(word)),
     }
 }

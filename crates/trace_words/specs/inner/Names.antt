@@ -1,5 +1,5 @@
--- Names that are read: each kind of value by the word that the text has for it.
-use Rattle.std.specs.Prelude.{ℕ, Bool, true, false, List, [], ◌∷◌, Option, find, codes, bytes_eq}
+-- Names that are read: each kind of value by the word that the text has for it. Any other word is read as one of the kind.
+use Rattle.std.specs.Prelude.{ℕ, Bool, true, false, List, [], ◌∷◌, Option, find, codes, bytes_eq, unwrap_or}
 use Rattle.sgx_rules.specs.declared.entries.Cause.{Cause}
 use Rattle.sgx_rules.specs.declared.entries.Cause.TheVariants as causes
 use Rattle.sgx_rules.specs.declared.entries.AccessOp.{AccessOp}
@@ -16,12 +16,12 @@ use Rattle.sgx_types.specs.declared.names.Kind.{Kind}
 use Rattle.sgx_types.specs.declared.names.Kind.TheVariants as kinds
 use Rattle.sgx_types.specs.declared.names.Perm.{Perm}
 use Rattle.text_words.specs.Words.{Words}
-use Rattle.trace_text.specs.TraceText.{access_word, cause_word, fault_word, kind_word, look_word, perms_word, refusal_words}
-use Rattle.trace_text.specs.TraceText.{stop_word}
+use Rattle.trace_text.specs.Fields.{refusal_fields, words_of}
+use Rattle.trace_text.specs.Names.{access_word, cause_word, fault_word, kind_word, look_word, perms_word, stop_word}
 use Rattle.trace_words.specs.declared.names.Row.{Row}
 use Rattle.trace_words.specs.declared.names.Row.TheVariants as rows
 
--- the first of these values whose word it is
+-- the first of these values whose word it is, if any
 abbrev pub named : {A : Type 0} → (A → List ℕ) → List A → List ℕ → Option A
 named word_of values word = find (λ value. bytes_eq word (word_of value)) values
 
@@ -58,8 +58,11 @@ row_of word = named row_word
     ∷ rows.Xadd ∷ rows.Set ∷ rows.Plus ∷ rows.Pf ∷ rows.OutLoad ∷ rows.OutStore
     ∷ rows.Block ∷ rows.Track ∷ rows.EwbStart ∷ rows.Ewb ∷ rows.EldStart ∷ rows.Eld ∷ []) word
 
-unfoldable pub kind_of : List ℕ → Option Kind
-kind_of word = named kind_word (kinds.Secs ∷ kinds.Tcs ∷ kinds.Reg ∷ kinds.Va ∷ []) word
+unfoldable pub kind_in : List ℕ → Kind
+kind_in word = unwrap_or (named kind_word (kinds.Secs ∷ kinds.Tcs ∷ kinds.Reg ∷ kinds.Va ∷ []) word) kinds.Reg
+
+abbrev no_perm : Perm
+no_perm = record { r = false; w = false; x = false }
 
 abbrev perms : List Perm
 perms = perm false false false ∷ perm false false true ∷ perm false true false ∷ perm false true true
@@ -68,27 +71,28 @@ perms = perm false false false ∷ perm false false true ∷ perm false true fal
     perm : Bool → Bool → Bool → Perm
     perm r w x = record { r = r; w = w; x = x }
 
-unfoldable pub perm_of : List ℕ → Option Perm
-perm_of word = named perms_word perms word
+unfoldable pub perm_in : List ℕ → Perm
+perm_in word = unwrap_or (named perms_word perms word) no_perm
 
-unfoldable pub cause_of : List ℕ → Option Cause
-cause_of word = named cause_word (causes.Timer ∷ causes.Fault ∷ causes.Kick ∷ causes.End ∷ []) word
+unfoldable pub cause_in : List ℕ → Cause
+cause_in word = unwrap_or (named cause_word (causes.Timer ∷ causes.Fault ∷ causes.Kick ∷ causes.End ∷ []) word) causes.Timer
 
-unfoldable pub access_of : List ℕ → Option AccessOp
-access_of word = named access_word (accesses.Load ∷ accesses.Store ∷ accesses.Xadd ∷ []) word
+unfoldable pub access_in : List ℕ → AccessOp
+access_in word = unwrap_or (named access_word (accesses.Load ∷ accesses.Store ∷ accesses.Xadd ∷ []) word) accesses.Load
 
-unfoldable pub fault_of : List ℕ → Option PfWhy
-fault_of word = named fault_word (faults.Absent ∷ faults.WrongType ∷ faults.NoPerm ∷ []) word
+unfoldable pub fault_in : List ℕ → PfWhy
+fault_in word = unwrap_or (named fault_word (faults.Absent ∷ faults.WrongType ∷ faults.NoPerm ∷ []) word) faults.Absent
 
-unfoldable pub look_of : List ℕ → Option Look
-look_of word = named look_word (looks.Young ∷ looks.Held ∷ looks.NoRoom ∷ looks.Taken ∷ []) word
+unfoldable pub look_in : List ℕ → Look
+look_in word = unwrap_or (named look_word (looks.Young ∷ looks.Held ∷ looks.NoRoom ∷ looks.Taken ∷ []) word) looks.Young
 
-unfoldable pub stop_of : List ℕ → Option BusWhy
-stop_of word = named stop_word (stops.GetFailed ∷ stops.NoRecord ∷ stops.PutFailed ∷ stops.Mac ∷ stops.Header ∷ []) word
+unfoldable pub stop_in : List ℕ → BusWhy
+stop_in word =
+    unwrap_or (named stop_word (stops.GetFailed ∷ stops.NoRecord ∷ stops.PutFailed ∷ stops.Mac ∷ stops.Header ∷ []) word) stops.GetFailed
 
 -- the one word of a refusal that has no fields
 abbrev pub bare_word : Refusal → List ℕ
-bare_word refusal = first (refusal_words refusal)
+bare_word refusal = first (words_of (refusal_fields refusal))
   where
     first : Words → List ℕ
     first [] = []

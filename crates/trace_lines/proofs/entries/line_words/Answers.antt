@@ -2,12 +2,12 @@ use Rattle.std.proofs.Common.{eqb, rules, tests}
 use Rattle.std.proofs.lemmas.Iterator.{YieldsList-from_take}
 use Rattle.std.proofs.lemmas.Iterator.Consumers.{YieldsList-at, map_from_collect}
 use Rattle.std.proofs.lemmas.Iterator.Splits.{YieldsList-from_slice_split}
-use Rattle.trace_lines.specs.inner.Reading.{words_of}
+use Rattle.trace_lines.specs.inner.Reading.{words_in}
 use Rattle.trace_lines.proofs.entries.line_words.Goals as goal
 
 -- The first parts between spaces are collected.
 pub returns : goal.returns
-unfolding words_of
+unfolding words_in
 returns c =
     map_from_collect _ c.collect.ensures.ran
     (YieldsList-from_take 16
