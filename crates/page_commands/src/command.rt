@@ -185,11 +185,11 @@ pub fn sgxpage<
     ensures demo { (number size : ℕ) → command_in (map string_bytes words.now) ≡ Some (commands.Demo number size) →
         (end : End) → result.status ≡ status_of end → IsSomeAnd result.store (λ store.
         DemoBy number size end (B.told store) (B.plans store) (λ entries.
-        K.given out.new ≡ followed_by (K.given out.old) (summary_of size entries))) }
+        K.given out.new ≡ followed_by (K.given out.old) (summary_of (made_job number size) size entries))) }
     ensures demo_broke { (number size : ℕ) → command_in (map string_bytes words.now) ≡ Some (commands.Demo number size) →
         result.status ≡ Status.WriteFault → (end : End) × IsSomeAnd result.store (λ store.
         DemoBy number size end (B.told store) (B.plans store) (λ entries.
-        GivesPart (K.given out.old) (K.given out.new) (summary_of size entries))) }
+        GivesPart (K.given out.old) (K.given out.new) (summary_of (made_job number size) size entries))) }
     ensures demo_else { (number size : ℕ) → command_in (map string_bytes words.now) ≡ Some (commands.Demo number size) →
         IsDemoEnd result.status × (job.new ≡ job.old) × (trace.new ≡ trace.old) }
 {

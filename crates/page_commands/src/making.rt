@@ -16,6 +16,7 @@ use crate::status::Status;
 use backing_store::backing::Backing;
 use io_edges::giving::give_all;
 use io_edges::sinks::Sink;
+use job_grammar::jobs::Job;
 use job_make::maker::make_job;
 use job_print::printer::print_job;
 use run_jobs::run::{Run, run_job};
@@ -73,10 +74,10 @@ pub(crate) fn demo_command<R: Threads + Wait + Sync, K: Sink, B: Backing + Send,
     ensures kind { IsDemoEnd result.status }
     ensures ran { (end : End) → result.status ≡ status_of end → IsSomeAnd result.store (λ store.
         DemoBy number size end (B.told store) (B.plans store) (λ entries.
-        K.given out.new ≡ followed_by (K.given out.old) (summary_of size entries))) }
+        K.given out.new ≡ followed_by (K.given out.old) (summary_of (made_job number size) size entries))) }
     ensures broke { result.status ≡ Status.WriteFault → (end : End) × IsSomeAnd result.store (λ store.
         DemoBy number size end (B.told store) (B.plans store) (λ entries.
-        GivesPart (K.given out.old) (K.given out.new) (summary_of size entries))) }
+        GivesPart (K.given out.old) (K.given out.new) (summary_of (made_job number size) size entries))) }
     ensures memory { result.status ≡ Status.Memory → out.new ≡ out.old }
     ensures failed { result.status ≡ Status.WriteFault → HasRisen (K.faults out.old) (K.faults out.new) }
     // The store comes back from a run that came to its end, whatever the status, and from no other.
@@ -100,19 +101,19 @@ fn sum_up<K: Sink, B: Backing>(alloc: Global, size: u32, run: Run<B>, out: &mut 
     requires most { size ≤ 2000 }
     ensures store { result.store ≡ Some run.store }
     ensures gave { IsGiven run.end result.status
-        (K.given out.new ≡ followed_by (K.given out.old) (summary_of size run.entries.items)) }
+        (K.given out.new ≡ followed_by (K.given out.old) (summary_of run.job size run.entries.items)) }
     ensures broke { result.status ≡ Status.WriteFault →
-        GivesPart (K.given out.old) (K.given out.new) (summary_of size run.entries.items) }
+        GivesPart (K.given out.old) (K.given out.new) (summary_of run.job size run.entries.items) }
     ensures memory { result.status ≡ Status.Memory → out.new ≡ out.old }
     ensures failed { result.status ≡ Status.WriteFault → HasRisen (K.faults out.old) (K.faults out.new) }
 {
     let Run {
-        job: _,
+        job,
         entries,
         store,
         end,
     } = run;
-    let status = match give_summary(alloc, size, &entries, out) {
+    let status = match give_summary(alloc, &job, size, &entries, out) {
         Ok(()) => Status::of_run(end),
         Err(Ungiven::Failed) => Status::WriteFault,
         Err(Ungiven::Memory) => Status::Memory,
@@ -125,17 +126,18 @@ fn sum_up<K: Sink, B: Backing>(alloc: Global, size: u32, run: Run<B>, out: &mut 
 
 fn give_summary<K: Sink>(
     alloc: Global,
+    job: &Job,
     size: u32,
     entries: &[Entry],
     out: &mut K,
 ) -> Result<(), Ungiven>
     requires most { size ≤ 2000 }
-    ensures gave { OnOk result (K.given out.new ≡ followed_by (K.given out.old) (summary_of size entries.now)) }
+    ensures gave { OnOk result (K.given out.new ≡ followed_by (K.given out.old) (summary_of job.now size entries.now)) }
     ensures memory { IsErrOf result Ungiven.Memory → out.new ≡ out.old }
-    ensures broke { IsErrOf result Ungiven.Failed → GivesPart (K.given out.old) (K.given out.new) (summary_of size entries.now) }
+    ensures broke { IsErrOf result Ungiven.Failed → GivesPart (K.given out.old) (K.given out.new) (summary_of job.now size entries.now) }
     ensures failed { IsErrOf result Ungiven.Failed → HasRisen (K.faults out.old) (K.faults out.new) }
 {
-    let text = print_summary(alloc, size, entries)?;
+    let text = print_summary(alloc, job, size, entries)?;
     give_all(out, &text)?;
     Ok(())
 }

@@ -223,8 +223,8 @@ fn push_reply(event: &Event, onto: &mut Vec<u8>) -> Result<(), Memory>
     Ok(())
 }
 
-// Whether a processor is interrupted after an event of its own: it left, and no operation asked for that.
-fn interrupted_after(event: &Event, before: bool) -> bool
+/// Whether a processor is interrupted after an event of its own: it left, and no operation asked for that.
+pub fn interrupted_after(event: &Event, before: bool) -> bool
     ensures { result ≡ interrupted_after event.now before }
 {
     match event {

@@ -1,4 +1,5 @@
 // The summary of a run of a made job.
 #![tactic(auto)]
 
+mod exchanges;
 pub mod summary;

@@ -1,33 +1,37 @@
 //! The summary of a run of a made job.
 
-ghost use Rattle.run_summary.specs.Summary.{is_xadd, loaded, summary_of, xadds};
+ghost use Rattle.run_summary.specs.Summary.{loaded, summary_of};
 ghost use Rattle.std.specs.List.{sum_by};
 ghost use Rattle.std.specs.Prelude.{◌≡◌, ◌≤◌, ◌%◌, ◌^◌, IfOk};
 
+use crate::exchanges::number_of_xadds;
+use job_grammar::jobs::Job;
 use sgx_rules::entries::{Action, Answer, Entry, Event};
 use sgx_types::names::Memory;
 use std::alloc::Global;
 use text_words::words::Word::{Decimal, Name};
 use text_words::words::push_line;
 
-/// The summary of a run of a job that was made of a size: its pages and its operations, and of the entries the sum mod 2^64 of what loads
-/// were answered, and how many exchanges were done. It is a function of the job, since each processor of a made job loads only words that
-/// it alone stores (this project's own).
+/// The summary of a run of a job that was made of a size, whose entries are given oldest first: its pages and its operations, the sum
+/// mod 2^64 of what loads were answered, and how many replies exchanges have, whatever these were. It is a function of the job, since
+/// each processor of a made job loads only words that it alone stores (this project's own).
 #[tactic(auto, unfolding(crate::specs::Summary::summary_of))]
-pub fn print_summary(alloc: Global, size: u32, entries: &[Entry]) -> Result<Vec<u8>, Memory>
+pub fn print_summary(
+    alloc: Global,
+    job: &Job,
+    size: u32,
+    entries: &[Entry],
+) -> Result<Vec<u8>, Memory>
     requires { size ≤ 2000 }
-    ensures { IfOk result (λ text. text.items ≡ summary_of size entries.now) }
+    ensures { IfOk result (λ text. text.items ≡ summary_of job.now size entries.now) }
 {
     let size = u64::from(size);
+    let xadds = number_of_xadds(alloc, job, entries)?;
     let mut text = Vec::new(alloc);
     push_line(Name("pages"), &[Decimal(size + 9)], &mut text)?;
     push_line(Name("operations"), &[Decimal(4 * (size + 2))], &mut text)?;
     push_line(Name("loads"), &[Decimal(sum_of_loads(entries))], &mut text)?;
-    push_line(
-        Name("xadds"),
-        &[Decimal(number_of_xadds(entries))],
-        &mut text,
-    )?;
+    push_line(Name("xadds"), &[Decimal(xadds)], &mut text)?;
     Ok(text)
 }
 
@@ -53,29 +57,4 @@ fn loaded(entry: &Entry) -> u64
         } => value,
         _ => 0,
     }
-}
-
-#[tactic(auto, using(crate::proofs::SumLaws::xadds_more_yes, crate::proofs::SumLaws::xadds_more_no))]
-fn number_of_xadds(entries: &[Entry]) -> u64
-    ensures { result ≡ xadds entries.now }
-{
-    let mut count: u64 = 0;
-    for entry in entries {
-        if is_xadd(&entry.event) {
-            count += 1;
-        }
-    }
-    count
-}
-
-fn is_xadd(event: &Event) -> bool
-    ensures { result ≡ is_xadd event.now }
-{
-    matches!(
-        event,
-        Event::Did {
-            action: Action::Xadd { .. },
-            ..
-        }
-    )
 }

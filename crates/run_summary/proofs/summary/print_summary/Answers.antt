@@ -1,4 +1,4 @@
-use Rattle.std.proofs.Common.{◌+◌, ◌*◌, ◌%◌, ◌^◌, [], ◌∷◌}
+use Rattle.std.proofs.Common.{◌+◌, ◌*◌, ◌%◌, ◌^◌, [], ◌∷◌, reverse}
 use Rattle.std.specs.Prelude.{codes}
 use Rattle.std.specs.Fmt.{decimal}
 use Rattle.std.specs.List.{sum_by}
@@ -16,7 +16,7 @@ returns c =
       c.in_ok-push_line-2.ensures.text,
       c.in_ok-push_line.ensures.text,
       c.new-text.ensures.items,
-      c.number_of_xadds.ensures,
+      c.in_ok-xadds.ensures,
       c.sum_of_loads.ensures,
       c.from-size.ensures,
     )
@@ -24,4 +24,4 @@ returns c =
     (line_text (codes "pages" ∷ decimal (c.args.size + 9) ∷ []))
     (line_text (codes "operations" ∷ decimal (4 * (c.args.size + 2)) ∷ []))
     (line_text (codes "loads" ∷ decimal (sum_by loaded c.args.entries.now % 2 ^ 64) ∷ []))
-    (line_text (codes "xadds" ∷ decimal (xadds c.args.entries.now) ∷ [])))
+    (line_text (codes "xadds" ∷ decimal (xadds c.args.job.now (reverse c.args.entries.now)) ∷ [])))
