@@ -51,13 +51,13 @@ fn a_started_load_is_answered_again_and_ends_once(rt: HostRuntime) -> Result<(),
         (world.entries().len(), again.version),
         (before, first.version)
     );
-    let ends = [
-        world.end_load(Box::into_inner(again)),
-        world.end_load(Box::into_inner(first)),
-    ];
+    let end = world.end_load(Box::into_inner(again));
+    let shown = world.shown(alloc)?;
+    let other_end = world.end_load(Box::into_inner(first));
+    let same = world.shown(alloc)? == shown;
     assert_eq!(rt;
-        (ends, world.entries().len()),
-        ([Some(1), Some(0)], before + 1)
+        (end, other_end, same, world.entries().len()),
+        (Some(1), Some(0), true, before + 1)
     );
     Ok(())
 }

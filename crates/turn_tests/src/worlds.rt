@@ -39,6 +39,14 @@ pub struct World {
     ghost some: { 0 < length book.book.job.scripts },
 }
 
+/// What a book shows to its callers.
+#[derive(Drop, PartialEq)]
+pub struct Shown {
+    entries: Vec<Entry>,
+    cpus: u8,
+    out_of_memory: bool,
+}
+
 impl World {
     pub fn new(rt: &impl Abort, alloc: Global) -> Result<Box<World>, Fail> {
         let job = Box::new(alloc, read_job(alloc, FORTY_PAGES)?)?;
@@ -50,6 +58,14 @@ impl World {
 
     pub fn entries(&self) -> &[Entry] {
         self.book.entries()
+    }
+
+    pub fn shown(&self, alloc: Global) -> Result<Shown, Memory> {
+        Ok(Shown {
+            entries: self.book.entries().to_vec(alloc)?,
+            cpus: self.book.cpus(),
+            out_of_memory: self.book.out_of_memory(),
+        })
     }
 
     fn build(&mut self, alloc: Global) -> Result<Turn, Memory> {
