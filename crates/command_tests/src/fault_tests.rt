@@ -27,6 +27,17 @@ const REFUSED: &[(&[u8], &[u8])] = &[
         b"epc 6\nenclave A 0x0 0x2000\ncpu 0\nload 0x2004\n",
         b"job line 4: Range\n",
     ),
+    (b"epc 6\nepc 6\n", b"job line 2: Order\n"),
+    (b"epc 6\nmarks 1 2 1\nmarks 1 2 1\n", b"job line 3: Twice\n"),
+    // One page more than a job may have.
+    (
+        b"epc 6\nenclave A 0x0 0x1000000\nreg 0 4096 r 0\nenclave B 0x0 0x2000\nreg 0 1 r 0\n",
+        b"job line 5: TooMany\n",
+    ),
+    (
+        b"epc 10\nenclave A 0x0 0x4000\ntcs 0 1 1\nreg 1 1 rw 0\ncpu 0\neenter A 0\ncpu 1\neenter A 0\n",
+        b"job line 8: TcsShared\n",
+    ),
 ];
 
 const TOO_LONG: &[u8] = b"job line 0: TooLong\n";
