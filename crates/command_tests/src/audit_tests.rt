@@ -1,13 +1,19 @@
 //! Verdicts on old traces, traces that are none, and edges that fail.
 
+ghost use Rattle.std.specs.Prelude.{◌≤◌};
+
 use crate::audited_traces::{BEFORE_ELD, BEHIND_ELD, CUT_ELD, ELD, OLDER_ELD, RELOAD_JOB};
 use crate::calls::{RUN, given_by, given_with};
 use crate::paged_jobs::{ENCLAVE, EPC, SCRIPT};
 use crate::run_tests::{JOB, TRACE};
 use page_commands::status::Status;
 use sgx_types::names::Memory;
-use std::alloc::Global;
+use std::alloc::{Alloc, Global};
+use std::fmt::Write;
+use std::process::Abort;
+use std::sync::Wait;
 use std::test::Fail;
+use std::thread::Threads;
 
 const AUDIT: &[&str] = &["audit", "t"];
 
@@ -162,17 +168,88 @@ fn an_old_trace_gets_its_verdict_or_its_first_faulty_line(rt: HostRuntime) -> Re
     Ok(())
 }
 
-// Whatever the order of the threads.
+// A line with the number that stands behind its first five words lowered by one.
+fn push_older(line: &str, onto: &mut String) -> Result<(), Fail> {
+    let mut place = 0u32;
+    for word in line.split(' ') {
+        let number = word.parse::<u64>().unwrap_or(0);
+        if place == 5 && number > 0 {
+            write!(onto, "{}", number.wrapping_sub(1))?;
+        } else {
+            onto.push_str(word)?;
+        }
+        onto.push_str(" ")?;
+        place = place.wrapping_add(1);
+    }
+    Ok(())
+}
+
+// A trace whose first load that ended names an earlier version, the same cut inside that line, and how many lines stand before it.
+fn changed(alloc: Global, trace: &str) -> Result<(String, String, u64), Fail> {
+    let mut older = String::new(alloc);
+    let mut cut = String::new(alloc);
+    let mut before = 0u64;
+    for line in trace.lines() {
+        if cut.is_empty() && line.starts_with("p0 eld ") {
+            cut.push_str(older.as_str())?;
+            cut.push_str("p0 eld ")?;
+            push_older(line, &mut older)?;
+            older.pop();
+        } else {
+            older.push_str(line)?;
+        }
+        older.push_str("\n")?;
+        if cut.is_empty() {
+            before = before.wrapping_add(1);
+        }
+    }
+    Ok((older, cut, before))
+}
+
+// Audits a trace of a job, so many bytes a call.
+fn judged(
+    rt: &(impl Abort + Alloc<A = Global> + Threads + Wait + Sync),
+    job: &[u8],
+    old: &[u8],
+    piece: usize,
+    status: Status,
+    told: &str,
+) -> Result<(), Fail>
+    requires { 1 ≤ piece }
+{
+    let fails: [&[u64]; 4] = [&[], &[], &[], &[1]];
+    let given = given_with(rt, rt.alloc(), AUDIT, [job, old], piece, fails)?;
+    assert_eq!(rt; given.status, status);
+    assert_eq!(rt; given.out.as_slice(), told.as_bytes());
+    Ok(())
+}
+
+// Whatever the order of the threads. The first line of a trace is no entry.
 #[test]
-fn a_run_is_a_history(rt: HostRuntime) -> Result<(), Fail> {
+fn a_run_is_a_history_and_is_none_with_an_older_version(rt: HostRuntime) -> Result<(), Fail> {
     let alloc = rt.alloc();
     let job = joined(alloc, &[EPC, ENCLAVE, SCRIPT])?;
     let run = given_by(&rt, alloc, RUN, &job, 1000, [&[], &[], &[]])?;
-    let fails: [&[u64]; 4] = [&[], &[], &[], &[1]];
-    let given = given_with(&rt, alloc, AUDIT, [&job, &run.trace], 1000, fails)?;
-    assert_eq!(rt; given.status, Status::Done);
-    assert_eq!(rt; given.out.as_slice(), b"yes\n".as_slice());
-    Ok(())
+    let (older, cut, before) = changed(alloc, str::from_utf8(&run.trace).unwrap_or(""))?;
+    let wrong = format!(in alloc; "no {} Fresh\n", before.wrapping_sub(1))?;
+    let faulty = format!(in alloc; "trace line {}\n", before.wrapping_add(1))?;
+    judged(&rt, &job, &run.trace, 1000, Status::Done, "yes\n")?;
+    judged(
+        &rt,
+        &job,
+        older.as_bytes(),
+        1000,
+        Status::AuditNo,
+        wrong.as_str(),
+    )?;
+    judged(
+        &rt,
+        &job,
+        cut.as_bytes(),
+        1,
+        Status::BadTrace,
+        faulty.as_str(),
+    )
 }
 
 // .. of a job that was made.
