@@ -2,6 +2,7 @@
 
 ghost use Rattle.std.specs.Prelude.{◌≤◌};
 
+use backing_store::calls::{GetAnswer, StoreCall};
 use backing_store::planned_store::PlannedStore;
 use io_edges::mem_sink::MemSink;
 use io_edges::mem_source::MemSource;
@@ -17,7 +18,7 @@ use turn_gate::gate::OpenGate;
 pub const RUN: &[&str] = &["run", "t"];
 
 /// What a call gave: the texts, how many bytes it left of the job and of the old trace, and how often these, the output and the
-/// trace failed.
+/// trace failed, and the store.
 #[derive(Drop)]
 pub struct Given {
     pub status: Status,
@@ -26,6 +27,7 @@ pub struct Given {
     pub left: usize,
     pub old_left: usize,
     pub faults: [u64; 4],
+    pub store_faults: u64,
 }
 
 /// Calls the program with the words of a command that reads no old trace, as below: the first call of that source would fail. The
@@ -85,10 +87,32 @@ pub fn given_with<R: Threads + Wait + Sync>(
         left: job.left().len(),
         old_left: old.left().len(),
         faults: [job.faults(), old.faults(), out.faults(), trace.faults()],
+        store_faults: store_faults(&ended.store),
     })
 }
 
-fn owned(alloc: Global, texts: &[&str]) -> Result<Vec<String>, Memory> {
+// How many calls of a store failed. No store has none.
+fn store_faults(store: &Option<PlannedStore>) -> u64 {
+    let mut failed = 0u64;
+    if let Some(store) = store {
+        for call in store.calls() {
+            if has_failed(call) {
+                failed = failed.wrapping_add(1);
+            }
+        }
+    }
+    failed
+}
+
+fn has_failed(call: &StoreCall) -> bool {
+    match call {
+        StoreCall::Room { failed, .. } | StoreCall::Put { failed, .. } => *failed,
+        StoreCall::Got { answer, .. } => matches!(answer, GetAnswer::Failed),
+    }
+}
+
+/// Words of a command line.
+pub fn owned(alloc: Global, texts: &[&str]) -> Result<Vec<String>, Memory> {
     let mut words = Vec::new(alloc);
     for text in texts {
         words.push(String::from_str(alloc, text)?)?;

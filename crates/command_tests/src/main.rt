@@ -16,11 +16,17 @@ mod gate_tests;
 #[cfg(test)]
 mod least_tests;
 #[cfg(test)]
+mod meeting;
+#[cfg(test)]
+mod meeting_tests;
+#[cfg(test)]
 mod paged_jobs;
 #[cfg(test)]
 mod reply_tests;
 #[cfg(test)]
 mod run_tests;
+#[cfg(test)]
+mod seen_store;
 #[cfg(test)]
 mod verdict_tests;
 #[cfg(test)]

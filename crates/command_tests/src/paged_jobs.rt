@@ -40,101 +40,117 @@ const NOT_ENTERED: &[&str] = &["A init\ncpu 0\nbus\n"];
 
 const NOT_STORED: &[&str] = &[ENTERED, "bus\n"];
 
+/// What is told of a record that was not that of its page: two tags, which differ.
+const LOST: &str = "MacFail\np0 bus A 2 mac\n";
+
 /// What a store may do to that job: nothing; give an older record; change one, lose it, or give another page's; and fail. Each with how
-/// the run ends, the replies, and all that its trace tells of what went wrong.
-pub const STORES: &[(&[u8], Status, &[&str], &str)] = &[
-    (b"", Status::Done, ALL, ""),
+/// the run ends, the replies, all that its trace tells of what went wrong, and how often the store failed.
+pub const STORES: &[(&[u8], Status, &[&str], &str, u64)] = &[
+    (b"", Status::Done, ALL, "", 0),
     (
         b"store replay A 2 2 1\n",
         Status::Bus,
         &[ENTERED, STORED, "bus\n"],
-        "MacFail\np0 bus A 2 mac\n",
+        LOST,
+        0,
     ),
-    (b"store replay A 2 1 1\n", Status::Done, ALL, ""),
-    (b"store replay A 2 1 5\n", Status::Done, ALL, ""),
-    (
-        b"store flip A 2 1 192\n",
-        Status::Bus,
-        NOT_STORED,
-        "MacFail\np0 bus A 2 mac\n",
-    ),
-    (
-        b"store flip A 2 1 0\n",
-        Status::Bus,
-        NOT_STORED,
-        "MacFail\np0 bus A 2 mac\n",
-    ),
+    (b"store replay A 2 1 1\n", Status::Done, ALL, "", 0),
+    (b"store replay A 2 1 5\n", Status::Done, ALL, "", 0),
+    (b"store flip A 2 1 192\n", Status::Bus, NOT_STORED, LOST, 0),
+    (b"store flip A 2 1 0\n", Status::Bus, NOT_STORED, LOST, 0),
     (
         b"store flip A 2 1 33215\n",
         Status::Bus,
         NOT_STORED,
-        "MacFail\np0 bus A 2 mac\n",
+        LOST,
+        0,
     ),
-    (
-        b"store swap A 2 A 3\n",
-        Status::Bus,
-        NOT_STORED,
-        "MacFail\np0 bus A 2 mac\n",
-    ),
+    (b"store swap A 2 A 3\n", Status::Bus, NOT_STORED, LOST, 0),
     (
         b"store drop A 2 1\n",
         Status::Bus,
         NOT_STORED,
         "p0 bus A 2 none\n",
+        0,
     ),
     (
         b"store fail get 1\n",
         Status::Bus,
         NOT_ENTERED,
         "p0 bus A 0 get\n",
+        1,
     ),
     (
         b"store fail get 2\n",
         Status::Bus,
         NOT_ENTERED,
         "p0 bus A 1 get\n",
+        1,
     ),
     (
         b"store fail get 3\n",
         Status::Bus,
         NOT_STORED,
         "p0 bus A 2 get\n",
+        1,
     ),
     (
         b"store fail put 1\n",
         Status::Bus,
         NOT_ENTERED,
         "p0 bus A 0 put\n",
+        1,
     ),
     (
         b"store fail put 3\n",
         Status::Bus,
         NOT_STORED,
         "p0 bus A 2 put\n",
+        1,
     ),
-    (b"store fail room 1\n", Status::Done, ALL, "noroom\n"),
+    (b"store fail room 1\n", Status::Done, ALL, "noroom\n", 1),
     (
         b"store fail room 1\nstore fail room 2\n",
         Status::Done,
         ALL,
         "noroom\nnoroom\n",
+        2,
     ),
 ];
 
-/// First numbers that are soon used up, and all that the trace tells of that.
+/// First numbers that are soon used up, and all that the trace tells of that, with how many pages were out. The last version goes to the
+/// first page that leaves.
 pub const STARTS: &[(&[u8], &str)] = &[
-    (b"start 1099511627775 1\n", "EpochSpent\n"),
-    (b"start 1 18446744073709551615\n", "VersionSpent\n"),
+    (b"start 1099511627775 1\n", "EpochSpent\n0 out\n"),
+    (b"start 1 18446744073709551615\n", "VersionSpent\n1 out\n"),
 ];
 
+/// A processor looks at a page's first word from outside, before and behind a stay in which it loads that word.
+const FROM_OUTSIDE: &[u8] =
+    b"cpu 0\noutload A 0x2000\noutstore A 0x2000 5\neenter A 0\nload 0x2000\neexit\noutload A 0x2000\n";
+
+const OUTSIDE: &str =
+    "A init\ncpu 0\n18446744073709551615\ndropped\ncssa 0\n0\nexit\n18446744073709551615\n";
+
 /// Behind the same enclave: a second TCS, a store that swaps the records of two pages, and a processor for each of them.
-pub const SWAPPED: &[u8] =
+const SWAPPED: &[u8] =
     b"tcs 42 43 1 plain\nreg 43 1 rw 0 plain\nstore swap A 2 A 3\ncpu 0\neenter A 0\nload 0x2000\ncpu 1\neenter A 42\nload 0x3000\n";
 
 /// What the trace of that tells, by which of them comes first.
-pub const SWAPPED_TOLD: &[&str] = &[
+const SWAPPED_TOLD: &[&str] = &[
     "MacFail\np0 bus A 2 mac\nMacFail\np1 bus A 3 mac\n",
     "MacFail\np1 bus A 3 mac\nMacFail\np0 bus A 2 mac\n",
+];
+
+/// What may stand behind that enclave, how the run ends, the replies, and the texts of which the trace tells one.
+pub const ENDS: &[(&[u8], Status, &str, &[&str])] = &[
+    (FROM_OUTSIDE, Status::Done, OUTSIDE, &[""]),
+    (
+        SWAPPED,
+        Status::Bus,
+        "A init\ncpu 0\ncssa 0\nbus\ncpu 1\ncssa 0\nbus\n",
+        SWAPPED_TOLD,
+    ),
 ];
 
 /// An enclave of 48 pages with four TCSs, in 16 frames. Its processors follow.

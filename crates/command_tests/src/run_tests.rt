@@ -3,12 +3,13 @@
 ghost use Rattle.std.specs.Prelude.{◌≤◌};
 
 use crate::calls::{Given, RUN, given_by};
-use crate::paged_jobs::{ENCLAVE, EPC, MANY_ADDS, SCRIPT, STARTS, STORES, SWAPPED, SWAPPED_TOLD};
+use crate::paged_jobs::{ENCLAVE, ENDS, EPC, MANY_ADDS, SCRIPT, STARTS, STORES};
 use crate::worked_runs::{
     FAULTS, FROM_OUTSIDE, MANY_PAGES, MEASURED_APART, OTHER_DIGEST, Run, SAVED_STATE, TIMER,
 };
 use page_commands::status::Status;
 use std::alloc::{Alloc, Global};
+use std::fmt::Write;
 use std::process::Abort;
 use std::sync::Wait;
 use std::test::Fail;
@@ -93,10 +94,21 @@ fn of_parts(
 // Words by which an entry tells that something went wrong.
 const SIGNS: &[&str] = &["MacFail", "noroom", "EpochSpent", "VersionSpent"];
 
+// Whether the last two words of a line are the same.
+fn ends_twice(line: &str) -> bool {
+    let mut words = line.rsplit(' ');
+    words.next() == words.next()
+}
+
 // What of a trace tells that something went wrong, in its order: each whole line on a page that could not be reloaded, and such words.
+// Where both tags of a record are the same it tells that there is one, and behind a number that is used up how many pages had gone out.
 fn signs(alloc: Global, trace: &str) -> Result<String, Fail> {
     let mut told = String::new(alloc);
+    let mut out = 0u64;
     for line in trace.lines() {
+        if line.starts_with("r ewb ") {
+            out = out.wrapping_add(1);
+        }
         if line.contains(" bus ") {
             told.push_str(line)?;
             told.push_str("\n")?;
@@ -107,24 +119,32 @@ fn signs(alloc: Global, trace: &str) -> Result<String, Fail> {
                 told.push_str("\n")?;
             }
         }
+        if line.contains("MacFail") && ends_twice(line) {
+            told.push_str("one tag\n")?;
+        }
+        if line.ends_with("Spent") {
+            write!(told, "{out} out\n")?;
+        }
     }
     Ok(told)
 }
 
-// Runs a job whose pages do not fit, made of these parts. What its trace tells of what went wrong is one of the texts `told`, and is all.
+// Runs a job whose pages do not fit, made of these parts. What its trace tells of what went wrong is one of the texts `told`, and is all;
+// so often did its store fail.
 fn pages(
     rt: &(impl Abort + Alloc<A = Global> + Threads + Wait + Sync),
     parts: &[&[u8]],
     status: Status,
     replies: &[&str],
     told: &[&str],
+    store_faults: u64,
 ) -> Result<(), Fail> {
     let given = of_parts(rt, parts)?;
     let mut lines = String::new(rt.alloc());
     for part in replies {
         lines.push_str(part)?;
     }
-    assert_eq!(rt; given.status, status);
+    assert_eq!(rt; (given.status, given.store_faults), (status, store_faults));
     assert_eq!(rt; str::from_utf8(&given.out).ok(), Some(lines.as_str()));
     let found = signs(
         rt.alloc(),
@@ -136,13 +156,14 @@ fn pages(
 
 #[test]
 fn pages_go_out_and_come_back_or_their_processor_is_told(rt: HostRuntime) -> Result<(), Fail> {
-    for (store, status, replies, told) in STORES {
+    for (store, status, replies, told, faults) in STORES {
         pages(
             &rt,
             &[EPC, ENCLAVE, store, SCRIPT],
             *status,
             replies,
             &[*told],
+            *faults,
         )?;
     }
     Ok(())
@@ -157,36 +178,40 @@ fn a_run_is_stopped_where_a_number_is_used_up(rt: HostRuntime) -> Result<(), Fai
             Status::Spent,
             &["cpu 0\n"],
             &[*told],
+            0,
         )?;
     }
     Ok(())
 }
 
 #[test]
-fn records_that_are_swapped_end_both_processors(rt: HostRuntime) -> Result<(), Fail> {
-    pages(
-        &rt,
-        &[EPC, ENCLAVE, SWAPPED],
-        Status::Bus,
-        &["A init\ncpu 0\ncssa 0\nbus\ncpu 1\ncssa 0\nbus\n"],
-        SWAPPED_TOLD,
-    )
+fn nothing_is_seen_from_outside_and_swapped_records_end_both(rt: HostRuntime) -> Result<(), Fail> {
+    for (behind, status, replies, told) in ENDS {
+        pages(&rt, &[EPC, ENCLAVE, behind], *status, &[*replies], told, 0)?;
+    }
+    Ok(())
+}
+
+/// A job whose four processors add one to a word a hundred times each.
+pub fn many_adds(alloc: Global) -> Result<Vec<u8>, Fail> {
+    let mut job = MANY_ADDS.to_vec(alloc)?;
+    for number in 0..4 {
+        let enters = format!(in alloc; "cpu {number}\neenter A {number}\n")?;
+        job.extend_from_slice(enters.as_bytes())?;
+        for _ in 0..100 {
+            job.extend_from_slice(b"xadd 0x8000 1\n")?;
+        }
+        job.extend_from_slice(b"eexit\n")?;
+    }
+    Ok(job)
 }
 
 // The answers of the adds of four processors to one word.
 #[test]
 fn no_add_is_lost_or_made_twice(rt: HostRuntime) -> Result<(), Fail> {
     let alloc = rt.alloc();
-    let mut scripts = Vec::new(alloc);
-    for number in 0..4 {
-        let enters = format!(in alloc; "cpu {number}\neenter A {number}\n")?;
-        scripts.extend_from_slice(enters.as_bytes())?;
-        for _ in 0..100 {
-            scripts.extend_from_slice(b"xadd 0x8000 1\n")?;
-        }
-        scripts.extend_from_slice(b"eexit\n")?;
-    }
-    let given = of_parts(&rt, &[MANY_ADDS, &scripts])?;
+    let job = many_adds(alloc)?;
+    let given = of_parts(&rt, &[&job])?;
     assert_eq!(rt; given.status, Status::Done);
     let mut seen = vec![in alloc; false; 400]?;
     let text = str::from_utf8(&given.out).unwrap_or("");

@@ -4,10 +4,6 @@
 #[cfg(test)]
 mod jobs;
 #[cfg(test)]
-mod meeting;
-#[cfg(test)]
 mod runs;
-#[cfg(test)]
-mod seen_store;
 #[cfg(test)]
 mod tests;

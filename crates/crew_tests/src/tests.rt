@@ -1,17 +1,14 @@
-//! Runs with threads, and a gate at which two processors meet.
+//! Runs with threads.
 
 ghost use Rattle.std.specs.Prelude.{◌≤◌};
 
 use crate::jobs::{adds, crowd};
-use crate::meeting::Meeting;
 use crate::runs::run_of;
-use crate::seen_store::SeenStore;
 use backing_store::planned_store::PlannedStore;
 use epoch_words::seen::Seen;
 use sgx_rules::entries::{Action, Answer, Entry, Event};
 use sgx_types::names::Actor;
 use std::alloc::{AllocError, Global};
-use std::sync::atomic::{AtomicU64, Ordering};
 use std::test::Fail;
 use turn_gate::gate::OpenGate;
 
@@ -91,34 +88,5 @@ fn sixteen_processors_add_in_eight_enclaves(rt: HostRuntime) -> Result<(), Fail>
     let ran = run_of(&rt, alloc, &crowd(alloc)?, PlannedStore::new(), &OpenGate)?;
     let once = are_each_once(alloc, &ran.entries, 8, 2, 100)?;
     assert_eq!(rt; (once, ran.cpus, ran.reclaimer > 0), (true, 16, true));
-    Ok(())
-}
-
-#[test]
-fn two_processors_meet_at_the_gate(rt: HostRuntime) -> Result<(), Fail> {
-    let alloc = rt.alloc();
-    let text = adds(alloc)?;
-    let gate = Meeting::new();
-    let calls = AtomicU64::new(0);
-    let gets = AtomicU64::new(0);
-    let alone = AtomicU64::new(0);
-    let store = SeenStore {
-        store: PlannedStore::new(),
-        inside: &gate.inside,
-        calls: &calls,
-        gets: &gets,
-        alone: &alone,
-    };
-    let ran = run_of(&rt, alloc, &text, store, &gate)?;
-    assert_eq!(rt; gate.counts(), [1, 1, 0, 0]);
-    assert_eq!(rt; alone.load(Ordering::SeqCst), 0);
-    // 34 of 48 pages leave 14 frames while they are added, each by a room and a put, and those that are entered are got back. How many
-    // more move, the threads decide.
-    let many = [
-        ran.reclaimer > 100,
-        calls.load(Ordering::SeqCst) > 67,
-        gets.load(Ordering::SeqCst) > 0,
-    ];
-    assert_eq!(rt; many, [true, true, true]);
     Ok(())
 }

@@ -9,19 +9,21 @@ use sgx_types::record::Record;
 use std::alloc::Global;
 use std::sync::atomic::{AtomicU64, Ordering};
 
-/// Passes each call on. It counts them, those for a record, and those that came while nobody was between the calls of the gate.
+/// Passes each call on. It counts those for a place, those with a record, those for a record, and those that came while nobody was
+/// between the calls of the gate.
 #[derive(Drop)]
 pub struct SeenStore<'a> {
     pub store: PlannedStore,
     pub inside: &'a AtomicU64,
-    pub calls: &'a AtomicU64,
+    pub rooms: &'a AtomicU64,
+    pub puts: &'a AtomicU64,
     pub gets: &'a AtomicU64,
     pub alone: &'a AtomicU64,
 }
 
 impl<'a> SeenStore<'a> {
-    fn see(&self) {
-        self.calls.fetch_add(1, Ordering::SeqCst);
+    fn see(&self, calls: &AtomicU64) {
+        calls.fetch_add(1, Ordering::SeqCst);
         if self.inside.load(Ordering::SeqCst) == 0 {
             self.alone.fetch_add(1, Ordering::SeqCst);
         }
@@ -46,18 +48,17 @@ impl<'a> Backing for SeenStore<'a> {
     }
 
     fn room(&mut self, alloc: Global, page: Page) -> Result<(), StoreFault> {
-        self.see();
+        self.see(self.rooms);
         self.store.room(alloc, page)
     }
 
     fn put(&mut self, page: Page, rec: &Record) -> Result<(), Failed> {
-        self.see();
+        self.see(self.puts);
         self.store.put(page, rec)
     }
 
     fn get(&mut self, alloc: Global, page: Page) -> Result<Option<Record>, StoreFault> {
-        self.see();
-        self.gets.fetch_add(1, Ordering::SeqCst);
+        self.see(self.gets);
         self.store.get(alloc, page)
     }
 }

@@ -1,0 +1,73 @@
+//! A run whose gate holds two processors until they meet, over a store that is looked at.
+
+ghost use Rattle.std.specs.Prelude.{◌≡◌, [], IfSome};
+
+use crate::calls::{RUN, owned};
+use crate::meeting::Meeting;
+use crate::run_tests::many_adds;
+use crate::seen_store::SeenStore;
+use backing_store::backing::Backing;
+use backing_store::planned_store::PlannedStore;
+use io_edges::mem_sink::MemSink;
+use io_edges::mem_source::MemSource;
+use page_commands::command::sgxpage;
+use page_commands::status::Status;
+use sgx_types::names::Memory;
+use std::alloc::Global;
+use std::sync::Wait;
+use std::sync::atomic::{AtomicU64, Ordering};
+use std::test::Fail;
+use std::thread::Threads;
+use turn_gate::gate::Gate;
+
+// Runs a job by the whole program, over this store and this gate.
+fn status_of<R: Threads + Wait + Sync, B: Backing + Send, G: Gate + Sync>(
+    rt: &R,
+    alloc: Global,
+    job: &[u8],
+    store: B,
+    gate: &G,
+) -> Result<Status, Memory>
+    requires { IfSome (B.told store) (λ calls. calls ≡ []) }
+{
+    let words = owned(alloc, RUN)?;
+    let mut job = MemSource::new(alloc, job, 1000, &[])?;
+    let mut old = MemSource::new(alloc, b"", 1000, &[1])?;
+    let mut out = MemSink::new(alloc, 1000, &[])?;
+    let mut trace = MemSink::new(alloc, 1000, &[])?;
+    let ended = sgxpage(
+        rt, alloc, &words, &mut job, &mut old, &mut out, &mut trace, store, gate,
+    );
+    Ok(ended.status)
+}
+
+#[test]
+fn two_processors_meet_at_the_gate(rt: HostRuntime) -> Result<(), Fail> {
+    let alloc = rt.alloc();
+    let job = many_adds(alloc)?;
+    let gate = Meeting::new();
+    let rooms = AtomicU64::new(0);
+    let puts = AtomicU64::new(0);
+    let gets = AtomicU64::new(0);
+    let alone = AtomicU64::new(0);
+    let store = SeenStore {
+        store: PlannedStore::new(),
+        inside: &gate.inside,
+        rooms: &rooms,
+        puts: &puts,
+        gets: &gets,
+        alone: &alone,
+    };
+    let status = status_of(&rt, alloc, &job, store, &gate)?;
+    assert_eq!(rt; (status, gate.counts()), (Status::Done, [1, 1, 0, 0]));
+    assert_eq!(rt; alone.load(Ordering::SeqCst), 0);
+    // 34 of 48 pages leave 14 frames while they are added, each by a room and a put, and those that are entered are got back. How many
+    // more move, the threads decide.
+    let many = [
+        rooms.load(Ordering::SeqCst) > 33,
+        puts.load(Ordering::SeqCst) > 33,
+        gets.load(Ordering::SeqCst) > 0,
+    ];
+    assert_eq!(rt; many, [true, true, true]);
+    Ok(())
+}
