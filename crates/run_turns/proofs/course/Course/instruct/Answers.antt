@@ -61,7 +61,7 @@ returns-clause-more c = λ can.
     })
     (subst (λ n. n ≤ can.spare) (sym c.take_in.ensures.places) can.keeps.places)
     (subst (λ k. KeepsArrays s.job k (e ∷ past_of s)) (sym (ap (λ (d : Driver). d.slots) c.take_in.ensures.driver)) noted.arrays)
-    (ends_told (past_of s) e quiet can.keeps.ends) 
+    (ends_told (past_of s) e quiet can.keeps.ends)
     (record {
       none = none_fail (past_of s) e quiet can.keeps.clear.none;
       spent = (

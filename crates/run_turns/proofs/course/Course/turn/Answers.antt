@@ -120,11 +120,10 @@ pub returns-in-Waits-clause-again : goal.returns-in-Waits-clause-again
 returns-in-Waits-clause-again g c = λ pending. (same_self c.args.self.now, refl)
 
 pub returns-in-Ends-clause-again : goal.returns-in-Ends-clause-again
-returns-in-Ends-clause-again g c = λ pending.
-    (
-      subst (λ (x : Course). IsSame c.args.self.now x) (sym c.open_again.ensures.same) (same_self c.args.self.now),
-      c.open_again.ensures.store,
-    )
+returns-in-Ends-clause-again g c = λ pending. (
+  subst (λ (x : Course). IsSame c.args.self.now x) (sym c.open_again.ensures.same) (same_self c.args.self.now),
+  c.open_again.ensures.store,
+)
 
 pub returns-in-Makes-clause-again : goal.returns-in-Makes-clause-again
 returns-in-Makes-clause-again g c = λ pending.
