@@ -1,18 +1,20 @@
 //! Calls of the program over memory, and what they gave.
 
-ghost use Rattle.std.specs.Prelude.{◌≤◌};
+ghost use Rattle.std.specs.Prelude.{◌≡◌, ◌≤◌, [], IfSome};
 
+use backing_store::backing::Backing;
 use backing_store::calls::{GetAnswer, StoreCall};
 use backing_store::planned_store::PlannedStore;
 use io_edges::mem_sink::MemSink;
 use io_edges::mem_source::MemSource;
 use page_commands::command::sgxpage;
+use page_commands::ended::Ended;
 use page_commands::status::Status;
 use sgx_types::names::Memory;
 use std::alloc::Global;
 use std::sync::Wait;
 use std::thread::Threads;
-use turn_gate::gate::OpenGate;
+use turn_gate::gate::{Gate, OpenGate};
 
 /// The words of a command that runs a job.
 pub const RUN: &[&str] = &["run", "t"];
@@ -30,6 +32,78 @@ pub struct Given {
     pub store_faults: u64,
 }
 
+/// The words of a command line, and the edges of a call: the job, the old trace, the output and the trace.
+#[derive(Drop)]
+pub struct Edges {
+    pub words: Vec<String>,
+    pub job: MemSource,
+    pub old: MemSource,
+    pub out: MemSink,
+    pub trace: MemSink,
+}
+
+impl Edges {
+    /// Edges that move at most `piece` bytes a call, and fail at their given calls.
+    pub fn new(
+        alloc: Global,
+        words: &[&str],
+        texts: [&[u8]; 2],
+        piece: usize,
+        fails: [&[u64]; 4],
+    ) -> Result<Edges, Memory>
+        requires { 1 ≤ piece }
+    {
+        Ok(Edges {
+            words: owned(alloc, words)?,
+            job: MemSource::new(alloc, texts[0], piece, fails[0])?,
+            old: MemSource::new(alloc, texts[1], piece, fails[1])?,
+            out: MemSink::new(alloc, piece, fails[2])?,
+            trace: MemSink::new(alloc, piece, fails[3])?,
+        })
+    }
+
+    /// Calls the program by these edges, over this store and this gate.
+    pub fn call<R: Threads + Wait + Sync, B: Backing + Send, G: Gate + Sync>(
+        &mut self,
+        rt: &R,
+        alloc: Global,
+        store: B,
+        gate: &G,
+    ) -> Ended<B>
+        requires { IfSome (B.told store) (λ calls. calls ≡ []) }
+    {
+        sgxpage(
+            rt,
+            alloc,
+            &self.words,
+            &mut self.job,
+            &mut self.old,
+            &mut self.out,
+            &mut self.trace,
+            store,
+            gate,
+        )
+    }
+
+    // What a call gave that ended so, with so many faults of its store.
+    fn given(&self, alloc: Global, status: Status, store_faults: u64) -> Result<Given, Memory> {
+        Ok(Given {
+            status,
+            out: self.out.bytes().to_vec(alloc)?,
+            trace: self.trace.bytes().to_vec(alloc)?,
+            left: self.job.left().len(),
+            old_left: self.old.left().len(),
+            faults: [
+                self.job.faults(),
+                self.old.faults(),
+                self.out.faults(),
+                self.trace.faults(),
+            ],
+            store_faults,
+        })
+    }
+}
+
 /// Calls the program with the words of a command that reads no old trace, as below: the first call of that source would fail. The
 /// edges that fail are the job, the output and the trace.
 pub fn given_by<R: Threads + Wait + Sync>(
@@ -39,7 +113,7 @@ pub fn given_by<R: Threads + Wait + Sync>(
     job: &[u8],
     piece: usize,
     fails: [&[u64]; 3],
-) -> Result<Given, Memory>
+) -> Result<Box<Given>, Memory>
     requires { 1 ≤ piece }
 {
     given_with(
@@ -61,34 +135,14 @@ pub fn given_with<R: Threads + Wait + Sync>(
     texts: [&[u8]; 2],
     piece: usize,
     fails: [&[u64]; 4],
-) -> Result<Given, Memory>
+) -> Result<Box<Given>, Memory>
     requires { 1 ≤ piece }
 {
-    let words = owned(alloc, words)?;
-    let mut job = MemSource::new(alloc, texts[0], piece, fails[0])?;
-    let mut old = MemSource::new(alloc, texts[1], piece, fails[1])?;
-    let mut out = MemSink::new(alloc, piece, fails[2])?;
-    let mut trace = MemSink::new(alloc, piece, fails[3])?;
-    let ended = sgxpage(
-        rt,
-        alloc,
-        &words,
-        &mut job,
-        &mut old,
-        &mut out,
-        &mut trace,
-        PlannedStore::new(),
-        &OpenGate,
-    );
-    Ok(Given {
-        status: ended.status,
-        out: out.bytes().to_vec(alloc)?,
-        trace: trace.bytes().to_vec(alloc)?,
-        left: job.left().len(),
-        old_left: old.left().len(),
-        faults: [job.faults(), old.faults(), out.faults(), trace.faults()],
-        store_faults: store_faults(&ended.store),
-    })
+    let mut edges = Box::new(alloc, Edges::new(alloc, words, texts, piece, fails)?)?;
+    let ended = edges.call(rt, alloc, PlannedStore::new(), &OpenGate);
+    let failed = store_faults(&ended.store);
+    let given = edges.given(alloc, ended.status, failed)?;
+    Ok(Box::new(alloc, given)?)
 }
 
 // How many calls of a store failed. No store has none.
@@ -111,8 +165,8 @@ fn has_failed(call: &StoreCall) -> bool {
     }
 }
 
-/// Words of a command line.
-pub fn owned(alloc: Global, texts: &[&str]) -> Result<Vec<String>, Memory> {
+// Words of a command line.
+fn owned(alloc: Global, texts: &[&str]) -> Result<Vec<String>, Memory> {
     let mut words = Vec::new(alloc);
     for text in texts {
         words.push(String::from_str(alloc, text)?)?;

@@ -2,15 +2,12 @@
 
 ghost use Rattle.std.specs.Prelude.{◌≡◌, [], IfSome};
 
-use crate::calls::{RUN, owned};
+use crate::calls::{Edges, RUN};
 use crate::meeting::Meeting;
 use crate::run_tests::many_adds;
 use crate::seen_store::SeenStore;
 use backing_store::backing::Backing;
 use backing_store::planned_store::PlannedStore;
-use io_edges::mem_sink::MemSink;
-use io_edges::mem_source::MemSource;
-use page_commands::command::sgxpage;
 use page_commands::status::Status;
 use sgx_types::names::Memory;
 use std::alloc::Global;
@@ -30,14 +27,9 @@ fn status_of<R: Threads + Wait + Sync, B: Backing + Send, G: Gate + Sync>(
 ) -> Result<Status, Memory>
     requires { IfSome (B.told store) (λ calls. calls ≡ []) }
 {
-    let words = owned(alloc, RUN)?;
-    let mut job = MemSource::new(alloc, job, 1000, &[])?;
-    let mut old = MemSource::new(alloc, b"", 1000, &[1])?;
-    let mut out = MemSink::new(alloc, 1000, &[])?;
-    let mut trace = MemSink::new(alloc, 1000, &[])?;
-    let ended = sgxpage(
-        rt, alloc, &words, &mut job, &mut old, &mut out, &mut trace, store, gate,
-    );
+    let edges = Edges::new(alloc, RUN, [job, b""], 1000, [&[], &[1], &[], &[]])?;
+    let mut edges = Box::new(alloc, edges)?;
+    let ended = edges.call(rt, alloc, store, gate);
     Ok(ended.status)
 }
 

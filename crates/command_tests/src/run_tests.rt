@@ -83,7 +83,7 @@ fn worked_jobs_give_their_texts(rt: HostRuntime) -> Result<(), Fail> {
 fn of_parts(
     rt: &(impl Abort + Alloc<A = Global> + Threads + Wait + Sync),
     parts: &[&[u8]],
-) -> Result<Given, Fail> {
+) -> Result<Box<Given>, Fail> {
     let mut job = Vec::new(rt.alloc());
     for part in parts {
         job.extend_from_slice(part)?;
