@@ -1,0 +1,30 @@
+use Rattle.std.proofs.Common.{ℕ, ◌<◌, length, get_or, sym, ◌∙◌, arith}
+use Rattle.std.proofs.lemmas.List.{get_or_read}
+use Rattle.trace_places.specs.inner.Frames.{IsFirstFrom}
+use Rattle.trace_places.proofs.ListLaws.{put_there, put_before}
+use Rattle.trace_places.proofs.frame_lists.put_in.Goals as goal
+use Rattle.trace_places.proofs.frame_lists.put_in.Goals.{else-place-len-via-then-place-len+else-index-frame}
+use Rattle.trace_places.proofs.frame_lists.put_in.Goals.{else-place-len-via-else-place-len}
+
+pub returns-then-index-frame : goal.returns-then-index-frame
+returns-then-index-frame c =
+    let list = c.args.list.now.items in
+    let place : ℕ = c.place_from-place.result in
+    let first : IsFirstFrom list c.args.frame place = rw c.deref.ensures.value at c.place_from-place.ensures in
+    let within : place < length list = omega (arith, c.if-place-len.true, c.len.ensures, c.args.list.now.ok.0) in
+    put_there list c.args.frame place first.before within
+    (sym (get_or_read list place _ within c.index.ensures 0) ∙ c.if-index-frame.true)
+
+pub returns : goal.returns
+returns c =
+    let list = c.args.list.now.items in
+    let place : ℕ = c.place_from-place.result in
+    let first : IsFirstFrom list c.args.frame place = rw c.deref.ensures.value at c.place_from-place.ensures in
+    let above : place < length list → c.args.frame < get_or list place 0 = λ within.
+    elim c.else-place-len.branch [
+      | else-place-len-via-then-place-len+else-index-frame w ↦
+          omega (arith, first.from within, get_or_read list place _ within w.index.ensures 0, w.if-index-frame.false)
+      | else-place-len-via-else-place-len w ↦ absurd (omega (arith, within, w.if-place-len.false, c.len.ensures, c.args.list.now.ok.0))
+    ] in
+    rw c.unwrap.ensures at c.insert-kept.ensures.items
+    ∙ put_before list c.args.frame place first.within first.before above

@@ -1,0 +1,15 @@
+-- The moves that an entry makes, as the pages that they are of see them.
+use Rattle.std.specs.Prelude.{if◌then◌else◌, List, [], ◌∷◌, ◌++◌, Option, Some, None}
+use Rattle.sgx_types.specs.declared.names.Page.{Page}
+use Rattle.sgx_types.specs.Pages.{same_page}
+use Rattle.trace_places.specs.declared.moves.Moves.{Moves}
+use Rattle.trace_places.specs.declared.moves.PageMove.{PageMove}
+use Rattle.trace_places.specs.declared.moves.Where.{Where}
+
+abbrev pub move_of : Option PageMove → Page → List Where
+move_of None g = []
+move_of (Some move) g = if same_page move.page g then move.to ∷ [] else []
+
+-- where the moves bring a page
+abbrev pub moves_of : Moves → Page → List Where
+moves_of moves g = move_of moves.former g ++ move_of moves.named g

@@ -1,0 +1,123 @@
+-- The tables that say where pages are, and when they stand for entries.
+use Rattle.std.specs.Prelude.{◌≡◌, ℕ, ◌≤◌, ◌==◌, ◌&&◌, Bool, false, if◌then◌else◌, nat_eq, List, Option, Some, None}
+use Rattle.std.specs.HashMap.{get, spare}
+use Rattle.sgx_rules.specs.declared.entries.Entry.{Entry}
+use Rattle.sgx_rules.specs.Frames.{vas_made}
+use Rattle.sgx_types.specs.declared.names.Page.{Page}
+use Rattle.sgx_types.specs.Pages.{same_page}
+use Rattle.trace_places.specs.declared.change.Tenant.{Tenant}
+use Rattle.trace_places.specs.declared.change.Tenant.TheVariants.{Has, Awaits}
+use Rattle.trace_places.specs.declared.change.Gone.{Gone}
+use Rattle.trace_places.specs.declared.change.Change.{Change}
+use Rattle.trace_places.specs.declared.change.Change.TheVariants.{Puts, Empties}
+use Rattle.trace_places.specs.declared.moves.PageMove.{PageMove}
+use Rattle.trace_places.specs.declared.moves.Where.{Where}
+use Rattle.trace_places.specs.declared.places.PageKey.{PageKey}
+use Rattle.trace_places.specs.declared.places.Places.{Places}
+use Rattle.trace_places.specs.Places.{change_by, frame_changed, tenant_of, tenant_after, tenant, is_tenant, put_in, take_out, frames}
+use Rattle.trace_places.specs.Places.{least, gone_after, gone_last, where_by, moved, va_number}
+use Rattle.trace_places.specs.inner.Frames.{frames_in, HasRoomFor}
+
+-- ---- what is read from the tables
+
+-- the keys are those of the same page
+abbrev pub same_key : PageKey → PageKey → Bool
+same_key a b = (a.enclave == b.enclave) && (a.number == b.number)
+
+abbrev pub page_key : Page → PageKey
+page_key page = record { enclave = page.enclave; number = page.number }
+
+abbrev pub tenant_in : Places → ℕ → Option Tenant
+tenant_in known n = get nat_eq known.tenants n
+
+abbrev pub gone_in : Places → Page → Option ℕ
+gone_in known g = get same_key known.gone (page_key g)
+
+abbrev pub place_in : Places → Page → Where
+place_in known g = where_by (least (frames_in known.frames (Has g))) (least (frames_in known.frames (Awaits g))) (gone_in known g)
+
+-- the tables stand for these entries
+pub record Stands (known : Places) (past : List Entry) : Type 0 where
+  pub tenants : (n : ℕ) → tenant_in known n ≡ tenant past n
+  pub frames : (t : Tenant) → frames_in known.frames t ≡ frames past t
+  pub gone : (g : Page) → gone_in known g ≡ gone_last past g
+  pub next_va : known.next_va ≡ va_number (vas_made past)
+
+-- ---- room
+
+abbrev pub HasListRoom : Places → Option Change → Type 0
+HasListRoom known (Some (Puts f t)) = HasRoomFor known.frames t
+HasListRoom known (Some (Empties f went)) = Unit {0}
+HasListRoom known None = Unit {0}
+
+-- a change needs no memory
+pub record HasRoomToMake (known : Places) (change : Option Change) : Type 0 where
+  pub tenants : 1 ≤ spare known.tenants
+  pub gone : 1 ≤ spare known.gone
+  pub list : HasListRoom known change
+
+-- .. which an entry makes
+abbrev pub HasRoom : Places → Entry → Type 0
+HasRoom known e = HasRoomToMake known (change_by e.event known.next_va)
+
+-- ---- what a change does to the tables
+
+-- the frames of a tenant, where this frame had another one before the change
+abbrev pub frames_with : Change → Option Tenant → Tenant → List ℕ → List ℕ
+frames_with change former t before =
+    if is_tenant (tenant_of change) t
+    then put_in (frame_changed change) before
+    else (if is_tenant former t then take_out (frame_changed change) before else before)
+
+pub record Makes (old : Places) (change : Change) (new : Places) : Type 0 where
+  pub tenants : (n : ℕ) → tenant_in new n ≡ tenant_after (Some change) n (tenant_in old n)
+  pub frames : (t : Tenant) → frames_in new.frames t
+      ≡ frames_with change (tenant_in old (frame_changed change)) t (frames_in old.frames t)
+  pub gone : (g : Page) → gone_in new g ≡ gone_after (Some change) g (gone_in old g)
+  pub next_va : new.next_va ≡ old.next_va
+
+-- ---- the pages that a change may move
+
+abbrev pub page_of : Tenant → Page
+page_of (Has g) = g
+page_of (Awaits g) = g
+
+-- the page of a frame's tenant
+abbrev pub page_at_frame : Option Tenant → Option Page
+page_at_frame None = None
+page_at_frame (Some t) = Some (page_of t)
+
+abbrev pub gone_page : Option Gone → Option Page
+gone_page None = None
+gone_page (Some went) = Some went.page
+
+-- the page that a change names
+abbrev pub page_named : Change → Option Page
+page_named (Puts f t) = Some (page_of t)
+page_named (Empties f went) = gone_page went
+
+abbrev pub is_page : Option Page → Page → Bool
+is_page None g = false
+is_page (Some page) g = same_page page g
+
+abbrev pub unless_same : Option Page → Page → Option Page
+unless_same former g = if is_page former g then None else Some g
+
+-- a page, None where it is the former one
+abbrev pub other_than : Option Page → Option Page → Option Page
+other_than former None = None
+other_than former (Some g) = unless_same former g
+
+-- a page, and where it is
+abbrev pub seen_in : Places → Option Page → Option PageMove
+seen_in known None = None
+seen_in known (Some g) = Some (record { page = g; to = place_in known g })
+
+abbrev pub move_to : Page → Option Where → Option PageMove
+move_to g None = None
+move_to g (Some to) = Some (record { page = g; to = to })
+
+-- where a page that was seen is now, None where it is where it was
+abbrev pub move_in : Places → Option PageMove → Option PageMove
+move_in known None = None
+move_in known (Some seen) = move_to seen.page (moved seen.to (place_in known seen.page))
