@@ -1,0 +1,4 @@
+//! Tests of questions to a trace.
+
+mod done;
+mod places;
