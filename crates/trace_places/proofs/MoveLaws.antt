@@ -17,7 +17,8 @@ use Rattle.trace_places.specs.declared.moves.Where.TheVariants.{Nowhere, At, Loa
 use Rattle.trace_places.specs.declared.places.Places.{Places}
 use Rattle.trace_places.specs.Places.{frame_changed, tenant_of, gone_of, is_tenant, least, version_by, where_by}
 use Rattle.trace_places.specs.Places.{same_where, moved}
-use Rattle.trace_places.specs.Moves.{move_of}
+use Rattle.trace_places.specs.declared.moves.MayMove.{MayMove}
+use Rattle.trace_places.specs.Moves.{move_of, IsMoveOf, AreMovesOf}
 use Rattle.trace_places.specs.inner.Frames.{frames_in}
 use Rattle.trace_places.specs.inner.Tables.{tenant_in, gone_in, place_in, Makes, frames_with, page_of, page_at_frame, gone_page}
 use Rattle.trace_places.specs.inner.Tables.{page_named, is_page, unless_same, other_than, seen_in, move_to, move_in}
@@ -143,3 +144,16 @@ told old new former named stays g =
             (sym (ap option_to_list (stayed (place_in old g) (place_in new g) (stays g a b))))
       ]
     ]
+
+move_is_of : (page : Page) (to : Option Where) → IsMoveOf (move_to page to) (Some page)
+move_is_of page None = tt
+move_is_of page (Some to) = refl
+
+told_of : (old new : Places) (x : Option Page) → IsMoveOf (move_in new (seen_in old x)) x
+told_of old new None = tt
+told_of old new (Some page) = move_is_of page (moved (place_in old page) (place_in new page))
+
+-- what is told is of the pages that were seen
+pub moves_are_of : (old new : Places) (pages : MayMove)
+    → AreMovesOf (record { former = move_in new (seen_in old pages.former); named = move_in new (seen_in old pages.named) }) pages
+moves_are_of old new pages = record { former = told_of old new pages.former; named = told_of old new pages.named }

@@ -30,6 +30,21 @@ pub struct Moves {
     pub named: Option<PageMove>,
 }
 
+/// The pages that an entry may move: the one that its frame has or awaits, and the one that it names, if that is another one.
+#[derive(Clone, Copy, Debug, PartialEq, Eq)]
+pub struct MayMove {
+    pub former: Option<Page>,
+    pub named: Option<Page>,
+}
+
+impl MayMove {
+    /// No page may move.
+    pub const NONE: MayMove = MayMove {
+        former: None,
+        named: None,
+    };
+}
+
 impl Moves {
     /// No page moves.
     pub const NONE: Moves = Moves {

@@ -4,15 +4,15 @@ ghost use Rattle.std.specs.Prelude.{◌≡◌, ◌≤◌, ◌∷◌, [], Some, L
 ghost use Rattle.sgx_rules.specs.declared.entries.Entry.{Entry};
 ghost use Rattle.sgx_types.specs.declared.names.Page.{Page};
 ghost use Rattle.trace_places.specs.Places.{place_of, moved, moved_by, version_by};
-ghost use Rattle.trace_places.specs.Moves.{moves_of};
+ghost use Rattle.trace_places.specs.Moves.{moves_of, AreMovesOf};
 ghost use Rattle.trace_places.specs.inner.Tables.{page_key, place_in, seen_in, move_in, Stands, HasRoom, HasRoomToMake, Makes};
-ghost use Rattle.trace_places.specs.inner.Tables.{page_at_frame, tenant_in, gone_in};
+ghost use Rattle.trace_places.specs.inner.Tables.{page_at_frame, pages_in, may_move, tenant_in, gone_in};
 ghost use Rattle.std.specs.HashMap.{spare};
 ghost use Rattle.trace_places.specs.declared.change.Change.TheVariants as changes;
 
 use crate::change::{Change, Gone, Tenant, change_by, other_than, va_after};
 use crate::frame_lists::FrameLists;
-use crate::moves::{Moves, PageMove, Where, same_where};
+use crate::moves::{MayMove, Moves, PageMove, Where, same_where};
 use sgx_rules::entries::Entry;
 use sgx_types::names::{Frame, Memory, Page};
 use std::alloc::Global;
@@ -100,12 +100,23 @@ impl Places {
         Ok(())
     }
 
+    /// The pages that an entry may move, if it is pushed next.
+    pub fn may_move(&self, entry: &Entry) -> MayMove
+        ensures { result ≡ may_move self.now entry.now }
+    {
+        match change_by(&entry.event, self.next_va) {
+            Some(change) => self.pages(change),
+            None => MayMove::NONE,
+        }
+    }
+
     /// Takes an entry more, and tells the moves that it makes.
     pub fn push_reserved(&mut self, entry: &Entry) -> Moves
         requires room { HasRoom self.old entry.now }
         ensures stands { (past : List Entry) → Stands self.old past → Stands self.new (entry.now ∷ past) }
         ensures moves { (past : List Entry) → Stands self.old past
             → (g : Page) → moves_of result g ≡ option_to_list (moved_by past entry.now g) }
+        ensures pages { AreMovesOf result (may_move self.old entry.now) }
     {
         let change = change_by(&entry.event, self.next_va);
         self.next_va = va_after(&entry.event, self.next_va);
@@ -120,10 +131,11 @@ impl Places {
         requires room { HasRoomToMake self.old (Some change) }
         ensures makes { Makes self.old change self.new }
         ensures moves { (g : Page) → moves_of result g ≡ option_to_list (moved (place_in self.old g) (place_in self.new g)) }
+        ensures pages { AreMovesOf result (pages_in self.old change) }
     {
-        let former_page = self.page_at(change.frame());
-        let former = self.seen(former_page);
-        let named = self.seen(other_than(former_page, change.page()));
+        let pages = self.pages(change);
+        let former = self.seen(pages.former);
+        let named = self.seen(pages.named);
         self.make(change);
         Moves {
             former: self.move_of(former),
@@ -176,6 +188,17 @@ impl Places {
         if let Some(gone) = gone {
             let kept: Result<_, _> = self.gone.insert(page_key(gone.page), gone.version);
             kept.unwrap();
+        }
+    }
+
+    // The pages that a change may move.
+    fn pages(&self, change: Change) -> MayMove
+        ensures { result ≡ pages_in self.now change }
+    {
+        let former = self.page_at(change.frame());
+        MayMove {
+            former,
+            named: other_than(former, change.page()),
         }
     }
 

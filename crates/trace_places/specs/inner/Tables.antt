@@ -10,6 +10,7 @@ use Rattle.trace_places.specs.declared.change.Tenant.TheVariants.{Has, Awaits}
 use Rattle.trace_places.specs.declared.change.Gone.{Gone}
 use Rattle.trace_places.specs.declared.change.Change.{Change}
 use Rattle.trace_places.specs.declared.change.Change.TheVariants.{Puts, Empties}
+use Rattle.trace_places.specs.declared.moves.MayMove.{MayMove}
 use Rattle.trace_places.specs.declared.moves.PageMove.{PageMove}
 use Rattle.trace_places.specs.declared.moves.Where.{Where}
 use Rattle.trace_places.specs.declared.places.PageKey.{PageKey}
@@ -107,6 +108,20 @@ unless_same former g = if is_page former g then None else Some g
 abbrev pub other_than : Option Page → Option Page → Option Page
 other_than former None = None
 other_than former (Some g) = unless_same former g
+
+-- the pages that a change may move
+abbrev pub pages_in : Places → Change → MayMove
+pages_in known change =
+    let former = page_at_frame (tenant_in known (frame_changed change)) in
+    record { former = former; named = other_than former (page_named change) }
+
+abbrev pub pages_if : Places → Option Change → MayMove
+pages_if known None = record { former = None; named = None }
+pages_if known (Some change) = pages_in known change
+
+-- .. and an entry
+abbrev pub may_move : Places → Entry → MayMove
+may_move known e = pages_if known (change_by e.event known.next_va)
 
 -- a page, and where it is
 abbrev pub seen_in : Places → Option Page → Option PageMove
