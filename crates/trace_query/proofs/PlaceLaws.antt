@@ -10,8 +10,8 @@ use Rattle.trace_places.specs.declared.moves.Where.{Where}
 use Rattle.trace_places.specs.declared.moves.Where.TheVariants.{Nowhere, At, Loading, Sealed}
 use Rattle.trace_places.specs.Places.{same_where, moved, moved_by, place_of}
 use Rattle.trace_query.specs.declared.page_moves.Move.{Move}
-use Rattle.trace_query.specs.Moves.{before, moves_at, moves, at_place_from, at_place}
-use Rattle.trace_query.specs.inner.Lists.{Rises}
+use Rattle.trace_query.specs.Moves.{before, moves_at, moves}
+use Rattle.trace_query.specs.inner.Lists.{at_place_from, at_place, Rises}
 
 -- ---- places
 

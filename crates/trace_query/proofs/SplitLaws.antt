@@ -2,7 +2,7 @@
 use Rattle.std.proofs.Common.{◌≡◌, ℕ, zero, suc, ◌<◌, ◌≤◌, true, false, nat_le, List, [], ◌∷◌, length, get_or, refl, arith}
 use Rattle.trace_places.specs.declared.moves.Where.{Where}
 use Rattle.trace_query.specs.declared.page_moves.Move.{Move}
-use Rattle.trace_query.specs.Moves.{at_place_from}
+use Rattle.trace_query.specs.inner.Lists.{at_place_from}
 
 -- where all moves are later
 pub none_up_to : (first : Where) (steps : List Move) (n : ℕ) (d : Move)

@@ -1,9 +1,8 @@
 -- The moves of pages along entries, which stand newest first, and where a page was behind the first of them.
-use Rattle.std.specs.Prelude.{ℕ, ◌+◌, ◌-◌, nat_le, if◌then◌else◌, List, [], ◌∷◌, ◌++◌, length, drop, option_to_list}
+use Rattle.std.specs.Prelude.{ℕ, ◌+◌, ◌-◌, List, [], ◌∷◌, ◌++◌, length, drop, option_to_list}
 use Rattle.sgx_rules.specs.declared.entries.Entry.{Entry}
 use Rattle.sgx_types.specs.declared.names.Page.{Page}
 use Rattle.trace_places.specs.declared.moves.Where.{Where}
-use Rattle.trace_places.specs.declared.moves.Where.TheVariants.{Nowhere}
 use Rattle.trace_places.specs.Places.{moved_by}
 use Rattle.trace_query.specs.declared.page_moves.Move.{Move}
 
@@ -20,11 +19,3 @@ moves_at place (to ∷ tos) = record { place = place; to = to } ∷ moves_at pla
 abbrev pub moves : List Entry → Page → List Move
 moves [] g = []
 moves (e ∷ past) g = moves past g ++ moves_at (length past + 1) (option_to_list (moved_by past e g))
-
-abbrev pub at_place_from : Where → List Move → ℕ → Where
-at_place_from first [] n = first
-at_place_from first (step ∷ steps) n = at_place_from (if nat_le step.place n then step.to else first) steps n
-
--- where the last move up to a place led
-abbrev pub at_place : List Move → ℕ → Where
-at_place steps n = at_place_from Nowhere steps n

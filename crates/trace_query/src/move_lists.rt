@@ -3,8 +3,7 @@
 ghost use Rattle.std.specs.Prelude.{◌≡◌, ◌+◌, ◌≤◌, ◌++◌, ◌∷◌, [], ℕ, if◌then◌else◌, OnOk, IfOk, vec_len, vec_capacity};
 ghost use Rattle.sgx_types.specs.declared.names.Page.{Page};
 ghost use Rattle.sgx_types.specs.Pages.{same_page};
-ghost use Rattle.trace_query.specs.Moves.{at_place};
-ghost use Rattle.trace_query.specs.inner.Lists.{page_key, moves_in, HasList, HasRoomFor, Rises};
+ghost use Rattle.trace_query.specs.inner.Lists.{at_place, page_key, moves_in, HasList, HasRoomFor, Rises};
 
 use crate::page_moves::Move;
 use sgx_types::names::{Memory, Page};

@@ -1,9 +1,12 @@
 -- The lists of moves, by page.
-use Rattle.std.specs.Prelude.{ℕ, ◌+◌, ◌≤◌, ◌==◌, ◌&&◌, Bool, List, [], IsSome, IsSomeAnd, Option, Some, None, vec_len, vec_capacity}
+use Rattle.std.specs.Prelude.{ℕ, ◌+◌, ◌≤◌, ◌==◌, ◌&&◌, Bool, nat_le, if◌then◌else◌, List, [], ◌∷◌}
+use Rattle.std.specs.Prelude.{IsSome, IsSomeAnd, Option, Some, None, vec_len, vec_capacity}
 use Rattle.std.specs.Global.{Vec}
 use Rattle.std.specs.HashMap.{get}
 use Rattle.std.specs.List.Sorted.{IsNonDecreasingBy}
 use Rattle.sgx_types.specs.declared.names.Page.{Page}
+use Rattle.trace_places.specs.declared.moves.Where.{Where}
+use Rattle.trace_places.specs.declared.moves.Where.TheVariants.{Nowhere}
 use Rattle.trace_query.specs.declared.page_moves.Move.{Move}
 use Rattle.trace_query.specs.declared.move_lists.PageKey.{PageKey}
 use Rattle.trace_query.specs.declared.move_lists.MoveLists.{MoveLists}
@@ -37,3 +40,11 @@ HasRoomFor known g k = HasSpare (get same_key known.lists (page_key g)) k
 -- moves stand by the places at which they were made
 abbrev pub Rises : List Move → Type 0
 Rises steps = IsNonDecreasingBy (λ step. step.place) steps
+
+abbrev pub at_place_from : Where → List Move → ℕ → Where
+at_place_from first [] n = first
+at_place_from first (step ∷ steps) n = at_place_from (if nat_le step.place n then step.to else first) steps n
+
+-- where the last move up to a place led
+abbrev pub at_place : List Move → ℕ → Where
+at_place steps n = at_place_from Nowhere steps n

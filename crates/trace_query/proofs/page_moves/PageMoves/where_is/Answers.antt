@@ -1,7 +1,6 @@
 use Rattle.std.proofs.Common.{List, sym, ap, subst, ◌∙◌, arith}
 use Rattle.trace_query.specs.declared.page_moves.Move.{Move}
-use Rattle.trace_query.specs.Moves.{at_place}
-use Rattle.trace_query.specs.inner.Lists.{Rises}
+use Rattle.trace_query.specs.inner.Lists.{at_place, Rises}
 use Rattle.trace_query.proofs.PlaceLaws.{moves_rise, place_before}
 use Rattle.trace_query.proofs.page_moves.PageMoves.where_is.Goals as goal
 
