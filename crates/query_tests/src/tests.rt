@@ -1,4 +1,5 @@
 //! Tests of questions to a trace.
 
 mod done;
+mod moves;
 mod places;

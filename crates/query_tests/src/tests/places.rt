@@ -9,12 +9,12 @@ use trace_places::moves::{Moves, PageMove, Where};
 use trace_places::places::Places;
 
 // A page, and where it moved.
-type To = Option<(Page, Where)>;
+pub(super) type To = Option<(Page, Where)>;
 
 // An entry, where the page moved that its frame had, and where the page moved that it names.
-type Row = (Done, To, To);
+pub(super) type Row = (Done, To, To);
 
-const SECS: Page = Page {
+pub(super) const SECS: Page = Page {
     enclave: 1,
     number: 4_294_967_295,
 };
@@ -34,12 +34,12 @@ const VA1: Page = Page {
     number: 1,
 };
 
-const P2: Page = Page {
+pub(super) const P2: Page = Page {
     enclave: 1,
     number: 2,
 };
 
-const P8: Page = Page {
+pub(super) const P8: Page = Page {
     enclave: 1,
     number: 8,
 };
@@ -50,7 +50,7 @@ const P9: Page = Page {
 };
 
 // Two pages of each kind come, and one of each goes out; a load is refused, and one is done.
-const RIGHT: &[Row] = &[
+pub(super) const RIGHT: &[Row] = &[
     (Done::Epa(0), None, Some((VA0, Where::At(Frame(0))))),
     (Done::Create(1, 1), None, Some((SECS, Where::At(Frame(1))))),
     (Done::Add(4, P2), None, Some((P2, Where::At(Frame(4))))),
@@ -165,6 +165,9 @@ fn a_push_needs_no_memory_that_was_taken(rt: HostRuntime) -> Result<(), Fail> {
     let mut places = Box::new(alloc, Places::new(alloc))?;
     let entry = entry_of(Done::Add(4, P2));
     places.reserve(alloc, &entry)?;
+    let pages = places.may_move(&entry);
+    assert_eq!(rt; pages.former, None);
+    assert_eq!(rt; pages.named, Some(P2));
     assert_eq!(rt; places.where_is(P2), Where::Nowhere);
     places.push_reserved(&entry);
     assert_eq!(rt; places.where_is(P2), Where::At(Frame(4)));
