@@ -105,12 +105,12 @@ drop_none : (k : ℕ) → drop {A = Entry} k [] ≡ []
 drop_none zero = refl
 drop_none (suc k) = refl
 
-before_more : (e : Entry) (past : List Entry) (n : ℕ) → n ≤ length past → before n (e ∷ past) ≡ before n past
+pub before_more : (e : Entry) (past : List Entry) (n : ℕ) → n ≤ length past → before n (e ∷ past) ≡ before n past
 before_more e past n le =
     let more : length (e ∷ past) - n ≡ suc (length past - n) = omega (arith, le) in
     ap (λ k. drop k (e ∷ past)) more
 
-before_all : (past : List Entry) (n : ℕ) → length past ≤ n → before n past ≡ past
+pub before_all : (past : List Entry) (n : ℕ) → length past ≤ n → before n past ≡ past
 before_all past n le =
     let none : length past - n ≡ zero = omega (arith, le) in
     ap (λ k. drop k past) none

@@ -1,2 +1,5 @@
 pub mod Lists
 pub mod Kept
+pub mod SpanLists
+pub mod Sights
+pub mod Seen

@@ -1,0 +1,13 @@
+use Rattle.std.proofs.Common.{List, sym, ap, subst, ◌∙◌, arith}
+use Rattle.trace_query.specs.declared.span_lists.Span.{Span}
+use Rattle.trace_query.specs.inner.SpanLists.{key_of, cached_at, Rises}
+use Rattle.trace_query.proofs.SpanPlaces.{spans_rise, cached_before}
+use Rattle.trace_query.proofs.page_spans.PageSpans.caches.Goals as goal
+
+pub returns : goal.returns
+returns c = λ past f.
+    let AreRising : List Span → Type 0 = Rises in
+    let q = key_of c.args.cpu c.args.page.enclave c.args.page.number in
+    c.at.ensures (subst AreRising (sym (f.lists q)) (spans_rise past q))
+    ∙ ap (λ spans. cached_at spans c.args.n) (f.lists q)
+    ∙ cached_before past q c.args.n (omega (arith, c.requires, f.len))

@@ -1,0 +1,87 @@
+-- The lists of spans, by processor and page.
+use Rattle.std.specs.Prelude.{ℕ, ◌+◌, ◌≤◌, ◌==◌, ◌&&◌, Bool, true, false, nat_le, nat_lt, if◌then◌else◌, List, [], ◌∷◌, ◌++◌}
+use Rattle.std.specs.Prelude.{IsSome, IsSomeAnd, is_none, Option, Some, None, vec_len, vec_capacity}
+use Rattle.std.specs.Global.{Vec}
+use Rattle.std.specs.HashMap.{get}
+use Rattle.std.specs.List.Sorted.{IsNonDecreasingBy}
+use Rattle.trace_query.specs.declared.span_lists.Span.{Span}
+use Rattle.trace_query.specs.declared.span_lists.SpanKey.{SpanKey}
+use Rattle.trace_query.specs.declared.span_lists.SpanLists.{SpanLists}
+
+-- the keys are those of the same processor and page
+abbrev pub same_key : SpanKey → SpanKey → Bool
+same_key a b = (a.cpu == b.cpu) && ((a.enclave == b.enclave) && (a.number == b.number))
+
+abbrev pub key_of : ℕ → ℕ → ℕ → SpanKey
+key_of cpu enclave number = record { cpu = cpu; enclave = enclave; number = number }
+
+abbrev pub items_of : Option (Vec Span) → List Span
+items_of None = []
+items_of (Some list) = list.items
+
+-- the spans of a processor and a page: none where there is no list
+abbrev pub spans_in : SpanLists → SpanKey → List Span
+spans_in known q = items_of (get same_key known.lists q)
+
+-- there is a list, be it an empty one
+abbrev pub HasList : SpanLists → SpanKey → Type 0
+HasList known q = IsSome (get same_key known.lists q)
+
+-- a span more needs no memory
+abbrev pub HasRoomFor : SpanLists → SpanKey → Type 0
+HasRoomFor known q = IsSomeAnd (get same_key known.lists q) (λ spans. vec_len spans + 1 ≤ vec_capacity spans)
+
+-- ---- the last span
+
+-- the last span lasts
+abbrev pub lasts : List Span → Bool
+lasts [] = false
+lasts (span ∷ []) = is_none span.to
+lasts (span ∷ next ∷ spans) = lasts (next ∷ spans)
+
+abbrev pub end_by : Option ℕ → ℕ → Option ℕ
+end_by None place = Some place
+end_by (Some to) place = Some to
+
+abbrev pub ended_at : ℕ → Span → Span
+ended_at place span = record { from = span.from; to = end_by span.to place }
+
+-- the spans, of which the last ends here if it lasts
+abbrev pub ended : ℕ → List Span → List Span
+ended place [] = []
+ended place (span ∷ []) = ended_at place span ∷ []
+ended place (span ∷ next ∷ spans) = span ∷ ended place (next ∷ spans)
+
+-- a span begins
+abbrev pub begun : ℕ → List Span → List Span
+begun place spans = spans ++ record { from = place; to = None } ∷ []
+
+-- the spans of these numbers end
+abbrev pub all_ended : ℕ → ℕ → ℕ → List ℕ → SpanKey → List Span → List Span
+all_ended place cpu enclave [] q spans = spans
+all_ended place cpu enclave (n ∷ ns) q spans =
+    all_ended place cpu enclave ns q (if same_key (key_of cpu enclave n) q then ended place spans else spans)
+
+-- .. of an enclave, if it is one
+abbrev pub ended_of : Option ℕ → ℕ → ℕ → List ℕ → SpanKey → List Span → List Span
+ended_of None place p ns q before = before
+ended_of (Some enclave) place p ns q before = all_ended place p enclave ns q before
+
+-- ---- places
+
+-- spans stand by the places at which they began
+abbrev pub Rises : List Span → Type 0
+Rises spans = IsNonDecreasingBy (λ span. span.from) spans
+
+-- a span that began is not over
+abbrev pub is_before : ℕ → Option ℕ → Bool
+is_before n None = true
+is_before n (Some to) = nat_lt n to
+
+abbrev pub cached_from : Bool → List Span → ℕ → Bool
+cached_from first [] n = first
+cached_from first (span ∷ spans) n = cached_from (if nat_le span.from n then is_before n span.to else first) spans n
+
+-- the last span that began up to a place is not over there
+abbrev pub cached_at : List Span → ℕ → Bool
+cached_at spans n = cached_from false spans n

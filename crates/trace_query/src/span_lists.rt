@@ -1,0 +1,152 @@
+//! The spans in which processors cached pages, by the places at which they began and ended.
+
+ghost use Rattle.std.specs.Prelude.{◌≡◌, ◌+◌, ◌≤◌, ◌∷◌, [], ℕ, if◌then◌else◌, OnOk, vec_len, vec_capacity};
+ghost use Rattle.trace_query.specs.inner.SpanLists.{same_key, spans_in, HasList, HasRoomFor};
+ghost use Rattle.trace_query.specs.inner.SpanLists.{begun, ended, all_ended, Rises, cached_at, is_before};
+
+use sgx_types::names::Memory;
+use std::alloc::Global;
+use std::collections::HashMap;
+
+/// A processor and a page, as the key of a map.
+#[derive(Clone, Copy, Debug, PartialEq, Eq, Hash)]
+pub(crate) struct SpanKey {
+    pub cpu: u8,
+    pub enclave: u16,
+    pub number: u32,
+}
+
+/// Cached behind `from` entries, and no more behind `to`. A span that lasts has no end, but the place for it, so to end it takes no
+/// memory.
+#[derive(Clone, Copy, Debug, PartialEq, Eq)]
+pub(crate) struct Span {
+    pub from: u64,
+    pub to: Option<u64>,
+}
+
+/// For each processor and each page the spans in which the one cached the other, oldest first.
+#[derive(Drop)]
+pub(crate) struct SpanLists {
+    lists: HashMap<SpanKey, Vec<Span>>,
+}
+
+impl SpanLists {
+    /// Nothing was cached.
+    pub(crate) fn new(alloc: Global) -> SpanLists
+        ensures { (q : SpanKey) → spans_in result q ≡ [] }
+    {
+        SpanLists {
+            lists: HashMap::new(alloc),
+        }
+    }
+
+    /// Makes room for a span more.
+    pub(crate) fn reserve(&mut self, alloc: Global, key: SpanKey) -> Result<(), Memory>
+        ensures same { (q : SpanKey) → spans_in self.new q ≡ spans_in self.old q }
+        ensures room { OnOk result (HasRoomFor self.new key) }
+    {
+        self.begin(alloc, key)?;
+        if let Some(list) = self.lists.get_mut(&key) {
+            list.reserve(1)?;
+        }
+        Ok(())
+    }
+
+    // Sees to it that there is a list, be it an empty one.
+    fn begin(&mut self, alloc: Global, key: SpanKey) -> Result<(), Memory>
+        ensures same { (q : SpanKey) → spans_in self.new q ≡ spans_in self.old q }
+        ensures begun { OnOk result (HasList self.new key) }
+    {
+        if !self.lists.contains_key(&key) {
+            self.lists.insert(key, Vec::new(alloc))?;
+        }
+        Ok(())
+    }
+
+    /// A span begins.
+    pub(crate) fn open_span(&mut self, key: SpanKey, place: u64)
+        requires room { HasRoomFor self.old key }
+        ensures { (q : SpanKey) → spans_in self.new q
+            ≡ (if same_key key q then begun place (spans_in self.old q) else spans_in self.old q) }
+    {
+        if let Some(list) = self.lists.get_mut(&key) {
+            add(list, place);
+        }
+    }
+
+    /// The last span ends, if it lasts.
+    pub(crate) fn close_span(&mut self, key: SpanKey, place: u64)
+        ensures { (q : SpanKey) → spans_in self.new q
+            ≡ (if same_key key q then ended place (spans_in self.old q) else spans_in self.old q) }
+    {
+        if let Some(list) = self.lists.get_mut(&key) {
+            end(list, place);
+        }
+    }
+
+    /// The spans of these pages of an enclave end.
+    pub(crate) fn close_all(&mut self, cpu: u8, enclave: u16, numbers: &[u32], place: u64)
+        ensures { (q : SpanKey) → spans_in self.new q ≡ all_ended place cpu enclave numbers.now q (spans_in self.old q) }
+    {
+        for number in numbers {
+            self.close_span(
+                SpanKey {
+                    cpu,
+                    enclave,
+                    number: *number,
+                },
+                place,
+            );
+        }
+    }
+
+    /// Whether the processor cached the page behind so many entries.
+    pub(crate) fn at(&self, n: u64, key: SpanKey) -> bool
+        ensures { Rises (spans_in self.now key) → result ≡ cached_at (spans_in self.now key) n }
+    {
+        match self.lists.get(&key) {
+            Some(list) => is_cached(list, n),
+            None => false,
+        }
+    }
+}
+
+fn add(list: &mut Vec<Span>, place: u64)
+    requires { vec_len list.old + 1 ≤ vec_capacity list.old }
+    ensures { list.new.items ≡ begun place list.old.items }
+{
+    let kept: Result<_, _> = list.push(Span {
+        from: place,
+        to: None,
+    });
+    kept.unwrap();
+}
+
+fn end(list: &mut Vec<Span>, place: u64)
+    ensures { list.new.items ≡ ended place list.old.items }
+{
+    let count = list.len();
+    if count > 0 && list[count - 1].to.is_none() {
+        list[count - 1].to = Some(place);
+    }
+}
+
+// The spans rise by the places at which they began, so those that began up to a place stand first.
+fn is_cached(list: &[Span], n: u64) -> bool
+    ensures { Rises list.now → result ≡ cached_at list.now n }
+{
+    let count = list.partition_point(|span| span.from <= n);
+    if count == 0 {
+        return false;
+    }
+    is_before(n, list[count - 1].to)
+}
+
+fn is_before(n: u64, to: Option<u64>) -> bool
+    ensures { result ≡ is_before n to }
+{
+    match to {
+        Some(to) => n < to,
+        None => true,
+    }
+}
