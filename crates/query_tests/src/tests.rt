@@ -3,3 +3,4 @@
 mod done;
 mod moves;
 mod places;
+mod spans;
