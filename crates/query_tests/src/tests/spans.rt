@@ -86,9 +86,8 @@ fn pushed(alloc: Global) -> Result<Box<PageSpans>, Memory> {
 #[test]
 fn processors_cache_what_they_filled_inside(rt: HostRuntime) -> Result<(), Fail> {
     let known = pushed(rt.alloc())?;
-    let mut n = 0;
-    for (_, _, page, wanted) in ROWS {
-        n += 1;
+    for (place, (_, _, page, wanted)) in ROWS.iter().enumerate() {
+        let n = place as u64 + 1;
         assert!(rt; n <= known.len());
         let cpus = known.who_caches(rt.alloc(), n, *page)?;
         assert_eq!(rt; cpus.as_slice(), *wanted, "behind {n}");
