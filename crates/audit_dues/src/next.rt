@@ -110,6 +110,6 @@ fn ends_fetch(why: BusWhy, has_frame: bool) -> bool
     match why {
         BusWhy::PutFailed => true,
         BusWhy::GetFailed | BusWhy::NoRecord => has_frame,
-        BusWhy::Mac | BusWhy::Header => false,
+        BusWhy::Mac | BusWhy::Header | BusWhy::Slot => false,
     }
 }

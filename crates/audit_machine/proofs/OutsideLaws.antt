@@ -7,7 +7,7 @@ use Rattle.sgx_rules.specs.declared.entries.Event.{Event}
 use Rattle.sgx_rules.specs.declared.entries.Event.TheVariants.{Did, Refused}
 use Rattle.sgx_types.specs.declared.names.Actor.TheVariants as actors
 use Rattle.sgx_rules.specs.declared.entries.Action.{Action}
-use Rattle.sgx_rules.specs.declared.entries.Action.TheVariants.{Init, Enter, Resume, OutLoad, OutStore, Track, EwbStart, Ewb}
+use Rattle.sgx_rules.specs.declared.entries.Action.TheVariants.{Epa, Init, Enter, Resume, OutLoad, OutStore, Track, EwbStart, Ewb}
 use Rattle.sgx_rules.specs.declared.entries.Action.TheVariants.{EldStart, Eld}
 use Rattle.sgx_rules.specs.declared.entries.Answer.{Answer}
 use Rattle.sgx_types.specs.declared.names.Page.{Page}
@@ -55,6 +55,7 @@ first j past action = first_of_row (row_at (machine_of j) past actors.Reclaimer 
 
 -- the answer of each has a form that a test tells
 not_apart : (action : Action) → is_of_cpus action ≡ true → is_apart action ≡ false
+not_apart (Epa f) own = absurd cc
 not_apart (Ewb f) own = absurd cc
 not_apart (EldStart f page slot) own = absurd cc
 not_apart (Eld f) own = absurd cc

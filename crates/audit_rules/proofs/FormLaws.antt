@@ -42,7 +42,7 @@ fault_is a h = absurd cc
 -- ---- by the instruction
 
 pub has_its_form : (past : List Entry) (action : Action) (answer : Answer) → has_form action answer ≡ true → HasForm past action answer
-has_its_form past (Epa f) answer h = plain-is answer h
+has_its_form past (Epa f) answer h = absurd cc
 has_its_form past (Create enclave f base size) answer h = plain-is answer h
 has_its_form past (Add enclave number f kind perm init) answer h = plain-is answer h
 has_its_form past (Extend f chunk) answer h = plain-is answer h
@@ -69,6 +69,7 @@ has_its_form past (Eld f) answer h = absurd cc
 
 -- the instructions of which the test says nothing
 abbrev pub is_apart : Action → Bool
+is_apart (Epa f) = true
 is_apart (Ewb f) = true
 is_apart (EldStart f page slot) = true
 is_apart (Eld f) = true
@@ -76,6 +77,7 @@ is_apart _ = false
 
 pub is_of_its_form : (past : List Entry) (action : Action) (answer : Answer) → is_apart action ≡ false → HasForm past action answer
     → has_form action answer ≡ true
+is_of_its_form past (Epa f) answer apart h = absurd cc
 is_of_its_form past (Init enclave expect) answer apart h = rw h.1 refl
 is_of_its_form past (Enter enclave tcs tf sf) answer apart h = rw h.1 refl
 is_of_its_form past (Resume enclave tcs tf sf) answer apart h = rw h.1 refl

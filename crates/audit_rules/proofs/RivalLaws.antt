@@ -8,7 +8,7 @@ use Rattle.sgx_rules.specs.declared.entries.Event.{Event}
 use Rattle.sgx_rules.specs.declared.entries.Event.TheVariants.{Did, Refused}
 use Rattle.sgx_types.specs.declared.names.Actor.{Actor}
 use Rattle.sgx_rules.specs.declared.entries.Action.{Action}
-use Rattle.sgx_rules.specs.declared.entries.Action.TheVariants.{Init, Enter, Resume, Load, Xadd, Plus, Pf, OutLoad, EwbStart}
+use Rattle.sgx_rules.specs.declared.entries.Action.TheVariants.{Epa, Init, Enter, Resume, Load, Xadd, Plus, Pf, OutLoad, EwbStart}
 use Rattle.sgx_rules.specs.declared.entries.Action.TheVariants.{Ewb, EldStart}
 use Rattle.sgx_rules.specs.declared.entries.Action.TheVariants.{Eld}
 use Rattle.sgx_rules.specs.declared.entries.Answer.{Answer}
@@ -170,6 +170,7 @@ module _ (j : JobView) (past : List Entry) (actor : Actor) where
       valued _ answer right refl (rw form.1 refl) (rw (keeps.each rules.Refusal refl).1.1 refl) form script keeps other
   formed-done (Pf op off) answer right formed form script keeps other =
       valued _ answer right refl (rw form.1 refl) (rw (keeps.each rules.Refusal refl).1.1 refl) form script keeps other
+  formed-done (Epa f) answer right formed form script keeps other = absurd cc
   formed-done (Ewb f) answer right formed form script keeps other = absurd cc
   formed-done (EldStart f page slot) answer right formed form script keeps other = absurd cc
   formed-done (Eld f) answer right formed form script keeps other = absurd cc
@@ -187,6 +188,7 @@ module _ (j : JobView) (past : List Entry) (actor : Actor) where
     where
       formless : (a : Action) → is_commit a ≡ false → has_form a answer ≡ false
           → KeepsMachines j past (done a right) → HasForm past a answer → ⊥
+      formless (Epa f) none not_formed own form = other (form ∙ sym (own.each rules.Refusal refl).1)
       formless (Ewb f) none not_formed own form = absurd cc
       formless (EldStart f page slot) none not_formed own form = other (form ∙ sym (own.each rules.Refusal refl).1)
       formless (Eld f) none not_formed own form = absurd cc

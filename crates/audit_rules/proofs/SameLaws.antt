@@ -42,6 +42,7 @@ answer_same (answers.Moved page m one) (answers.Moved next n other) h =
     let q = and_parts _ _ p.1 in
     λ i. answers.Moved (same_pages page next p.0 i) (eqb-true m n q.0 i) (bytes-same one other q.1 i)
 answer_same (answers.Pf m) (answers.Pf n) h = ap answers.Pf (fault-same m n h)
+answer_same (answers.Va m) (answers.Va n) h = ap answers.Va (eqb-true m n h)
 answer_same a b h = absurd cc
 
 answer-own : (a : Answer) → same_answer a a ≡ true
@@ -54,6 +55,7 @@ answer-own (answers.Moved page m one) = and_from _ _ (same_page-refl page) (and_
 answer-own (answers.Pf faults.Absent) = refl
 answer-own (answers.Pf faults.WrongType) = refl
 answer-own (answers.Pf faults.NoPerm) = refl
+answer-own (answers.Va m) = eq-eqb m m refl
 
 -- ---- refusals
 

@@ -5,13 +5,13 @@ ghost use Rattle.audit_rules.specs.inner.Forms.{has_form, is_cssa, is_fault, is_
 
 use sgx_rules::entries::{Action, Answer};
 
-/// Whether an answer has the form that the row of an instruction gives: of one that its row alone decides, which the ends of starts and
-/// the start of ELDU are not.
+/// Whether an answer has the form that the row of an instruction gives: of one that its row alone decides, which EPA, the ends of starts
+/// and the start of ELDU are not.
 pub fn has_form(action: Action, answer: Answer) -> bool
     ensures { result ≡ has_form action answer }
 {
     match action {
-        Action::Epa { .. } => is_plain(answer),
+        Action::Epa { .. } => false,
         Action::Create { .. } => is_plain(answer),
         Action::Add { .. } => is_plain(answer),
         Action::Extend { .. } => is_plain(answer),

@@ -35,6 +35,7 @@ fn same_answer(one: Answer, other: Answer) -> bool
             },
         ) => page == next && version == then && tag == other,
         (Answer::Pf(m), Answer::Pf(n)) => m == n,
+        (Answer::Va(m), Answer::Va(n)) => m == n,
         _ => false,
     }
 }

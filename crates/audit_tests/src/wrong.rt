@@ -6,6 +6,7 @@ use sgx_types::names::Memory;
 use std::alloc::Global;
 use trace_auditor::verdict::Verdict;
 use trace_lines::lines::read_line;
+use trace_text::edition::Edition;
 
 /// A wrong trace: what it is, what is told of it, and where other entries stand in it in place of so many of the right ones.
 #[derive(Drop)]
@@ -77,7 +78,7 @@ fn cut_in(line: &str) -> Option<(usize, usize)> {
 
 fn entry_in(alloc: Global, line: &str) -> Result<Option<Entry>, Memory> {
     match line.strip_prefix("+ ") {
-        Some(text) => read_line(alloc, text.as_bytes(), &mut Vec::new(alloc)),
+        Some(text) => read_line(alloc, Edition::Two, text.as_bytes(), &mut Vec::new(alloc)),
         None => Ok(None),
     }
 }

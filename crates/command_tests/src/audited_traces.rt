@@ -14,8 +14,8 @@ load 0x2000\n\
 eexit\n";
 
 /// A trace of that job up to the end of its first reload.
-pub const BEFORE_ELD: &[u8] = b"trace 1\n\
-b epa 0\n\
+pub const BEFORE_ELD: &[u8] = b"trace 2\n\
+b epa 0 0\n\
 b create A 1 0x10000 0x10000\n\
 b add A 0 2 tcs - tcs 1 1\n\
 b add A 1 3 reg rw words 0\n\

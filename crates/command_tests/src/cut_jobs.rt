@@ -14,7 +14,7 @@ pub const CUTS: &[(usize, Status, &[u8], &[u8])] = &[
         115,
         Status::Done,
         b"A init\ncpu 0\ncssa 0\n7\n",
-        b"trace 1\nb epa 0\nb create A 1 0x10000 0x10000\nb add A 0 2 tcs - tcs 1 1\nb add A 1 3 reg rw words 0\n\
+        b"trace 2\nb epa 0 0\nb create A 1 0x10000 0x10000\nb add A 0 2 tcs - tcs 1 1\nb add A 1 3 reg rw words 0\n\
         b add A 2 4 reg rw words 7\nb init A - 006d518bbd8825da4a0e7d35d418aaf16b7749c62854a6f40d8d58db415a8c31\n\
         p0 enter A 0 2 3 0\np0 fill 2 4\np0 load 0x2000 7\np0 aex end\nend 10\n",
     ),
@@ -27,7 +27,7 @@ pub const CUTS: &[(usize, Status, &[u8], &[u8])] = &[
         109,
         Status::Done,
         b"A init\ncpu 0\ncssa 0\npf type\n",
-        b"trace 1\nb epa 0\nb create A 1 0x10000 0x10000\nb add A 0 2 tcs - tcs 1 1\nb add A 1 3 reg rw words 0\n\
+        b"trace 2\nb epa 0 0\nb create A 1 0x10000 0x10000\nb add A 0 2 tcs - tcs 1 1\nb add A 1 3 reg rw words 0\n\
         b add A 2 4 reg rw words 7\nb init A - 006d518bbd8825da4a0e7d35d418aaf16b7749c62854a6f40d8d58db415a8c31\n\
         p0 enter A 0 2 3 0\np0 pf load 0x0 type\np0 aex end\nend 9\n",
     ),
@@ -36,7 +36,7 @@ pub const CUTS: &[(usize, Status, &[u8], &[u8])] = &[
         92,
         Status::Done,
         b"A init\ncpu 0\n",
-        b"trace 1\nb epa 0\nb create A 1 0x10000 0x10000\nb add A 0 2 tcs - tcs 1 1\nb add A 1 3 reg rw words 0\n\
+        b"trace 2\nb epa 0 0\nb create A 1 0x10000 0x10000\nb add A 0 2 tcs - tcs 1 1\nb add A 1 3 reg rw words 0\n\
         b add A 2 4 reg rw words 7\nb init A - 006d518bbd8825da4a0e7d35d418aaf16b7749c62854a6f40d8d58db415a8c31\n\
         end 6\n",
     ),

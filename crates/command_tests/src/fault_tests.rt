@@ -96,7 +96,7 @@ const FAULTS: &[(Edge, usize, u64)] = &[
     (Edge::Source, 7, 19),
     (Edge::Source, 16, 9),
     (Edge::Source, 100, 3),
-    (Edge::Trace, 1, 264),
+    (Edge::Trace, 1, 266),
     (Edge::Trace, 7, 38),
     (Edge::Trace, 16, 17),
     (Edge::Out, 1, 27),

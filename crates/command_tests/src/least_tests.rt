@@ -22,59 +22,60 @@ const NUMBERS: &[u8] = b"accesses 1\nframes 4\nleast 1\nmade 0\n";
 const ROWS: &[(&[u8], Status, &[u8])] = &[
     (TRACE, Status::Done, NUMBERS),
     (
-        b"trace 1\np0 enter A 0 2 3 0\np0 load 0x1000 0\np0 load 0x2000 0\np0 store 0x3000 0\n\
+        b"trace 2\np0 enter A 0 2 3 0\np0 load 0x1000 0\np0 load 0x2000 0\np0 store 0x3000 0\n\
 p0 load 0x4000 0\np0 load 0x1ff8 0\np0 load 0x2000 0\np0 xadd 0x5000 1 0\np0 load 0x1000 0\np0 load 0x2008 0\n\
 p0 load 0x3000 0\np0 load 0x4000 0\np0 load 0x5000 1\nend 13\n",
         Status::Done,
         b"accesses 12\nframes 4\nleast 6\nmade 0\n",
     ),
     (
-        b"trace 1\np1 resume A 0 2 3 0\np1 load 0x1000 0\np1 load 0x1000 0\np1 load 0x2000 0\nend 4\n",
+        b"trace 2\np1 resume A 0 2 3 0\np1 load 0x1000 0\np1 load 0x1000 0\np1 load 0x2000 0\nend 4\n",
         Status::Done,
         b"accesses 3\nframes 4\nleast 2\nmade 0\n",
     ),
     // Outside, and refused.
     (
-        b"trace 1\np0 load 0x1000 0\np0 enter A 0 2 3 0\np0 refused load 0x1000 WrongMode\np0 exit\np0 load 0x1000 0\nend 5\n",
+        b"trace 2\np0 load 0x1000 0\np0 enter A 0 2 3 0\np0 refused load 0x1000 WrongMode\np0 exit\np0 load 0x1000 0\nend 5\n",
         Status::Done,
         b"accesses 0\nframes 4\nleast 0\nmade 0\n",
     ),
     // A page that is no REG page is not counted.
     (
-        b"trace 1\nb add A 0 2 tcs - tcs 1 1\nb add A 2 4 reg rw words 7\n\
+        b"trace 2\nb add A 0 2 tcs - tcs 1 1\nb add A 2 4 reg rw words 7\n\
 r eld 4 A 2 1 abababababababababababababababababababababababababababababababab\n\
 r eld 2 A 0 2 abababababababababababababababababababababababababababababababab\nend 4\n",
         Status::Done,
         b"accesses 0\nframes 4\nleast 0\nmade 1\n",
     ),
     (
-        b"trace 1\nend 0\n",
+        b"trace 2\nend 0\n",
         Status::Done,
         b"accesses 0\nframes 4\nleast 0\nmade 0\n",
     ),
     (b"", Status::BadTrace, b"trace line 1\n"),
-    (b"trace 2\nend 0\n", Status::BadTrace, b"trace line 1\n"),
-    (b"trace 1\r\nend 0\n", Status::BadTrace, b"trace line 1\n"),
-    (b"trace 1\n", Status::BadTrace, b"trace line 2\n"),
-    (b"trace 1\nend 0", Status::BadTrace, b"trace line 2\n"),
-    (b"trace 1\nend 1\n", Status::BadTrace, b"trace line 2\n"),
-    (b"trace 1\nend 0\n\n", Status::BadTrace, b"trace line 3\n"),
+    (b"trace 1\nend 0\n", Status::BadTrace, b"trace line 1\n"),
+    (b"trace 2\r\nend 0\n", Status::BadTrace, b"trace line 1\n"),
+    (b"trace 2\n", Status::BadTrace, b"trace line 2\n"),
+    (b"trace 2\nend 0", Status::BadTrace, b"trace line 2\n"),
+    (b"trace 2\nend 1\n", Status::BadTrace, b"trace line 2\n"),
+    (b"trace 2\nend 0\n\n", Status::BadTrace, b"trace line 3\n"),
     (
-        b"trace 1\np0 exit\n\xff\nend 1\n",
+        b"trace 2\np0 exit\n\xff\nend 1\n",
         Status::BadTrace,
         b"trace line 3\n",
     ),
     (
-        b"trace 1\np0 exit\np16 exit\nend 2\n",
+        b"trace 2\np0 exit\np16 exit\nend 2\n",
         Status::BadTrace,
         b"trace line 3\n",
     ),
 ];
 
-// Reads this job and this old trace over edges that move and fail so, and compares how that ends and what is given. The trace that a
+// Calls the program with these words, this job and this old trace over edges that move and fail so, and compares how that ends and what is given. The trace that a
 // run would give fails at its first call.
 fn tells(
     rt: &(impl Abort + Alloc<A = Global> + Threads + Wait + Sync),
+    words: &[&str],
     texts: [&[u8]; 2],
     piece: usize,
     fails: [&[u64]; 3],
@@ -84,7 +85,7 @@ fn tells(
     requires { 1 ≤ piece }
 {
     let fails = [fails[0], fails[1], fails[2], &[1]];
-    let given = given_with(rt, rt.alloc(), LEAST, texts, piece, fails)?;
+    let given = given_with(rt, rt.alloc(), words, texts, piece, fails)?;
     assert_eq!(rt; given.status, status);
     assert_eq!(rt; given.out.as_slice(), told);
     assert_eq!(rt; given.trace.is_empty(), true);
@@ -95,7 +96,15 @@ fn tells(
 fn an_old_trace_gives_its_numbers_or_its_first_faulty_line(rt: HostRuntime) -> Result<(), Fail> {
     for piece in [1, 7, 1000] {
         for (trace, status, told) in ROWS {
-            tells(&rt, [JOB, trace], piece, [&[], &[], &[]], *status, told)?;
+            tells(
+                &rt,
+                LEAST,
+                [JOB, trace],
+                piece,
+                [&[], &[], &[]],
+                *status,
+                told,
+            )?;
         }
     }
     Ok(())
@@ -138,6 +147,7 @@ fn a_fault_of_either_source_is_told(rt: HostRuntime) -> Result<(), Fail> {
     for failing in 1..=9 {
         tells(
             &rt,
+            LEAST,
             [JOB, TRACE],
             16,
             [&[failing], &[], &[]],
@@ -148,6 +158,7 @@ fn a_fault_of_either_source_is_told(rt: HostRuntime) -> Result<(), Fail> {
     for failing in 1..=18 {
         tells(
             &rt,
+            LEAST,
             [JOB, TRACE],
             16,
             [&[], &[failing], &[]],
@@ -157,6 +168,7 @@ fn a_fault_of_either_source_is_told(rt: HostRuntime) -> Result<(), Fail> {
     }
     tells(
         &rt,
+        LEAST,
         [JOB, TRACE],
         16,
         [&[10], &[19], &[]],
@@ -172,6 +184,7 @@ fn a_fault_of_the_output_cuts_the_text(rt: HostRuntime) -> Result<(), Fail> {
         let told = &NUMBERS[..given];
         tells(
             &rt,
+            LEAST,
             [JOB, TRACE],
             7,
             [&[], &[], &[failing]],
@@ -183,10 +196,44 @@ fn a_fault_of_the_output_cuts_the_text(rt: HostRuntime) -> Result<(), Fail> {
         let told = &b"trace line 1\n"[..given];
         tells(
             &rt,
+            LEAST,
             [JOB, b""],
             7,
             [&[], &[], &[failing]],
             Status::WriteFault,
+            told,
+        )?;
+    }
+    Ok(())
+}
+
+const MIGRATE: &[&str] = &["migrate", "t"];
+
+/// The trace of the job in the first edition.
+const OLD: &[u8] =
+    b"trace 1\nb epa 0\nb create A 1 0x10000 0x10000\nb add A 0 2 tcs - tcs 1 1\nb add A 1 3 reg rw words 0\n\
+b add A 2 4 reg rw words 7\nb init A - 006d518bbd8825da4a0e7d35d418aaf16b7749c62854a6f40d8d58db415a8c31\n\
+p0 enter A 0 2 3 0\np0 fill 2 4\np0 load 0x2000 7\np0 exit\nend 10\n";
+
+// Without a job, which would fail. What is given is a trace of the second edition, and no such trace is one of the first.
+const MIGRATED: &[(&[u8], &[u64], Status, &[u8])] = &[
+    (OLD, &[], Status::Done, TRACE),
+    (TRACE, &[], Status::BadTrace, b"trace line 1\n"),
+    (b"", &[], Status::BadTrace, b"trace line 1\n"),
+    (OLD, &[1], Status::WriteFault, b""),
+    (TRACE, &[2], Status::WriteFault, b"trace l"),
+];
+
+#[test]
+fn a_trace_of_the_first_edition_is_migrated(rt: HostRuntime) -> Result<(), Fail> {
+    for (old, fails, status, told) in MIGRATED {
+        tells(
+            &rt,
+            MIGRATE,
+            [b"", old],
+            7,
+            [&[1], &[], fails],
+            *status,
             told,
         )?;
     }

@@ -21,7 +21,7 @@ pub const JOB: &[u8] =
 pub const OUT: &[u8] = b"A init\ncpu 0\ncssa 0\n7\nexit\n";
 
 pub const TRACE: &[u8] =
-    b"trace 1\nb epa 0\nb create A 1 0x10000 0x10000\nb add A 0 2 tcs - tcs 1 1\nb add A 1 3 reg rw words 0\n\
+    b"trace 2\nb epa 0 0\nb create A 1 0x10000 0x10000\nb add A 0 2 tcs - tcs 1 1\nb add A 1 3 reg rw words 0\n\
     b add A 2 4 reg rw words 7\nb init A - 006d518bbd8825da4a0e7d35d418aaf16b7749c62854a6f40d8d58db415a8c31\n\
     p0 enter A 0 2 3 0\np0 fill 2 4\np0 load 0x2000 7\np0 exit\nend 10\n";
 

@@ -55,6 +55,7 @@ const NO_COMMANDS: &[&[&str]] = &[
     &["least", ""],
     &["least", "t", "t"],
     &["Least", "t"],
+    &["migrate"],
     &["gate", "0"],
     &["gate", "100001"],
     &["gate"],
@@ -122,7 +123,7 @@ const ENDINGS: &[(Status, u8, Option<&str>, Option<&str>)] = &[
         2,
         None,
         Some(
-            "usage: sgxpage run PATH | audit PATH | make NUMBER SIZE | demo NUMBER SIZE | least PATH | gate ROUNDS",
+            "usage: sgxpage run PATH | audit PATH | make NUMBER SIZE | demo NUMBER SIZE | least PATH | migrate PATH | gate ROUNDS",
         ),
     ),
     (
@@ -152,7 +153,14 @@ const ENDINGS: &[(Status, u8, Option<&str>, Option<&str>)] = &[
     (Status::Memory, 5, None, Some("sgxpage: memory was refused")),
     (Status::AuditNo, 6, None, None),
     (Status::Bus, 7, None, None),
-    (Status::BadTrace, 8, None, None),
+    (
+        Status::BadTrace,
+        8,
+        None,
+        Some(
+            "sgxpage: a trace begins `trace 2`; sgxpage migrate PATH makes such a text of one that begins `trace 1`",
+        ),
+    ),
     (Status::Spent, 9, None, None),
 ];
 

@@ -30,9 +30,10 @@ path_by name =
     if bytes_eq name (codes "run") then Some commands.Run
     else if bytes_eq name (codes "least") then Some commands.Least
     else if bytes_eq name (codes "audit") then Some commands.Audit
+    else if bytes_eq name (codes "migrate") then Some commands.Migrate
     else None
 
--- `run PATH`, `least PATH` and `audit PATH`, where PATH is any word that is not empty
+-- `run PATH`, `least PATH`, `audit PATH` and `migrate PATH`, where PATH is any word that is not empty
 abbrev pub with_path : List ℕ → List ℕ → Option Command
 with_path name path = if nat_lt 0 (length path) then path_by name else None
 

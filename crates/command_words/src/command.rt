@@ -27,6 +27,9 @@ pub enum Command {
     /// fails first.
     Audit,
 
+    /// `migrate PATH`: the text in the second edition of a trace in the first, which is the file at the path, which is not empty.
+    Migrate,
+
     /// `gate ROUNDS`: from 1 to 100,000 rounds of four processors and a pager at a gate with no lock.
     Gate { rounds: u32 },
 }
@@ -76,6 +79,8 @@ fn path_command_by(name: &str) -> Option<Command>
         Some(Command::Least)
     } else if name == "audit" {
         Some(Command::Audit)
+    } else if name == "migrate" {
+        Some(Command::Migrate)
     } else {
         None
     }

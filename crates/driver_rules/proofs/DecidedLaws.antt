@@ -209,6 +209,7 @@ reason-refl reasons.NoRecord = refl
 reason-refl reasons.PutFailed = refl
 reason-refl reasons.Mac = refl
 reason-refl reasons.Header = refl
+reason-refl reasons.Slot = refl
 
 reason-true : (a b : BusWhy) → same_reason a b ≡ true → a ≡ b
 reason-true reasons.GetFailed reasons.GetFailed h = refl
@@ -216,6 +217,7 @@ reason-true reasons.NoRecord reasons.NoRecord h = refl
 reason-true reasons.PutFailed reasons.PutFailed h = refl
 reason-true reasons.Mac reasons.Mac h = refl
 reason-true reasons.Header reasons.Header h = refl
+reason-true reasons.Slot reasons.Slot h = refl
 reason-true _ _ h = absurd (false≢true h)
 
 stop_tells : (page : Page) (reason : BusWhy) (ev : Event) → Tells (is_stop page reason ev) (ev ≡ Bus page reason)

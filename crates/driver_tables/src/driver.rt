@@ -40,11 +40,15 @@ impl Driver {
     {
         let counts = page_counts(alloc, job.enclaves())?;
         let cpus = job.scripts().len() as u8;
+        let kept = KeptRecords::new(alloc, cpus)?;
+        let states = PageStates::new(alloc, &counts)?;
+        let slots = SlotKeeper::new(alloc, job.va_pages())?;
+        let active = Active::new(alloc, &counts)?;
         Ok(Driver {
-            active: Active::new(alloc, &counts)?,
-            states: PageStates::new(alloc, &counts)?,
-            slots: SlotKeeper::new(alloc, job.va_pages())?,
-            kept: KeptRecords::new(alloc, cpus)?,
+            active,
+            states,
+            slots,
+            kept,
             marks: job.marks(),
             cpus,
             enclaves: job.enclaves().len() as u16,

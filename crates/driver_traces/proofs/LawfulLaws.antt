@@ -24,7 +24,7 @@ use Rattle.sgx_rules.specs.declared.refusals.Refusal.TheVariants as why
 use Rattle.sgx_rules.specs.Ends.{EndsIn, EndsOut, IsNotBack}
 use Rattle.sgx_rules.specs.Flat.{accepts, flat, flat_answer, is_visible}
 use Rattle.sgx_types.specs.Pages.{same_page}
-use Rattle.sgx_rules.specs.Frames.{Content, Free, Holds, IsLoading, IsVa, SecsOf, content}
+use Rattle.sgx_rules.specs.Frames.{Content, Free, Holds, IsLoading, IsVa, SecsOf, content, vas_made}
 use Rattle.sgx_rules.specs.Fresh.{FreshRule, Out, ReloadRule, last_out}
 use Rattle.sgx_types.specs.Making.{Making}
 use Rattle.sgx_rules.specs.Rules.{EndsWriteOut, EvictRule, FitsRule, FlatRule, GoesOut, HasForm, NamesFrames, RefusalRule}
@@ -110,7 +110,7 @@ ended_in past n page None opened h = absurd (false≢true h)
 ended_in past n page (Some start) opened h = record { start = start; opened = opened; loads = some_page start.loads page h }
 
 formed : (past : List Entry) (action : Action) (answer : Answer) → is_formed past action answer ≡ true → HasForm past action answer
-formed past (Epa f) answers.Plain h = refl
+formed past (Epa f) (answers.Va k) h = ap answers.Va (eqb-true k (vas_made past) h)
 formed past (Create enclave f base size) answers.Plain h = refl
 formed past (Add enclave number f kind perm init) answers.Plain h = refl
 formed past (Extend f chunk) answers.Plain h = refl

@@ -1,6 +1,6 @@
 // The rules Script, Age and Kick, and Refusal to Fresh, evaluated at whole traces with evictions; all eleven rules at entries that are
-// wrong; and what is due to each actor at places of the traces. The jobs, the traces and most of what is wrong come from a second program,
-// which follows the same rules.
+// wrong; and what is due to each actor at places of the traces. The jobs, the traces and most of what is wrong come from the reference
+// program, which follows the same rules.
 // Each function's contract is one fact, or some of one kind.
 #![tactic(auto)]
 

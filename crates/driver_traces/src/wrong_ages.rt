@@ -1,4 +1,4 @@
-//! Entries of the reclaimer that break the rule Age, and no rule before it. Another program names Age at most of them; the others are
+//! Entries of the reclaimer that break the rule Age, and no rule before it. The reference program names Age at most of them; the others are
 //! written by hand.
 
 ghost use Rattle.std.specs.Prelude.{◌≡◌, true, Some};

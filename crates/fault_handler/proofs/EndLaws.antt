@@ -257,7 +257,8 @@ module _ (made : Making) (j : JobView) (past : List Entry) (d d' : Driver) (m : 
 
 -- what ends the load that a processor has still to end is right, for whatever entries tables and machine stand for
 pub finished_is_right : (made : Making) (j : JobView) (past : List Entry) (d d' : Driver) (m : Parts) (t : State)
-    (r : Agrees made j past d m) (cpu : Cpu) (page : Page) (can : CanFinish cpu page d m) (n : ℕ) → last_of past cpu.0 ≡ Loads n page → (loaded : Loaded)
+    (r : Agrees made j past d m) (cpu : Cpu) (page : Page) (can : CanFinish cpu page d m) (n : ℕ)
+    → last_of past cpu.0 ≡ Loads n page → (loaded : Loaded)
     → IsFinished cpu page can.slot can.frame can.kept d (state_of m) loaded d' t → IsRightEnd j past cpu page can.frame loaded d'
 finished_is_right made j past d d' m t r cpu page can n last loaded is =
     end_right made j past d d' m t r cpu page can.frame can.slot loading (last ∙ ap (λ k. Loads k page) same) can.room loaded can.kept is

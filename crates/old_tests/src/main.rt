@@ -16,6 +16,7 @@ use old_trace::unread::Unread;
 use std::alloc::Global;
 use std::{env, fs, io};
 use trace_pieces::ungiven::Ungiven;
+use trace_text::edition::Edition;
 
 fn main(rt: HostRuntime) -> io::Result<()> {
     for name in env::args(&rt)?.skip(1) {
@@ -105,7 +106,7 @@ fn give(
     source: &mut MemSource,
     out: &mut MemSink,
 ) -> Result<(), Ungiven> {
-    match read_old(alloc, source) {
+    match read_old(alloc, Edition::Two, source) {
         Ok(entries) => give_least(alloc, job, &entries, out),
         Err(Unread::Bad { line }) => give_fault(alloc, out, line),
         Err(Unread::Failed | Unread::Memory) => Ok(()),
@@ -114,10 +115,10 @@ fn give(
 
 // The third call of a source fails.
 fn tell_failing(rt: &HostRuntime) -> io::Result<()> {
-    let Ok(mut source) = MemSource::new(rt.alloc(), b"trace 1\nend 0\n", 5, &[3]) else {
+    let Ok(mut source) = MemSource::new(rt.alloc(), b"trace 2\nend 0\n", 5, &[3]) else {
         return println!(rt; "no memory");
     };
-    let told = read_old(rt.alloc(), &mut source);
+    let told = read_old(rt.alloc(), Edition::Two, &mut source);
     println!(rt;
         "failing: {}, {} faults",
         told.err() == Some(Unread::Failed),
@@ -128,7 +129,7 @@ fn tell_failing(rt: &HostRuntime) -> io::Result<()> {
 // What is read of the file at a path.
 fn tell_file(rt: &HostRuntime, path: &str) -> io::Result<()> {
     let mut source = StdSource::new(OldFile::new(rt, path));
-    match read_old(rt.alloc(), &mut source) {
+    match read_old(rt.alloc(), Edition::Two, &mut source) {
         Ok(entries) => println!(rt;
             "{path}: {} entries, {} faults",
             entries.len(),

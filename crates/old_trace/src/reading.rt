@@ -16,22 +16,27 @@ use sgx_rules::entries::Entry;
 use std::alloc::Global;
 use trace_reader::reader::TraceReader;
 use trace_reader::refusals::TraceRefusal;
+use trace_text::edition::Edition;
 
 const MOST_BYTES: usize = 1 << 30;
 
 /// How many bytes are asked for in one call at most.
 const PIECE: usize = 1 << 14;
 
-/// Reads a trace to the end of its text and answers its entries, oldest first. Of more than 2^30 bytes no more than one past them is
-/// read. The text itself is not kept.
-pub fn read_old<S: Source>(alloc: Global, source: &mut S) -> Result<Vec<Entry>, Unread>
-    ensures entries { IfOk result (λ entries. OfRead (S.left source.old) (λ bytes. Reads bytes (Ok entries.items))) }
-    ensures fault { IfErr result (λ unread. IsFaultOf (S.left source.old) unread) }
+/// Reads a trace in an edition to the end of its text and answers its entries, oldest first. Of more than 2^30 bytes no more than one
+/// past them is read. The text itself is not kept.
+pub fn read_old<S: Source>(
+    alloc: Global,
+    edition: Edition,
+    source: &mut S,
+) -> Result<Vec<Entry>, Unread>
+    ensures entries { IfOk result (λ entries. OfRead (S.left source.old) (λ bytes. Reads edition bytes (Ok entries.items))) }
+    ensures fault { IfErr result (λ unread. IsFaultOf edition (S.left source.old) unread) }
     ensures reads { TakesAtMost (2 ^ 30 + 1) (S.left source.old) (S.left source.new) }
     ensures cause { HasCause (S.faults source.old) (S.faults source.new) (IsErrOf result Unread.Failed) }
 {
     let mut piece = [0u8; PIECE];
-    let mut reader = TraceReader::new(alloc);
+    let mut reader = TraceReader::new(alloc, edition);
     let mut count = 0;
     while count <= MOST_BYTES {
         let room = piece.len().min(MOST_BYTES + 1 - count);
@@ -55,7 +60,8 @@ fn read_piece<S: Source>(
     ensures bound { IfOk result (λ n. n ≤ length piece.old) }
     ensures length { length piece.new ≡ length piece.old }
     ensures read { IfOk result (λ n. HasRead (S.left source.old) (S.left source.new) (take n piece.new)) }
-    ensures seen { IfOk result (λ n. (bytes : List ℕ) → HasSeen reader.old bytes → HasSeen reader.new (bytes ++ take n piece.new)) }
+    ensures seen { IfOk result (λ n. (edition : Edition) (bytes : List ℕ) → HasSeen edition reader.old bytes
+        → HasSeen edition reader.new (bytes ++ take n piece.new)) }
     ensures at_end { IfOk result (λ n. n ≡ 0 → IfSome (S.left source.new) (λ left. left ≡ [])) }
     ensures err { OnErr result (TakesAtMost (length piece.old) (S.left source.old) (S.left source.new)) }
     ensures not_bad { (line : ℕ) → IsErrOf result (Unread.Bad line) → ⊥ }
@@ -70,10 +76,11 @@ fn read_piece<S: Source>(
 
 // The entries of the text that was read.
 fn entries_of(reader: TraceReader) -> Result<Vec<Entry>, Unread>
-    ensures entries { IfOk result (λ entries. (bytes : List ℕ) → HasSeen reader bytes
-        → length bytes ≤ 2 ^ 30 → Reads bytes (Ok entries.items)) }
-    ensures fault { (line : ℕ) → IsErrOf result (Unread.Bad line) → (bytes : List ℕ) → HasSeen reader bytes → length bytes ≤ 2 ^ 30
-        → Reads bytes (Err line) }
+    ensures entries { (edition : Edition) → IfOk result (λ entries. (bytes : List ℕ) → HasSeen edition reader bytes
+        → length bytes ≤ 2 ^ 30 → Reads edition bytes (Ok entries.items)) }
+    ensures fault { (edition : Edition) (line : ℕ) → IsErrOf result (Unread.Bad line) → (bytes : List ℕ) → HasSeen edition reader bytes
+        → length bytes ≤ 2 ^ 30
+        → Reads edition bytes (Err line) }
     ensures not_failed { IsErrOf result Unread.Failed → ⊥ }
 {
     match reader.finish() {
@@ -83,7 +90,8 @@ fn entries_of(reader: TraceReader) -> Result<Vec<Entry>, Unread>
     }
 }
 
-/// A text reads as one thing: as one list of entries, or as one faulty line.
+/// A text reads as one thing in one edition: as one list of entries, or as one faulty line.
 pub fn a_text_reads_as_one_thing()
-    ensures { (bytes : List ℕ) (one other : Result (List Entry) ℕ) → Reads bytes one → Reads bytes other → one ≡ other }
+    ensures { (edition : Edition) (bytes : List ℕ) (one other : Result (List Entry) ℕ) → Reads edition bytes one
+        → Reads edition bytes other → one ≡ other }
 {}

@@ -6,6 +6,7 @@ use Rattle.job_grammar.specs.Jobs.{JobView}
 use Rattle.trace_reader.proofs.FaultLaws.{same_text}
 use Rattle.run_history.specs.Histories.{History}
 use Rattle.run_history.proofs.HistoryLaws.{no_history}
+use Rattle.trace_text.specs.declared.edition.Edition.TheVariants as editions
 use Rattle.old_trace.specs.Reading.{OfRead}
 use Rattle.page_commands.specs.Traces.{IsRight, IsWrong}
 
@@ -15,7 +16,7 @@ right_wrong bytes old_bytes right (place, rule, wrong) =
     let both : Ok right.job ≡ Ok wrong.job = sym right.spelt ∙ wrong.spelt in
     let one_job : right.job ≡ wrong.job = cc in
     let one_trace : right.entries ≡ wrong.entries =
-    same_text right.entries wrong.entries right.reads.1 wrong.reads.1 (sym right.reads.2 ∙ wrong.reads.2)
+    same_text editions.Two right.entries wrong.entries right.reads.1 wrong.reads.1 (sym right.reads.2 ∙ wrong.reads.2)
     in
     no_history wrong.job (reverse wrong.entries) place rule wrong.is
     (subst (λ (j : JobView). History j (reverse wrong.entries)) one_job

@@ -16,6 +16,10 @@ NoFault old new = HasRisen old new → ⊥
 abbrev pub ReadsOld : Option Command → Type 0
 ReadsOld command = (command ≡ Some commands.Least) ⊎ (command ≡ Some commands.Audit)
 
+-- the command reads a trace in the first edition
+abbrev pub Migrates : Option Command → Type 0
+Migrates command = command ≡ Some commands.Migrate
+
 -- the command reads a job
 abbrev pub ReadsJob : Option Command → Type 0
 ReadsJob command = (command ≡ Some commands.Run) ⊎ ReadsOld command
@@ -58,6 +62,11 @@ IsDemoEnd status = Unit {0}
 abbrev pub IsLeastEnd : Status → Type 0
 IsLeastEnd statuses.Done = Unit {0}
 IsLeastEnd status = IsUntraced status
+
+abbrev pub IsMigrateEnd : Status → Type 0
+IsMigrateEnd statuses.Done = Unit {0}
+IsMigrateEnd statuses.BadTrace = Unit {0}
+IsMigrateEnd status = MayStandIn status
 
 abbrev pub IsAuditEnd : Status → Type 0
 IsAuditEnd statuses.Done = Unit {0}

@@ -1,4 +1,4 @@
--- What a command says of an old trace: its numbers for a job, the verdict on it, or its first faulty line.
+-- What a command says of an old trace: its numbers for a job, the verdict on it, its text in the second edition, or its first faulty line.
 use Rattle.std.specs.Prelude.{ℕ, ◌≡◌, List, Option, Ok, Err, reverse}
 use Rattle.io_edges.specs.Sinks.{followed_by, GivesPart}
 use Rattle.sgx_rules.specs.declared.entries.Entry.{Entry}
@@ -12,29 +12,33 @@ use Rattle.audit_command.specs.Verdict.TheVariants as verdicts
 use Rattle.audit_command.specs.Judged.{Judges}
 use Rattle.audit_command.specs.VerdictText.{verdict_text}
 use Rattle.least_command.specs.Fewest.{IsLeastText}
+use Rattle.trace_migrate.specs.Migrated.{numbered}
+use Rattle.trace_text.specs.declared.edition.Edition.{Edition}
+use Rattle.trace_text.specs.declared.edition.Edition.TheVariants as editions
+use Rattle.trace_text.specs.TraceText.{trace_of}
 
--- some entries have this text
-abbrev pub HasTrace : List ℕ → Type 0
-HasTrace bytes = (entries : List Entry) × Reads bytes (Ok entries)
+-- some entries have this text in an edition
+abbrev pub HasTrace : Edition → List ℕ → Type 0
+HasTrace edition bytes = (entries : List Entry) × Reads edition bytes (Ok entries)
 
 -- some line of it is faulty, or it is too long
-abbrev pub HasWrongLine : List ℕ → Type 0
-HasWrongLine bytes = (line : ℕ) × Reads bytes (Err line)
+abbrev pub HasWrongLine : Edition → List ℕ → Type 0
+HasWrongLine edition bytes = (line : ℕ) × Reads edition bytes (Err line)
 
 -- a sink got the line on the first fault of a trace
-abbrev pub LineTold : List ℕ → Option (List ℕ) → Option (List ℕ) → Type 0
-LineTold bytes out out' = (line : ℕ) × Reads bytes (Err line) × (out' ≡ followed_by out (fault_line line))
+abbrev pub LineTold : Edition → List ℕ → Option (List ℕ) → Option (List ℕ) → Type 0
+LineTold edition bytes out out' = (line : ℕ) × Reads edition bytes (Err line) × (out' ≡ followed_by out (fault_line line))
 
 -- .. or a proper front of it
-abbrev pub HalfLineTold : List ℕ → Option (List ℕ) → Option (List ℕ) → Type 0
-HalfLineTold bytes out out' = (line : ℕ) × Reads bytes (Err line) × GivesPart out out' (fault_line line)
+abbrev pub HalfLineTold : Edition → List ℕ → Option (List ℕ) → Option (List ℕ) → Type 0
+HalfLineTold edition bytes out out' = (line : ℕ) × Reads edition bytes (Err line) × GivesPart out out' (fault_line line)
 
 -- the first bytes spell a job and the others a trace, whose entries stand oldest first, and something was given of the text of its numbers
 pub record LeastBy (bytes old_bytes : List ℕ) (Given : List ℕ → Type 0) : Type 0 where
   pub job : JobView
   pub spelt : read bytes ≡ Ok job
   pub entries : List Entry
-  pub reads : Reads old_bytes (Ok entries)
+  pub reads : Reads editions.Two old_bytes (Ok entries)
   pub text : List ℕ
   pub tells : IsLeastText job (reverse entries) text
   pub given : Given text
@@ -44,7 +48,7 @@ pub record TracedBy (bytes old_bytes : List ℕ) (Is : JobView → List Entry �
   pub job : JobView
   pub spelt : read bytes ≡ Ok job
   pub entries : List Entry
-  pub reads : Reads old_bytes (Ok entries)
+  pub reads : Reads editions.Two old_bytes (Ok entries)
   pub is : Is job (reverse entries)
 
 -- the trace is a history of the job
@@ -75,3 +79,10 @@ pub record HalfJudged (bytes old_bytes : List ℕ) (out out' : Option (List ℕ)
   pub verdict : Verdict
   pub judged : TracedBy bytes old_bytes (λ j whole. Judges j whole verdict)
   pub told : GivesPart out out' (verdict_text verdict)
+
+-- the bytes spell a trace in the first edition, and something was given of the text in the second of its entries, whose version array
+-- pages are numbered
+pub record MigratedBy (old_bytes : List ℕ) (Given : List ℕ → Type 0) : Type 0 where
+  pub entries : List Entry
+  pub reads : Reads editions.One old_bytes (Ok entries)
+  pub given : Given (trace_of (numbered (reverse entries)))

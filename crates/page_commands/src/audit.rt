@@ -17,6 +17,7 @@ use io_edges::sinks::Sink;
 use io_edges::sources::Source;
 use std::alloc::Global;
 use trace_pieces::ungiven::Ungiven;
+use trace_text::edition::Edition;
 
 /// Reads a job and then an old trace, whoever made it, and gives the verdict: `yes` where the trace is a history of the job, and else the
 /// first place at which a rule fails, and that rule. Where either text is none, `out` gets the line on that.
@@ -45,11 +46,11 @@ pub(crate) fn audit_command<J: Source, O: Source, K: Sink>(
     ensures bad_job { result ≡ Status.BadJob →
         OfRead (J.left job.old) (λ bytes. Told bytes (K.given out.old) (K.given out.new)) × (old.new ≡ old.old) }
     ensures bad_trace { result ≡ Status.BadTrace →
-        OfRead (J.left job.old) HasJob × OfRead (O.left old.old) (λ bytes. LineTold bytes (K.given out.old) (K.given out.new)) }
+        OfRead (J.left job.old) HasJob × OfRead (O.left old.old) (λ bytes. LineTold Edition.Two bytes (K.given out.old) (K.given out.new)) }
     ensures no_job { IsSomeAnd (J.left job.old) HasFault → (result ≡ Status.BadJob) ⊎ MayStandIn result }
-    ensures no_trace { IsSomeAnd (J.left job.old) HasJob → IsSomeAnd (O.left old.old) HasWrongLine →
+    ensures no_trace { IsSomeAnd (J.left job.old) HasJob → IsSomeAnd (O.left old.old) (HasWrongLine Edition.Two) →
         (result ≡ Status.BadTrace) ⊎ MayStandIn result }
-    ensures complete { IsSomeAnd (J.left job.old) HasJob → IsSomeAnd (O.left old.old) HasTrace →
+    ensures complete { IsSomeAnd (J.left job.old) HasJob → IsSomeAnd (O.left old.old) (HasTrace Edition.Two) →
         NoFault (J.faults job.old) (J.faults job.new) →
         NoFault (O.faults old.old) (O.faults old.new) →
         NoFault (K.faults out.old) (K.faults out.new) →
@@ -58,7 +59,8 @@ pub(crate) fn audit_command<J: Source, O: Source, K: Sink>(
     ensures write_fault { result ≡ Status.WriteFault → HasRisen (K.faults out.old) (K.faults out.new) }
     ensures broke { result ≡ Status.WriteFault →
         OfRead (J.left job.old) (λ bytes. HalfTold bytes (K.given out.old) (K.given out.new)) × (old.new ≡ old.old)
-        ⊎ OfRead (J.left job.old) HasJob × OfRead (O.left old.old) (λ bytes. HalfLineTold bytes (K.given out.old) (K.given out.new))
+        ⊎ OfRead (J.left job.old) HasJob × OfRead (O.left old.old)
+        (λ bytes. HalfLineTold Edition.Two bytes (K.given out.old) (K.given out.new))
         ⊎ OfRead (J.left job.old) (λ bytes. OfRead (O.left old.old) (λ old_bytes.
         HalfJudged bytes old_bytes (K.given out.old) (K.given out.new))) }
     ensures memory { result ≡ Status.Memory → out.new ≡ out.old }

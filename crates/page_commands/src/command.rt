@@ -12,12 +12,12 @@ ghost use Rattle.job_make.specs.MadeJob.{made_job};
 ghost use Rattle.job_print.specs.JobText.{job_text};
 ghost use Rattle.run_summary.specs.Summary.{summary_of};
 ghost use Rattle.old_trace.specs.Reading.{OfRead};
-ghost use Rattle.page_commands.specs.Commands.{HasEnded, IsAuditEnd, IsDemoEnd, IsLeastEnd, MayStandIn, NoFault, ReadsJob};
-ghost use Rattle.page_commands.specs.Commands.{ReadsOld};
+ghost use Rattle.page_commands.specs.Commands.{HasEnded, IsAuditEnd, IsDemoEnd, IsLeastEnd, IsMigrateEnd, MayStandIn, Migrates};
+ghost use Rattle.page_commands.specs.Commands.{NoFault, ReadsJob, ReadsOld};
 ghost use Rattle.page_commands.specs.Commands.{status_of};
 ghost use Rattle.page_commands.specs.Runs.{BothGiven, DemoBy, HalfGiven, HalfTold, HasFault, HasJob, IsTextGiven, RanBy, Told};
 ghost use Rattle.page_commands.specs.Traces.{HalfJudged, HalfLineTold, HasTrace, HasWrongLine, IsRight, IsWrong, LeastBy};
-ghost use Rattle.page_commands.specs.Traces.{LineTold, NoTold};
+ghost use Rattle.page_commands.specs.Traces.{LineTold, MigratedBy, NoTold};
 ghost use Rattle.page_commands.specs.Traces.{YesTold};
 ghost use Rattle.run_jobs.specs.declared.ends.End.{End};
 
@@ -26,6 +26,7 @@ use crate::ended::{Ended, unrun};
 use crate::gates::rounds_command;
 use crate::least::least_command;
 use crate::making::{demo_command, make_command};
+use crate::migrate::migrate_command;
 use crate::running::run_command;
 use crate::status::Status;
 use backing_store::backing::Backing;
@@ -35,6 +36,7 @@ use io_edges::sources::Source;
 use std::alloc::Global;
 use std::sync::Wait;
 use std::thread::Threads;
+use trace_text::edition::Edition;
 use turn_gate::gate::Gate;
 
 /// Does what the words of the command line say, which stand without the program's name.
@@ -52,6 +54,9 @@ use turn_gate::gate::Gate;
 ///
 /// `audit PATH` reads the same two, whoever made the trace, and gives to `out` the verdict: `yes` where the trace is a history of the job,
 /// and else the first place at which a rule fails, and that rule.
+///
+/// `migrate PATH` reads a trace in the first edition from `old`, without a job, and gives to `out` the text of its entries in the second,
+/// whose version array pages are numbered. The other commands read and write the second edition alone.
 ///
 /// Other words are no command, and then nothing is read or written. `gate`, which is another, is told of each turn of a run. A run whose
 /// store fails for ever may not return.
@@ -81,12 +86,14 @@ pub fn sgxpage<
 
     ensures reads { TakesAtMost (2 ^ 24 + 1) (J.left job.old) (J.left job.new) }
     ensures reads_old { TakesAtMost (2 ^ 30 + 1) (O.left old.old) (O.left old.new) }
-    // An old trace is read by its commands alone, and behind a job.
-    ensures behind { ReadsOld (command_in (map string_bytes words.now)) × OfRead (J.left job.old) HasJob ⊎ (old.new ≡ old.old) }
+    // An old trace is read by its commands alone, and behind a job but for `migrate`.
+    ensures behind { ReadsOld (command_in (map string_bytes words.now)) × OfRead (J.left job.old) HasJob
+        ⊎ Migrates (command_in (map string_bytes words.now)) ⊎ (old.new ≡ old.old) }
     ensures read_fault { result.status ≡ Status.ReadFault →
         (HasRisen (J.faults job.old) (J.faults job.new) × (old.new ≡ old.old)
         ⊎ ReadsOld (command_in (map string_bytes words.now)) × OfRead (J.left job.old) HasJob
-        × HasRisen (O.faults old.old) (O.faults old.new))
+        × HasRisen (O.faults old.old) (O.faults old.new)
+        ⊎ Migrates (command_in (map string_bytes words.now)) × HasRisen (O.faults old.old) (O.faults old.new))
         × (out.new ≡ out.old) × (trace.new ≡ trace.old) × (result.store ≡ None) }
 
     ensures bad_job { result.status ≡ Status.BadJob →
@@ -96,11 +103,13 @@ pub fn sgxpage<
         (result.status ≡ Status.BadJob) ⊎ MayStandIn result.status }
 
     ensures bad_trace { result.status ≡ Status.BadTrace →
-        ReadsOld (command_in (map string_bytes words.now)) × OfRead (J.left job.old) HasJob
-        × OfRead (O.left old.old) (λ bytes. LineTold bytes (K.given out.old) (K.given out.new))
+        (ReadsOld (command_in (map string_bytes words.now)) × OfRead (J.left job.old) HasJob
+        × OfRead (O.left old.old) (λ bytes. LineTold Edition.Two bytes (K.given out.old) (K.given out.new))
+        ⊎ Migrates (command_in (map string_bytes words.now))
+        × OfRead (O.left old.old) (λ bytes. LineTold Edition.One bytes (K.given out.old) (K.given out.new)))
         × (trace.new ≡ trace.old) × (result.store ≡ None) }
     ensures no_trace { ReadsOld (command_in (map string_bytes words.now)) → IsSomeAnd (J.left job.old) HasJob →
-        IsSomeAnd (O.left old.old) HasWrongLine → (result.status ≡ Status.BadTrace) ⊎ MayStandIn result.status }
+        IsSomeAnd (O.left old.old) (HasWrongLine Edition.Two) → (result.status ≡ Status.BadTrace) ⊎ MayStandIn result.status }
 
     // Whatever the store gave: a whole run of the job, with its texts, that ended as the status says.
     ensures ran { command_in (map string_bytes words.now) ≡ Some commands.Run → (end : End) → result.status ≡ status_of end →
@@ -142,14 +151,15 @@ pub fn sgxpage<
         OfRead (J.left job.old) (λ bytes. OfRead (O.left old.old) (λ old_bytes.
         LeastBy bytes old_bytes (λ text. K.given out.new ≡ followed_by (K.given out.old) text))) }
     ensures least_complete { command_in (map string_bytes words.now) ≡ Some commands.Least →
-        IsSomeAnd (J.left job.old) HasJob → IsSomeAnd (O.left old.old) HasTrace →
+        IsSomeAnd (J.left job.old) HasJob → IsSomeAnd (O.left old.old) (HasTrace Edition.Two) →
         NoFault (J.faults job.old) (J.faults job.new) →
         NoFault (O.faults old.old) (O.faults old.new) →
         NoFault (K.faults out.old) (K.faults out.new) →
         (result.status ≡ Status.Done) ⊎ (result.status ≡ Status.Memory) }
     ensures least_broke { command_in (map string_bytes words.now) ≡ Some commands.Least → result.status ≡ Status.WriteFault →
         OfRead (J.left job.old) (λ bytes. HalfTold bytes (K.given out.old) (K.given out.new)) × (old.new ≡ old.old)
-        ⊎ OfRead (J.left job.old) HasJob × OfRead (O.left old.old) (λ bytes. HalfLineTold bytes (K.given out.old) (K.given out.new))
+        ⊎ OfRead (J.left job.old) HasJob × OfRead (O.left old.old)
+        (λ bytes. HalfLineTold Edition.Two bytes (K.given out.old) (K.given out.new))
         ⊎ OfRead (J.left job.old) (λ bytes. OfRead (O.left old.old) (λ old_bytes.
         LeastBy bytes old_bytes (λ text. GivesPart (K.given out.old) (K.given out.new) text))) }
     ensures least_else { command_in (map string_bytes words.now) ≡ Some commands.Least →
@@ -169,18 +179,35 @@ pub fn sgxpage<
     ensures audit_wrong { command_in (map string_bytes words.now) ≡ Some commands.Audit →
         IsSomeAnd (J.left job.old) (λ bytes. IsSomeAnd (O.left old.old) (IsWrong bytes)) → result.status ≡ Status.Done → ⊥ }
     ensures audit_complete { command_in (map string_bytes words.now) ≡ Some commands.Audit →
-        IsSomeAnd (J.left job.old) HasJob → IsSomeAnd (O.left old.old) HasTrace →
+        IsSomeAnd (J.left job.old) HasJob → IsSomeAnd (O.left old.old) (HasTrace Edition.Two) →
         NoFault (J.faults job.old) (J.faults job.new) →
         NoFault (O.faults old.old) (O.faults old.new) →
         NoFault (K.faults out.old) (K.faults out.new) →
         (result.status ≡ Status.Done) ⊎ (result.status ≡ Status.AuditNo) ⊎ (result.status ≡ Status.Memory) }
     ensures audit_broke { command_in (map string_bytes words.now) ≡ Some commands.Audit → result.status ≡ Status.WriteFault →
         OfRead (J.left job.old) (λ bytes. HalfTold bytes (K.given out.old) (K.given out.new)) × (old.new ≡ old.old)
-        ⊎ OfRead (J.left job.old) HasJob × OfRead (O.left old.old) (λ bytes. HalfLineTold bytes (K.given out.old) (K.given out.new))
+        ⊎ OfRead (J.left job.old) HasJob × OfRead (O.left old.old)
+        (λ bytes. HalfLineTold Edition.Two bytes (K.given out.old) (K.given out.new))
         ⊎ OfRead (J.left job.old) (λ bytes. OfRead (O.left old.old) (λ old_bytes.
         HalfJudged bytes old_bytes (K.given out.old) (K.given out.new))) }
     ensures audit_else { command_in (map string_bytes words.now) ≡ Some commands.Audit →
         IsAuditEnd result.status × (trace.new ≡ trace.old) × (result.store ≡ None) }
+
+    // The old trace of the first edition in the second.
+    ensures migrate { Migrates (command_in (map string_bytes words.now)) → result.status ≡ Status.Done →
+        OfRead (O.left old.old) (λ bytes. MigratedBy bytes (λ text. K.given out.new ≡ followed_by (K.given out.old) text)) }
+    ensures migrate_no_trace { Migrates (command_in (map string_bytes words.now)) →
+        IsSomeAnd (O.left old.old) (HasWrongLine Edition.One) → (result.status ≡ Status.BadTrace) ⊎ MayStandIn result.status }
+    ensures migrate_complete { Migrates (command_in (map string_bytes words.now)) →
+        IsSomeAnd (O.left old.old) (HasTrace Edition.One) →
+        NoFault (O.faults old.old) (O.faults old.new) →
+        NoFault (K.faults out.old) (K.faults out.new) →
+        (result.status ≡ Status.Done) ⊎ (result.status ≡ Status.Memory) }
+    ensures migrate_broke { Migrates (command_in (map string_bytes words.now)) → result.status ≡ Status.WriteFault →
+        OfRead (O.left old.old) (λ bytes. HalfLineTold Edition.One bytes (K.given out.old) (K.given out.new))
+        ⊎ OfRead (O.left old.old) (λ bytes. MigratedBy bytes (λ text. GivesPart (K.given out.old) (K.given out.new) text)) }
+    ensures migrate_else { Migrates (command_in (map string_bytes words.now)) →
+        IsMigrateEnd result.status × (job.new ≡ job.old) × (trace.new ≡ trace.old) × (result.store ≡ None) }
 
     ensures demo { (number size : ℕ) → command_in (map string_bytes words.now) ≡ Some (commands.Demo number size) →
         (end : End) → result.status ≡ status_of end → IsSomeAnd result.store (λ store.
@@ -202,6 +229,7 @@ pub fn sgxpage<
         ),
         Some(Command::Least) => unrun(least_command(alloc, job, old, out)),
         Some(Command::Audit) => unrun(audit_command(alloc, job, old, out)),
+        Some(Command::Migrate) => unrun(migrate_command(alloc, old, out)),
         Some(Command::Gate { rounds }) => unrun(rounds_command(rt, alloc, rounds, out)),
     }
 }

@@ -4,11 +4,11 @@ use crate::status::Status;
 use std::io::{self, Eprint};
 
 /// One line on why a command was not carried out, with the path of the trace where that is what could not be read or written. Nothing
-/// is told where the output and the status tell all: of a run that came to its end, of a verdict, and of a job or a trace that is none.
+/// is told where the output and the status tell all: of a run that came to its end, of a verdict, and of a job that is none.
 pub fn complain(to: &impl Eprint, status: Status, failed: Option<&str>) -> io::Result<()> {
     match (status, failed) {
         (Status::BadWords, _) => eprintln!(to;
-            "usage: sgxpage run PATH | audit PATH | make NUMBER SIZE | demo NUMBER SIZE | least PATH | gate ROUNDS"
+            "usage: sgxpage run PATH | audit PATH | make NUMBER SIZE | demo NUMBER SIZE | least PATH | migrate PATH | gate ROUNDS"
         ),
         (Status::ReadFault, Some(path)) => eprintln!(to; "sgxpage: cannot read the trace: {path}"),
         (Status::ReadFault, None) => eprintln!(to;
@@ -19,14 +19,11 @@ pub fn complain(to: &impl Eprint, status: Status, failed: Option<&str>) -> io::R
         ),
         (Status::WriteFault, None) => eprintln!(to; "sgxpage: cannot write to standard output"),
         (Status::Memory, _) => eprintln!(to; "sgxpage: memory was refused"),
-        (
-            Status::Done
-            | Status::BadJob
-            | Status::AuditNo
-            | Status::Bus
-            | Status::BadTrace
-            | Status::Spent,
-            _,
-        ) => Ok(()),
+        (Status::BadTrace, _) => eprintln!(to;
+            "sgxpage: a trace begins `trace 2`; sgxpage migrate PATH makes such a text of one that begins `trace 1`"
+        ),
+        (Status::Done | Status::BadJob | Status::AuditNo | Status::Bus | Status::Spent, _) => Ok(
+            (),
+        ),
     }
 }

@@ -16,6 +16,7 @@ use io_edges::sources::Source;
 use least_command::giving::give_least;
 use std::alloc::Global;
 use trace_pieces::ungiven::Ungiven;
+use trace_text::edition::Edition;
 
 /// Reads a job and then an old trace, and gives how many accesses the trace has, how many frames the job leaves for them, the fewest
 /// loads for these, and how many reloads were made. Where either text is none, `out` gets the line on that.
@@ -39,11 +40,11 @@ pub(crate) fn least_command<J: Source, O: Source, K: Sink>(
     ensures bad_job { result ≡ Status.BadJob →
         OfRead (J.left job.old) (λ bytes. Told bytes (K.given out.old) (K.given out.new)) × (old.new ≡ old.old) }
     ensures bad_trace { result ≡ Status.BadTrace →
-        OfRead (J.left job.old) HasJob × OfRead (O.left old.old) (λ bytes. LineTold bytes (K.given out.old) (K.given out.new)) }
+        OfRead (J.left job.old) HasJob × OfRead (O.left old.old) (λ bytes. LineTold Edition.Two bytes (K.given out.old) (K.given out.new)) }
     ensures no_job { IsSomeAnd (J.left job.old) HasFault → (result ≡ Status.BadJob) ⊎ MayStandIn result }
-    ensures no_trace { IsSomeAnd (J.left job.old) HasJob → IsSomeAnd (O.left old.old) HasWrongLine →
+    ensures no_trace { IsSomeAnd (J.left job.old) HasJob → IsSomeAnd (O.left old.old) (HasWrongLine Edition.Two) →
         (result ≡ Status.BadTrace) ⊎ MayStandIn result }
-    ensures complete { IsSomeAnd (J.left job.old) HasJob → IsSomeAnd (O.left old.old) HasTrace →
+    ensures complete { IsSomeAnd (J.left job.old) HasJob → IsSomeAnd (O.left old.old) (HasTrace Edition.Two) →
         NoFault (J.faults job.old) (J.faults job.new) →
         NoFault (O.faults old.old) (O.faults old.new) →
         NoFault (K.faults out.old) (K.faults out.new) →
@@ -52,7 +53,8 @@ pub(crate) fn least_command<J: Source, O: Source, K: Sink>(
     ensures write_fault { result ≡ Status.WriteFault → HasRisen (K.faults out.old) (K.faults out.new) }
     ensures broke { result ≡ Status.WriteFault →
         OfRead (J.left job.old) (λ bytes. HalfTold bytes (K.given out.old) (K.given out.new)) × (old.new ≡ old.old)
-        ⊎ OfRead (J.left job.old) HasJob × OfRead (O.left old.old) (λ bytes. HalfLineTold bytes (K.given out.old) (K.given out.new))
+        ⊎ OfRead (J.left job.old) HasJob × OfRead (O.left old.old)
+        (λ bytes. HalfLineTold Edition.Two bytes (K.given out.old) (K.given out.new))
         ⊎ OfRead (J.left job.old) (λ bytes. OfRead (O.left old.old) (λ old_bytes.
         LeastBy bytes old_bytes (λ text. GivesPart (K.given out.old) (K.given out.new) text))) }
     ensures memory { result ≡ Status.Memory → out.new ≡ out.old }

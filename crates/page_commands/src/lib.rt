@@ -10,6 +10,7 @@ mod gates;
 mod jobs;
 mod least;
 mod making;
+mod migrate;
 mod running;
 pub mod status;
 mod traces;

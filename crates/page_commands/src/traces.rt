@@ -22,6 +22,7 @@ use old_trace::unread::Unread;
 use sgx_rules::entries::Entry;
 use std::alloc::Global;
 use trace_pieces::ungiven::Ungiven;
+use trace_text::edition::Edition;
 
 /// A job, and the entries of an old trace, oldest first.
 #[derive(Drop)]
@@ -44,7 +45,7 @@ pub(crate) fn read_traced<J: Source, O: Source, K: Sink>(
     ensures behind { OfRead (J.left job.old) HasJob ⊎ (old.new ≡ old.old) }
 
     ensures job { IfOk result (λ traced. OfRead (J.left job.old) (λ bytes. read bytes ≡ Ok traced.job)) }
-    ensures entries { IfOk result (λ traced. OfRead (O.left old.old) (λ bytes. Reads bytes (Ok traced.entries.items))) }
+    ensures entries { IfOk result (λ traced. OfRead (O.left old.old) (λ bytes. Reads Edition.Two bytes (Ok traced.entries.items))) }
     ensures untold { OnOk result (out.new ≡ out.old) }
 
     ensures read_fault { IsErrOf result Status.ReadFault →
@@ -53,13 +54,13 @@ pub(crate) fn read_traced<J: Source, O: Source, K: Sink>(
     ensures bad_job { IsErrOf result Status.BadJob →
         OfRead (J.left job.old) (λ bytes. Told bytes (K.given out.old) (K.given out.new)) × (old.new ≡ old.old) }
     ensures bad_trace { IsErrOf result Status.BadTrace →
-        OfRead (J.left job.old) HasJob × OfRead (O.left old.old) (λ bytes. LineTold bytes (K.given out.old) (K.given out.new)) }
+        OfRead (J.left job.old) HasJob × OfRead (O.left old.old) (λ bytes. LineTold Edition.Two bytes (K.given out.old) (K.given out.new)) }
     ensures no_job { IsSomeAnd (J.left job.old) HasFault →
         IsErrAnd result (λ status. (status ≡ Status.BadJob) ⊎ MayStandIn status) }
-    ensures no_trace { IsSomeAnd (J.left job.old) HasJob → IsSomeAnd (O.left old.old) HasWrongLine →
+    ensures no_trace { IsSomeAnd (J.left job.old) HasJob → IsSomeAnd (O.left old.old) (HasWrongLine Edition.Two) →
         IsErrAnd result (λ status. (status ≡ Status.BadTrace) ⊎ MayStandIn status) }
     // What is read without a fault is read, unless memory is refused.
-    ensures complete { IsSomeAnd (J.left job.old) HasJob → IsSomeAnd (O.left old.old) HasTrace →
+    ensures complete { IsSomeAnd (J.left job.old) HasJob → IsSomeAnd (O.left old.old) (HasTrace Edition.Two) →
         NoFault (J.faults job.old) (J.faults job.new) →
         NoFault (O.faults old.old) (O.faults old.new) →
         IfErr result (λ status. status ≡ Status.Memory) }
@@ -67,39 +68,41 @@ pub(crate) fn read_traced<J: Source, O: Source, K: Sink>(
     ensures write_fault { IsErrOf result Status.WriteFault → HasRisen (K.faults out.old) (K.faults out.new) }
     ensures broke { IsErrOf result Status.WriteFault →
         OfRead (J.left job.old) (λ bytes. HalfTold bytes (K.given out.old) (K.given out.new)) × (old.new ≡ old.old)
-        ⊎ OfRead (J.left job.old) HasJob × OfRead (O.left old.old) (λ bytes. HalfLineTold bytes (K.given out.old) (K.given out.new)) }
+        ⊎ OfRead (J.left job.old) HasJob × OfRead (O.left old.old)
+        (λ bytes. HalfLineTold Edition.Two bytes (K.given out.old) (K.given out.new)) }
     ensures memory { IsErrOf result Status.Memory → out.new ≡ out.old }
 {
     let job = match read(alloc, job) {
         Ok(job) => job,
         Err(unread) => return Err(tell(alloc, out, unread)),
     };
-    let entries = read_entries(alloc, old, out)?;
+    let entries = read_entries(alloc, Edition::Two, old, out)?;
     Ok(Traced { job, entries })
 }
 
-// Reads an old trace. Where its text is none, `out` gets the line on that.
-fn read_entries<O: Source, K: Sink>(
+/// Reads an old trace in an edition. Where its text is none, `out` gets the line on that.
+pub(crate) fn read_entries<O: Source, K: Sink>(
     alloc: Global,
+    edition: Edition,
     old: &mut O,
     out: &mut K,
 ) -> Result<Vec<Entry>, Status>
     ensures kind { IfErr result (λ status. (status ≡ Status.BadTrace) ⊎ MayStandIn status) }
     ensures reads { TakesAtMost (2 ^ 30 + 1) (O.left old.old) (O.left old.new) }
-    ensures entries { IfOk result (λ entries. OfRead (O.left old.old) (λ bytes. Reads bytes (Ok entries.items))) }
+    ensures entries { IfOk result (λ entries. OfRead (O.left old.old) (λ bytes. Reads edition bytes (Ok entries.items))) }
     ensures untold { OnOk result (out.new ≡ out.old) }
     ensures read_fault { IsErrOf result Status.ReadFault → HasRisen (O.faults old.old) (O.faults old.new) × (out.new ≡ out.old) }
     ensures bad_trace { IsErrOf result Status.BadTrace →
-        OfRead (O.left old.old) (λ bytes. LineTold bytes (K.given out.old) (K.given out.new)) }
-    ensures no_trace { IsSomeAnd (O.left old.old) HasWrongLine → IsErr result }
-    ensures complete { IsSomeAnd (O.left old.old) HasTrace → NoFault (O.faults old.old) (O.faults old.new) →
+        OfRead (O.left old.old) (λ bytes. LineTold edition bytes (K.given out.old) (K.given out.new)) }
+    ensures no_trace { IsSomeAnd (O.left old.old) (HasWrongLine edition) → IsErr result }
+    ensures complete { IsSomeAnd (O.left old.old) (HasTrace edition) → NoFault (O.faults old.old) (O.faults old.new) →
         IfErr result (λ status. status ≡ Status.Memory) }
     ensures write_fault { IsErrOf result Status.WriteFault → HasRisen (K.faults out.old) (K.faults out.new) }
     ensures broke { IsErrOf result Status.WriteFault →
-        OfRead (O.left old.old) (λ bytes. HalfLineTold bytes (K.given out.old) (K.given out.new)) }
+        OfRead (O.left old.old) (λ bytes. HalfLineTold edition bytes (K.given out.old) (K.given out.new)) }
     ensures memory { IsErrOf result Status.Memory → out.new ≡ out.old }
 {
-    match read_old(alloc, old) {
+    match read_old(alloc, edition, old) {
         Ok(entries) => Ok(entries),
         Err(Unread::Bad { line }) => Err(tell_line(alloc, out, line)),
         Err(Unread::Failed) => Err(Status::ReadFault),

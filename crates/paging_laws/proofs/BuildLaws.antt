@@ -6,7 +6,7 @@ use Rattle.std.proofs.lemmas.Bool.{cond_both, false≢true}
 use Rattle.sgx_rules.specs.declared.entries.Entry.{Entry}
 use Rattle.sgx_types.specs.declared.names.Actor.{Actor}
 use Rattle.sgx_rules.specs.declared.entries.Action.TheVariants.{Epa, Create, Add, Init}
-use Rattle.sgx_rules.specs.declared.entries.Answer.TheVariants.{Plain, Hash}
+use Rattle.sgx_rules.specs.declared.entries.Answer.TheVariants.{Plain, Hash, Va}
 use Rattle.sgx_types.specs.declared.lawful.PageInit.{PageInit}
 use Rattle.sgx_types.specs.declared.names.Frame.{Frame}
 use Rattle.sgx_types.specs.declared.names.Page.{Page}
@@ -36,6 +36,7 @@ use Rattle.paging_laws.proofs.MeasureLaws.{begins, goes_on, stays}
 use Rattle.paging_laws.proofs.SoundLaws.{sound-put}
 use Rattle.paging_laws.proofs.WordLaws.{length-first_words}
 use Rattle.paging_laws.specs.inner.Steps.{did_by}
+use Rattle.paging_laws.specs.inner.Columns.{EnclaveColumns}
 use Rattle.paging_laws.proofs.NextEntry.{BringsDone}
 use Rattle.paging_laws.proofs.ColumnLaws.{added_flat, enclave_flat}
 
@@ -52,12 +53,12 @@ words_put content words m f c none h n g kind perm =
 -- ---- epa
 
 pub epa_brings : (s : State) (past : List Entry) (a : Actor) (f : Frame) → first_of_row (row_of s a (Epa f)) ≡ None → Stands s past
-    → BringsDone s (after_epa s f.0) past a (Epa f) Plain
+    → BringsDone s (after_epa s f.0) past a (Epa f) (Va s.vas_made)
 epa_brings s past a f allowed stands =
     let none = none_holds (epa_row (sight s f.0)) allowed in
     let free = free_there (s.content f.0) (s.is_sealing f.0) none.1.0 none.1.1.0 in
     record {
-      form = refl;
+      form = ap (λ (c : EnclaveColumns). Va c.vas_made) stands.columns.enclaves;
       taken = refl;
       same = λ seen. cc seen;
       measure = tt;

@@ -192,12 +192,12 @@ saved_making s acc (Some seat) = refl
 -- each row that is done, from a sound machine with the columns of its entries
 module _ (s : State) (past : List Entry) (sound : IsSound s) (h : HasColumns s past) (held : IsHeld past) where
   pub epa_next : (a : Actor) (f : Frame) → first_of_row (row_of s a (Epa f)) ≡ None
-      → IsNextTo s (after_epa s f.0) past (did_by a (Epa f) answers.Plain)
+      → IsNextTo s (after_epa s f.0) past (did_by a (Epa f) (answers.Va s.vas_made))
   epa_next a f allowed =
       let none = none_holds (epa_row (sight s f.0)) allowed in
       record {
         making = refl;
-        columns = epa_columns s past h a f answers.Plain;
+        columns = epa_columns s past h a f (answers.Va s.vas_made);
         held = held_put s past sound h held f.0 (IsVa _) (unused_invalid s f.0 none.1.1.0);
         access = tt;
         evict = tt;

@@ -35,8 +35,8 @@ impl Machine {
         if let Some(refusal) = self.epa_refusal(frame) {
             return Ok(refused(actor, action, refusal));
         }
-        self.set_va(alloc, frame)?;
-        Ok(done(actor, action, Answer::Plain))
+        let number = self.set_va(alloc, frame)?;
+        Ok(done(actor, action, Answer::Va(number)))
     }
 
     /// The first case that holds of the row of `epa`.
@@ -57,9 +57,10 @@ impl Machine {
         None
     }
 
-    /// Makes a free frame a version array page, with 512 empty slots.
-    fn set_va(&mut self, alloc: Global, frame: Frame) -> Result<(), Memory>
+    /// Makes a free frame a version array page, with 512 empty slots. Answers its number.
+    fn set_va(&mut self, alloc: Global, frame: Frame) -> Result<u32, Memory>
         requires { first_of_row (epa_row (sight (state_of self.old) frame.0)) ≡ None }
+        ensures number { IfOk result (λ number. number ≡ (state_of self.old).vas_made) }
         ensures done { OnOk result (state_of self.new ≡ after_epa (state_of self.old) frame.0) }
         ensures refused { OnErr result (self.new ≡ self.old) }
         ensures cpus { length self.new.cpus ≡ length self.old.cpus }
@@ -68,12 +69,10 @@ impl Machine {
         prove!(made <= u64::from(self.epc.frames()));
         self.va.epa(alloc, frame)?;
         // Its number, by how many were made before it. It is of no enclave.
-        let page = Page {
-            enclave: 0,
-            number: made as u32,
-        };
+        let number = made as u32;
+        let page = Page { enclave: 0, number };
         self.epc.set(frame, page, Kind::Va, Perm::NONE);
-        Ok(())
+        Ok(number)
     }
 
     /// A free frame becomes the SECS of a new enclave, whose measurement begins (ECREATE).

@@ -121,6 +121,8 @@ fetched key past calls page slot None reasons.Mac sound store at due comes h = a
 fetched key past calls page slot (Some f) reasons.Mac sound store at due comes h = absurd due
 fetched key past calls page slot None reasons.Header sound store at due comes h = absurd due
 fetched key past calls page slot (Some f) reasons.Header sound store at due comes h = absurd due
+fetched key past calls page slot None reasons.Slot sound store at due comes h = absurd due
+fetched key past calls page slot (Some f) reasons.Slot sound store at due comes h = absurd due
 
 -- an honest store leaves nothing to tell of a page that is needed
 pub fetched_back : (key : List ℕ) (past : List Entry) (calls : List Call) (frames : ℕ) (page : Page) (at : Place) (why : BusWhy)

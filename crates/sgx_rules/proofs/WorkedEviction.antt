@@ -49,7 +49,7 @@ entered =
     ∷ did Builder (actions.Add 1 1 (frame 3) kinds.Reg (perm true) (inits.Words 0)) answers.Plain
     ∷ did Builder (actions.Add 1 0 (frame 2) kinds.Tcs (perm false) (inits.Tcs 1 1)) answers.Plain
     ∷ did Builder (actions.Create 1 (frame 1) 0x10000 0x10000) answers.Plain
-    ∷ did Builder (actions.Epa (frame 0)) answers.Plain
+    ∷ did Builder (actions.Epa (frame 0)) (answers.Va 0)
     ∷ []
 
 abbrev blocked : List Entry
@@ -182,7 +182,7 @@ not_blocked = refl
 
 -- each version array page has a number of its own, in the order in which they were made
 abbrev second_array : List Entry
-second_array = did Builder (actions.Epa (frame 6)) answers.Plain ∷ reloaded
+second_array = did Builder (actions.Epa (frame 6)) (answers.Va 1) ∷ reloaded
 
 one_has_zero : content second_array 0 ≡ IsVa 0
 one_has_zero = refl

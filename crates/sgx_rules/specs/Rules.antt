@@ -21,7 +21,7 @@ use Rattle.sgx_rules.specs.declared.refusals.Refusal.{Refusal}
 use Rattle.sgx_rules.specs.declared.refusals.Refusal.TheVariants as why
 use Rattle.sgx_rules.specs.Ends.{EndsOut, IsBack, IsNotBack}
 use Rattle.sgx_types.specs.Pages.{page_at}
-use Rattle.sgx_rules.specs.Frames.{Content, Free, IsVa, SecsOf, Holds, IsLoading, content, is_sealing, is_page}
+use Rattle.sgx_rules.specs.Frames.{Content, Free, IsVa, SecsOf, Holds, IsLoading, content, is_sealing, is_page, vas_made}
 use Rattle.sgx_types.specs.Making.{Making}
 use Rattle.sgx_rules.specs.Processors.{Stay, stay, BareTranslation, holds_number, translations}
 use Rattle.sgx_rules.specs.Table.{first_of_row}
@@ -43,9 +43,10 @@ AtEachPlace P (e ∷ past) = P (e ∷ past) × AtEachPlace P past
 
 -- ---- Refusal: an instruction is done exactly where no case of its row holds, and else refused by the first that holds
 
--- the form of answer that each row gives. A start of ELDU tells the version in its slot, and a commit the page of its start
+-- the form of answer that each row gives. A version array page tells its number, a start of ELDU the version in its slot, and a commit
+-- the page of its start
 abbrev pub HasForm : List Entry → Action → Answer → Type 0
-HasForm past (Epa f) answer = answer ≡ answers.Plain
+HasForm past (Epa f) answer = answer ≡ answers.Va (vas_made past)
 HasForm past (Create enclave f base size) answer = answer ≡ answers.Plain
 HasForm past (Add enclave number f kind perm init) answer = answer ≡ answers.Plain
 HasForm past (Extend f chunk) answer = answer ≡ answers.Plain

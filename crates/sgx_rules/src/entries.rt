@@ -39,7 +39,8 @@ pub enum Look {
     Taken,
 }
 
-/// Why a page could not be reloaded.
+/// Why a page could not be reloaded: the store failed or has no record of it, its write-out was never kept, the record's tag or header is
+/// another, or its slot has no version.
 #[derive(Clone, Copy, Debug, PartialEq, Eq)]
 pub enum BusWhy {
     GetFailed,
@@ -47,6 +48,7 @@ pub enum BusWhy {
     PutFailed,
     Mac,
     Header,
+    Slot,
 }
 
 /// One instruction with its operands. Offsets and addresses are in bytes, page numbers in pages of 4096 bytes.
@@ -150,7 +152,7 @@ pub enum Action {
     },
 }
 
-/// What a done instruction answered.
+/// What a done instruction answered. `Va` is the number of a version array page: how many were made before it.
 #[derive(Clone, Copy, Debug, PartialEq, Eq)]
 pub enum Answer {
     Plain,
@@ -164,6 +166,7 @@ pub enum Answer {
         tag: [u8; 32],
     },
     Pf(PfWhy),
+    Va(u32),
 }
 
 /// What happened: an instruction was done or refused, the reclaimer looked at a page or kicked a processor, or a

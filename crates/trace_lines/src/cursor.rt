@@ -6,7 +6,7 @@ ghost use Rattle.trace_text.specs.Fields.{AllFit, init_fields};
 
 use sgx_types::lawful::PageInit;
 use sgx_types::names::{Page, SlotAt};
-use trace_words::words::{enclave, frame, number, short, small};
+use trace_words::words::{enclave, frame, number, page_number, short, small};
 
 /// The words of a line that are still to be read.
 #[derive(Drop)]
@@ -40,13 +40,13 @@ impl<'a> Cursor<'a> {
     }
 }
 
-/// A page, by its enclave and its number there.
+/// A page, by its enclave and its number there, in either edition.
 pub(crate) fn page(words: &mut Cursor) -> Page
     ensures read { page_in (left words.old) ≡ (result, left words.new) }
 {
     Page {
         enclave: enclave(words.next()),
-        number: small(words.next()),
+        number: page_number(words.next()),
     }
 }
 

@@ -1,16 +1,18 @@
 //! Entries that are read of their words.
 
-ghost use Rattle.std.specs.Prelude.{◌≡◌, IfOk, IfSome};
-ghost use Rattle.trace_lines.specs.inner.Reading.{Took, done_of, entry_of, event_of, kick_of, left, refused_of, texts, words_in};
+ghost use Rattle.std.specs.Prelude.{◌≡◌, IfOk, IfSome, IsTrue};
+ghost use Rattle.trace_lines.specs.inner.Reading.{Took, bus_of, done_of, entry_of, event_of, kick_of, knows, left, refused_of, texts};
+ghost use Rattle.trace_lines.specs.inner.Reading.{words_in};
 ghost use Rattle.trace_text.specs.Fields.{AllFit, event_fields};
-ghost use Rattle.trace_text.specs.Readable.{IsReadable, IsTold, may_make};
+ghost use Rattle.trace_text.specs.Readable.{IsKnown, IsReadable, IsTold, may_make};
 
 use crate::cursor::{Cursor, page};
 use crate::operands::action;
 use crate::outcomes::{answer, refusal};
-use sgx_rules::entries::{Entry, Event};
+use sgx_rules::entries::{BusWhy, Entry, Event};
 use sgx_types::names::{Actor, Memory};
 use std::alloc::{AllocError, Global};
+use trace_text::edition::Edition;
 use trace_words::names::{look, stop};
 use trace_words::words::{actor, cpu};
 
@@ -18,7 +20,7 @@ use trace_words::words::{actor, cpu};
 fn refused(words: &mut Cursor) -> Option<Event>
     ensures read { Took result (left words.new) (refused_of (left words.old)) }
     ensures fits { IfSome result (λ event. AllFit (event_fields event)) }
-    ensures told { IfSome result IsTold }
+    ensures told { (edition : Edition) → IfSome result (IsTold edition) }
 {
     let name = words.next();
     let action = action(name, words)?;
@@ -27,13 +29,13 @@ fn refused(words: &mut Cursor) -> Option<Event>
 }
 
 #[tactic(auto, using(crate::proofs::FitLaws::fit_both), unfolding(crate::specs::inner::Reading::done_of))]
-fn done(name: &[u8], words: &mut Cursor) -> Option<Event>
-    ensures read { Took result (left words.new) (done_of name.now (left words.old)) }
+fn done(edition: Edition, name: &[u8], words: &mut Cursor) -> Option<Event>
+    ensures read { Took result (left words.new) (done_of edition name.now (left words.old)) }
     ensures fits { IfSome result (λ event. AllFit (event_fields event)) }
-    ensures told { IfSome result IsTold }
+    ensures told { IfSome result (IsTold edition) }
 {
     let action = action(name, words)?;
-    let answer = answer(&action, words);
+    let answer = answer(edition, &action, words);
     Some(Event::Did { action, answer })
 }
 
@@ -41,18 +43,44 @@ fn done(name: &[u8], words: &mut Cursor) -> Option<Event>
 fn kick(words: &mut Cursor) -> Option<Event>
     ensures read { Took result (left words.new) (kick_of (left words.old)) }
     ensures fits { IfSome result (λ event. AllFit (event_fields event)) }
-    ensures told { IfSome result IsTold }
+    ensures told { (edition : Edition) → IfSome result (IsTold edition) }
 {
     Some(Event::Kick {
         cpu: cpu(words.next())?,
     })
 }
 
-#[tactic(auto, unfolding(crate::specs::inner::Reading::event_of))]
-fn event(words: &mut Cursor) -> Option<Event>
-    ensures read { Took result (left words.new) (event_of (left words.old)) }
+#[tactic(auto, unfolding(crate::specs::inner::Reading::bus_of))]
+fn bus(edition: Edition, words: &mut Cursor) -> Option<Event>
+    ensures read { Took result (left words.new) (bus_of edition (left words.old)) }
     ensures fits { IfSome result (λ event. AllFit (event_fields event)) }
-    ensures told { IfSome result IsTold }
+    ensures told { IfSome result (IsTold edition) }
+{
+    let page = page(words);
+    let why = stop(words.next());
+    if is_known(edition, why) {
+        Some(Event::Bus { page, why })
+    } else {
+        None
+    }
+}
+
+/// Whether an edition has a word for why a page could not be reloaded.
+fn is_known(edition: Edition, why: BusWhy) -> bool
+    ensures known { result ≡ knows edition why }
+    ensures told { IsTrue result → IsKnown edition why }
+{
+    match (edition, why) {
+        (Edition::One, BusWhy::Slot) => false,
+        _ => true,
+    }
+}
+
+#[tactic(auto, unfolding(crate::specs::inner::Reading::event_of))]
+fn event(edition: Edition, words: &mut Cursor) -> Option<Event>
+    ensures read { Took result (left words.new) (event_of edition (left words.old)) }
+    ensures fits { IfSome result (λ event. AllFit (event_fields event)) }
+    ensures told { IfSome result (IsTold edition) }
 {
     let name = words.next();
     if name == b"refused".as_slice() {
@@ -65,12 +93,9 @@ fn event(words: &mut Cursor) -> Option<Event>
     } else if name == b"kick".as_slice() {
         kick(words)
     } else if name == b"bus".as_slice() {
-        Some(Event::Bus {
-            page: page(words),
-            why: stop(words.next()),
-        })
+        bus(edition, words)
     } else {
-        done(name, words)
+        done(edition, name, words)
     }
 }
 
@@ -87,13 +112,13 @@ fn is_own(actor: Actor, event: Event) -> bool
 
 /// The entry that words tell, in any spelling of their numbers.
 #[tactic(auto, unfolding(crate::specs::inner::Reading::entry_of))]
-fn entry(words: &[&[u8]]) -> Option<Entry>
-    ensures read { result ≡ entry_of (texts words.now) }
-    ensures fits { IfSome result IsReadable }
+fn entry(edition: Edition, words: &[&[u8]]) -> Option<Entry>
+    ensures read { result ≡ entry_of edition (texts words.now) }
+    ensures fits { IfSome result (IsReadable edition) }
 {
     let mut words = Cursor::new(words);
     let actor = actor(words.next())?;
-    let event = event(&mut words)?;
+    let event = event(edition, &mut words)?;
     if is_own(actor, event) && words.is_at_end() {
         Some(Entry { actor, event })
     } else {
@@ -110,10 +135,14 @@ fn line_words(alloc: Global, line: &[u8]) -> Result<Vec<&[u8]>, AllocError>
 }
 
 /// The entry that the words of a line tell, in any spelling of their numbers.
-pub(crate) fn entry_in(alloc: Global, line: &[u8]) -> Result<Option<Entry>, Memory>
-    ensures read { IfOk result (λ read. read ≡ entry_of (words_in line.now)) }
-    ensures fits { IfOk result (λ read. IfSome read IsReadable) }
+pub(crate) fn entry_in(
+    alloc: Global,
+    edition: Edition,
+    line: &[u8],
+) -> Result<Option<Entry>, Memory>
+    ensures read { IfOk result (λ read. read ≡ entry_of edition (words_in line.now)) }
+    ensures fits { IfOk result (λ read. IfSome read (IsReadable edition)) }
 {
     let words = line_words(alloc, line)?;
-    Ok(entry(&words))
+    Ok(entry(edition, &words))
 }

@@ -9,23 +9,29 @@ use crate::entries::entry_in;
 use sgx_rules::entries::Entry;
 use sgx_types::names::Memory;
 use std::alloc::Global;
+use trace_text::edition::Edition;
 use trace_text::room::SPELLING_ROOM;
 use trace_text::trace::print_spelling;
 
-/// The entry that a line tells, without its line feed: exactly where the line is the text of a readable entry. What is
+/// The entry that a line tells in an edition, without its line feed: exactly where the line is the text of a readable entry. What is
 /// read in any spelling is printed again into `space`, and compared.
 #[tactic(auto, using(crate::proofs::LineReads::line_read))]
-pub fn read_line(alloc: Global, line: &[u8], space: &mut Vec<u8>) -> Result<Option<Entry>, Memory>
-    ensures told { IfOk result (λ told. IfSome told (λ e. line.now ≡ spelling e)) }
-    ensures readable { IfOk result (λ told. IfSome told IsReadable) }
-    ensures only { (e : Entry) → IsReadable e → line.now ≡ spelling e → IfOk result (λ told. told ≡ Some e) }
+pub fn read_line(
+    alloc: Global,
+    edition: Edition,
+    line: &[u8],
+    space: &mut Vec<u8>,
+) -> Result<Option<Entry>, Memory>
+    ensures told { IfOk result (λ told. IfSome told (λ e. line.now ≡ spelling edition e)) }
+    ensures readable { IfOk result (λ told. IfSome told (IsReadable edition)) }
+    ensures only { (e : Entry) → IsReadable edition e → line.now ≡ spelling edition e → IfOk result (λ told. told ≡ Some e) }
 {
-    let Some(entry) = entry_in(alloc, line)? else {
+    let Some(entry) = entry_in(alloc, edition, line)? else {
         return Ok(None);
     };
     space.clear();
     space.reserve(SPELLING_ROOM)?;
-    print_spelling(&entry, space);
+    print_spelling(edition, &entry, space);
     if space.as_slice() == line {
         Ok(Some(entry))
     } else {
@@ -33,7 +39,8 @@ pub fn read_line(alloc: Global, line: &[u8], space: &mut Vec<u8>) -> Result<Opti
     }
 }
 
-/// Two readable entries never have the same line.
+/// Two readable entries never have the same line in one edition.
 pub fn no_two_entries_share_a_line()
-    ensures { (e f : Entry) → IsReadable e → IsReadable f → spelling e ≡ spelling f → e ≡ f }
+    ensures { (edition : Edition) (e f : Entry) → IsReadable edition e → IsReadable edition f
+        → spelling edition e ≡ spelling edition f → e ≡ f }
 {}

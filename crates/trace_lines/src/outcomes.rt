@@ -2,25 +2,25 @@
 
 ghost use Rattle.std.specs.Prelude.{◌≡◌, IfSome};
 ghost use Rattle.trace_lines.specs.inner.Reading.{Took, answer_in, fielded_of, left, refusal_of};
-ghost use Rattle.trace_text.specs.Fields.{AllFit, answer_fields, answer_form, form_of, refusal_fields};
-ghost use Rattle.trace_text.specs.Readable.{IsTellable};
+ghost use Rattle.trace_text.specs.Fields.{AllFit, answer_fields, answer_form, epa_form, form_of, refusal_fields};
 
 use crate::cursor::{Cursor, page};
 use sgx_rules::entries::{Action, Answer};
 use sgx_rules::refusals::Refusal;
+use trace_text::edition::Edition;
 use trace_words::names::{bare, fault};
 use trace_words::words::{number, small, tag};
 
 /// What a done instruction answered, in the form that it answers in.
 #[tactic(auto, unfolding(crate::specs::inner::Reading::answer_in))]
-pub(crate) fn answer(action: &Action, words: &mut Cursor) -> Answer
-    ensures read { answer_in (form_of action.now) (left words.old) ≡ (result, left words.new) }
+pub(crate) fn answer(edition: Edition, action: &Action, words: &mut Cursor) -> Answer
+    ensures read { answer_in (form_of edition action.now) (left words.old) ≡ (result, left words.new) }
     ensures fits { AllFit (answer_fields result) }
-    ensures form { answer_form result ≡ form_of action.now }
+    ensures form { answer_form result ≡ form_of edition action.now }
 {
     match action {
-        Action::Epa { .. }
-        | Action::Create { .. }
+        Action::Epa { .. } => va_number(edition, words),
+        Action::Create { .. }
         | Action::Add { .. }
         | Action::Extend { .. }
         | Action::Exit
@@ -48,12 +48,24 @@ pub(crate) fn answer(action: &Action, words: &mut Cursor) -> Answer
     }
 }
 
+/// The number of a version array page, where the edition has it.
+#[tactic(auto, unfolding(crate::specs::inner::Reading::answer_in))]
+fn va_number(edition: Edition, words: &mut Cursor) -> Answer
+    ensures read { answer_in (epa_form edition) (left words.old) ≡ (result, left words.new) }
+    ensures fits { AllFit (answer_fields result) }
+    ensures form { answer_form result ≡ epa_form edition }
+{
+    match edition {
+        Edition::One => Answer::Plain,
+        Edition::Two => Answer::Va(small(words.next())),
+    }
+}
+
 /// The refusal of a name, with its fields.
 #[tactic(auto, unfolding(crate::specs::inner::Reading::fielded_of))]
 fn fielded(name: &[u8], words: &mut Cursor) -> Option<Refusal>
     ensures read { Took result (left words.new) (fielded_of name.now (left words.old)) }
     ensures fits { IfSome result (λ refusal. AllFit (refusal_fields refusal)) }
-    ensures told { IfSome result IsTellable }
 {
     if name == b"PrevTrk".as_slice() {
         Some(Refusal::PrevTrk {
@@ -79,6 +91,10 @@ fn fielded(name: &[u8], words: &mut Cursor) -> Option<Refusal>
             address: number(words.next()),
             flags: number(words.next()),
         })
+    } else if name == b"ChildPresent".as_slice() {
+        Some(Refusal::ChildPresent {
+            count: small(words.next()),
+        })
     } else if name == b"BadMeasure".as_slice() {
         Some(Refusal::BadMeasure {
             made: tag(words.next()),
@@ -93,7 +109,6 @@ fn fielded(name: &[u8], words: &mut Cursor) -> Option<Refusal>
 pub(crate) fn refusal(words: &mut Cursor) -> Option<Refusal>
     ensures read { Took result (left words.new) (refusal_of (left words.old)) }
     ensures fits { IfSome result (λ refusal. AllFit (refusal_fields refusal)) }
-    ensures told { IfSome result IsTellable }
 {
     let name = words.next();
     match bare(name) {

@@ -13,6 +13,7 @@ use io_edges::giving::give_all;
 use io_edges::sinks::Sink;
 use sgx_rules::entries::Entry;
 use std::alloc::Global;
+use trace_text::edition::Edition;
 use trace_text::room::LONGEST_LINE;
 use trace_text::trace::{print_entry, print_first_line, print_last_line};
 
@@ -55,7 +56,7 @@ fn give_lines<K: Sink>(sink: &mut K, entries: &[Entry], piece: &mut Vec<u8>) -> 
 
 fn hold_entry(entry: &Entry, piece: &mut Vec<u8>)
     requires { vec_len piece.old + LONGEST_LINE ≤ vec_capacity piece.old }
-    ensures text { piece.new.items ≡ piece.old.items ++ entry_text entry.now }
+    ensures text { piece.new.items ≡ piece.old.items ++ entry_text Edition.Two entry.now }
     ensures capacity { vec_capacity piece.old ≤ vec_capacity piece.new }
 {
     print_entry(entry, piece);

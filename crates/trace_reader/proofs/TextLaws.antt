@@ -6,7 +6,10 @@ use Rattle.std.proofs.lemmas.List.{map-append, reverse-append, reverse-reverse, 
 use Rattle.std.proofs.lemmas.List.Elements.{All-head, All-tail}
 use Rattle.sgx_rules.specs.declared.entries.Entry.{Entry}
 use Rattle.text_words.proofs.Splits.{IsApart}
-use Rattle.trace_text.specs.TraceText.{entries_text, entry_text, spelling, trace_of}
+use Rattle.trace_text.specs.declared.edition.Edition.{Edition}
+use Rattle.trace_text.specs.declared.edition.Edition.TheVariants as editions
+use Rattle.trace_text.specs.TraceText as printed
+use Rattle.trace_text.specs.TraceText.{entries_text, entry_text, spelling, trace_in}
 use Rattle.trace_reader.specs.Faults.{text_of, whole_lines}
 use Rattle.trace_reader.specs.inner.Lines.{first_line, joined, last_line, trace_lines}
 
@@ -46,27 +49,6 @@ joined-append (line ∷ lines) others =
     ap (λ (text : List ℕ). line ++ 10 ∷ text) (joined-append lines others)
     ∙ sym (append_assoc line (10 ∷ joined lines) (joined others))
 
--- ---- the lines of a trace's text
-
-entries-joined : (past : List Entry) → entries_text past ≡ joined (map spelling (reverse past))
-unfolding entry_text
-entries-joined [] = refl
-entries-joined (e ∷ past) =
-    ap (λ (text : List ℕ). text ++ entry_text e) (entries-joined past)
-    ∙ sym (joined-append (map spelling (reverse past)) (spelling e ∷ []))
-    ∙ ap joined (sym (map-append spelling (reverse past) (e ∷ [])))
-    ∙ ap (λ (entries : List Entry). joined (map spelling entries)) (sym (reverse-append (e ∷ []) past))
-
-pub text-joined : (entries : List Entry) → text_of entries ≡ joined (trace_lines entries)
-unfolding trace_of
-text-joined entries =
-    let body : entries_text (reverse entries) ≡ joined (map spelling entries) =
-    entries-joined (reverse entries) ∙ ap (λ (es : List Entry). joined (map spelling es)) (reverse-reverse entries) in
-    let count : length (reverse entries) ≡ length entries = length-reverse entries in
-    rw (body, count)
-    (append_assoc (first_line ++ 10 ∷ []) (joined (map spelling entries)) (joined (last_line (length entries) ∷ []))
-    ∙ ap (λ (text : List ℕ). first_line ++ 10 ∷ text) (sym (joined-append (map spelling entries) (last_line (length entries) ∷ []))))
-
 -- ---- one line more
 
 pub one_line : (lines : List (List ℕ)) (line behind : List ℕ)
@@ -76,3 +58,32 @@ one_line lines line behind =
     ∙ append_assoc (joined lines) (line ++ 10 ∷ []) behind
     ∙ ap (λ (text : List ℕ). joined lines ++ text) (append_assoc line (10 ∷ []) behind)
     ∙ sym (append_assoc (joined lines) line (10 ∷ behind))
+
+-- ---- the lines of a trace's text
+
+-- the first line, and what stands behind it
+first-joined : (edition : Edition) (body last : List ℕ)
+    → (printed.first_line edition ++ body) ++ last ≡ first_line edition ++ 10 ∷ (body ++ last)
+first-joined editions.One body last = refl
+first-joined editions.Two body last = refl
+
+module _ (edition : Edition) where
+  entries-joined : (past : List Entry) → entries_text edition past ≡ joined (map (spelling edition) (reverse past))
+  unfolding entry_text
+  entries-joined [] = refl
+  entries-joined (e ∷ past) =
+      ap (λ (text : List ℕ). text ++ entry_text edition e) (entries-joined past)
+      ∙ sym (joined-append (map (spelling edition) (reverse past)) (spelling edition e ∷ []))
+      ∙ ap joined (sym (map-append (spelling edition) (reverse past) (e ∷ [])))
+      ∙ ap (λ (entries : List Entry). joined (map (spelling edition) entries)) (sym (reverse-append (e ∷ []) past))
+
+  pub text-joined : (entries : List Entry) → text_of edition entries ≡ joined (trace_lines edition entries)
+  unfolding trace_in
+  text-joined entries =
+      let body : entries_text edition (reverse entries) ≡ joined (map (spelling edition) entries) =
+      entries-joined (reverse entries) ∙ ap (λ (es : List Entry). joined (map (spelling edition) es)) (reverse-reverse entries) in
+      let count : length (reverse entries) ≡ length entries = length-reverse entries in
+      rw (body, count)
+      (first-joined edition (joined (map (spelling edition) entries)) (joined (last_line (length entries) ∷ []))
+      ∙ ap (λ (text : List ℕ). first_line edition ++ 10 ∷ text)
+      (sym (joined-append (map (spelling edition) entries) (last_line (length entries) ∷ []))))

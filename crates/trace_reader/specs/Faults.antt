@@ -1,8 +1,9 @@
 -- Which texts begin a trace, which line is a text's first fault, and what a reader in pieces was fed.
 use Rattle.std.specs.Prelude.{ℕ, ◌≡◌, ◌<◌, ◌≤◌, ◌==◌, if◌then◌else◌, List, [], ◌∷◌, take, length, reverse}
 use Rattle.sgx_rules.specs.declared.entries.Entry.{Entry}
+use Rattle.trace_text.specs.declared.edition.Edition.{Edition}
 use Rattle.trace_text.specs.Readable.{AreReadable}
-use Rattle.trace_text.specs.TraceText.{trace_of}
+use Rattle.trace_text.specs.TraceText.{trace_in}
 
 -- the whole lines of a text, without their line feeds: what stands behind the last line feed is none
 abbrev pub whole_lines : List ℕ → List (List ℕ)
@@ -13,19 +14,19 @@ whole_lines (c ∷ text) = if c == 10 then [] ∷ whole_lines text else onto_fir
     onto_first [] = []
     onto_first (line ∷ lines) = (c ∷ line) ∷ lines
 
--- the text of a trace whose entries stand oldest first
-abbrev pub text_of : List Entry → List ℕ
-text_of entries = trace_of (reverse entries)
+-- the text in an edition of a trace whose entries stand oldest first
+abbrev pub text_of : Edition → List Entry → List ℕ
+text_of edition entries = trace_in edition (reverse entries)
 
 -- some trace's text begins with the first so many lines of a text
-pub record IsBegun (text : List ℕ) (n : ℕ) : Type 0 where
+pub record IsBegun (edition : Edition) (text : List ℕ) (n : ℕ) : Type 0 where
   pub entries : List Entry
-  pub readable : AreReadable entries
+  pub readable : AreReadable edition entries
   pub whole : n ≤ length (whole_lines text)
-  pub same : take n (whole_lines text) ≡ take n (whole_lines (text_of entries))
+  pub same : take n (whole_lines text) ≡ take n (whole_lines (text_of edition entries))
 
 -- the text is no trace's, and this is the least number of lines with which none begins
-pub record IsFirstFault (text : List ℕ) (line : ℕ) : Type 0 where
-  pub no_trace : (entries : List Entry) → AreReadable entries → text ≡ text_of entries → ⊥
-  pub before : (n : ℕ) → n < line → IsBegun text n
-  pub none : IsBegun text line → ⊥
+pub record IsFirstFault (edition : Edition) (text : List ℕ) (line : ℕ) : Type 0 where
+  pub no_trace : (entries : List Entry) → AreReadable edition entries → text ≡ text_of edition entries → ⊥
+  pub before : (n : ℕ) → n < line → IsBegun edition text n
+  pub none : IsBegun edition text line → ⊥

@@ -1,8 +1,8 @@
 //! The lines of a trace, taken one after another.
 
-ghost use Rattle.std.specs.Prelude.{◌≡◌, ◌++◌, [], ◌∷◌, false, length, take, IfOk, MatchBool, MatchOption};
+ghost use Rattle.std.specs.Prelude.{◌≡◌, ◌≤◌, ◌+◌, ◌++◌, [], ◌∷◌, false, length, take, IfOk, MatchBool, MatchOption};
 ghost use Rattle.trace_reader.specs.inner.Lines.{CannotFollow, HasNoFeed, IsKept, IsRefused, IsTaken, is_last_stage, joined};
-ghost use Rattle.trace_reader.specs.inner.Lines.{last_line, taken};
+ghost use Rattle.trace_reader.specs.inner.Lines.{first_line, last_line, taken};
 ghost use Rattle.trace_reader.specs.Faults.{IsFirstFault, text_of};
 
 use sgx_rules::entries::Entry;
@@ -11,6 +11,7 @@ use std::alloc::Global;
 use text_words::words::Word::{Decimal, Name};
 use text_words::words::{push_word, push_words};
 use trace_lines::lines::read_line;
+use trace_text::edition::Edition;
 
 /// Which line comes next: the first, an entry's or the last, or none.
 #[derive(Clone, Copy)]
@@ -31,8 +32,8 @@ pub(crate) struct Lines {
 
 impl Lines {
     pub(crate) fn new(alloc: Global) -> Lines
-        ensures kept { IsKept result }
-        ensures none { taken result ≡ [] }
+        ensures kept { (edition : Edition) → IsKept edition result }
+        ensures none { (edition : Edition) → taken edition result ≡ [] }
     {
         Lines {
             entries: Vec::new(alloc),
@@ -55,15 +56,15 @@ impl Lines {
     }
 
     /// Takes the line of an entry, or the last.
-    fn take_later(&mut self, alloc: Global, line: &[u8]) -> Result<bool, Memory>
-        requires kept { IsKept self.old }
+    fn take_later(&mut self, alloc: Global, edition: Edition, line: &[u8]) -> Result<bool, Memory>
+        requires kept { IsKept edition self.old }
         requires stage { self.old.stage ≡ Stage.Entries }
-        ensures kept { IsKept self.new }
+        ensures kept { IsKept edition self.new }
         ensures front { take (length self.old.entries.items) self.new.entries.items ≡ self.old.entries.items }
-        ensures taken { IfOk result (λ is_next. MatchBool is_next (taken self.new ≡ taken self.old ++ line.now ∷ [])
-            ((taken self.new ≡ taken self.old) × CannotFollow (taken self.old) line.now)) }
+        ensures taken { IfOk result (λ is_next. MatchBool is_next (taken edition self.new ≡ taken edition self.old ++ line.now ∷ [])
+            ((taken edition self.new ≡ taken edition self.old) × CannotFollow edition (taken edition self.old) line.now)) }
     {
-        if let Some(entry) = read_line(alloc, line, &mut self.space)? {
+        if let Some(entry) = read_line(alloc, edition, line, &mut self.space)? {
             self.entries.push(entry)?;
             return Ok(true);
         }
@@ -76,23 +77,28 @@ impl Lines {
     }
 
     /// Takes the next line, where some trace goes on with it.
-    pub(crate) fn take_line(&mut self, alloc: Global, line: &[u8]) -> Result<bool, Memory>
-        requires kept { IsKept self.old }
-        ensures kept { IsKept self.new }
+    pub(crate) fn take_line(
+        &mut self,
+        alloc: Global,
+        edition: Edition,
+        line: &[u8],
+    ) -> Result<bool, Memory>
+        requires kept { IsKept edition self.old }
+        ensures kept { IsKept edition self.new }
         ensures front { take (length self.old.entries.items) self.new.entries.items ≡ self.old.entries.items }
-        ensures taken { IfOk result (λ is_next. MatchBool is_next (taken self.new ≡ taken self.old ++ line.now ∷ [])
-            ((taken self.new ≡ taken self.old) × CannotFollow (taken self.old) line.now)) }
+        ensures taken { IfOk result (λ is_next. MatchBool is_next (taken edition self.new ≡ taken edition self.old ++ line.now ∷ [])
+            ((taken edition self.new ≡ taken edition self.old) × CannotFollow edition (taken edition self.old) line.now)) }
     {
         match self.stage {
             Stage::First => {
-                if line == b"trace 1".as_slice() {
+                if is_first(edition, line) {
                     self.stage = Stage::Entries;
                     Ok(true)
                 } else {
                     Ok(false)
                 }
             }
-            Stage::Entries => self.take_later(alloc, line),
+            Stage::Entries => self.take_later(alloc, edition, line),
             Stage::Ended => Ok(false),
         }
     }
@@ -102,18 +108,19 @@ impl Lines {
     pub(crate) fn take_lines<'a>(
         &mut self,
         alloc: Global,
+        edition: Edition,
         text: &'a [u8],
     ) -> Result<Option<&'a [u8]>, Memory>
-        requires kept { IsKept self.old }
-        ensures kept { IsKept self.new }
+        requires kept { IsKept edition self.old }
+        ensures kept { IsKept edition self.new }
         ensures front { take (length self.old.entries.items) self.new.entries.items ≡ self.old.entries.items }
         ensures taken { IfOk result (λ rest. MatchOption rest
-            (IsRefused (joined (taken self.old) ++ text.now) (taken self.new))
-            (λ rest. IsTaken (joined (taken self.old) ++ text.now) (taken self.new) rest.now)) }
+            (IsRefused edition (joined (taken edition self.old) ++ text.now) (taken edition self.new))
+            (λ rest. IsTaken (joined (taken edition self.old) ++ text.now) (taken edition self.new) rest.now)) }
     {
         let mut rest = text;
         while let Some((line, behind)) = cut_line(rest) {
-            if self.take_line(alloc, line)? {
+            if self.take_line(alloc, edition, line)? {
                 rest = behind;
             } else {
                 return Ok(None);
@@ -133,11 +140,11 @@ impl Lines {
     }
 
     /// The line that a text lacks which is these whole lines and a part of one. None where it lacks nothing.
-    pub(crate) fn missing(&self, part: &[u8]) -> Option<u64>
-        requires kept { IsKept self.now }
+    pub(crate) fn missing(&self, edition: Edition, part: &[u8]) -> Option<u64>
+        requires kept { IsKept edition self.now }
         requires apart { HasNoFeed part.now }
-        ensures { MatchOption result (joined (taken self.now) ++ part.now ≡ text_of self.now.entries.items)
-            (IsFirstFault (joined (taken self.now) ++ part.now)) }
+        ensures { MatchOption result (joined (taken edition self.now) ++ part.now ≡ text_of edition self.now.entries.items)
+            (IsFirstFault edition (joined (taken edition self.now) ++ part.now)) }
     {
         let next = self.count() + 1;
         if part.is_empty() {
@@ -149,7 +156,8 @@ impl Lines {
 
     /// The number of lines that were taken.
     pub(crate) fn count(&self) -> u64
-        ensures { result ≡ length (taken self.now) }
+        ensures few { result ≤ length self.now.entries.items + 2 }
+        ensures lines { (edition : Edition) → result ≡ length (taken edition self.now) }
     {
         let entries = self.entries.len() as u64;
         match self.stage {
@@ -157,6 +165,16 @@ impl Lines {
             Stage::Entries => entries + 1,
             Stage::Ended => entries + 2,
         }
+    }
+}
+
+/// Whether a line is the first of a text in an edition.
+fn is_first(edition: Edition, line: &[u8]) -> bool
+    ensures { MatchBool result (line.now ≡ first_line edition) (line.now ≡ first_line edition → ⊥) }
+{
+    match edition {
+        Edition::One => line == b"trace 1".as_slice(),
+        Edition::Two => line == b"trace 2".as_slice(),
     }
 }
 

@@ -15,11 +15,13 @@ use sgx_rules::entries::Entry;
 use sgx_types::names::Memory;
 use std::alloc::Global;
 use std::marker::Model;
+use trace_text::edition::Edition;
 
 /// Reads a trace's text in pieces. What it keeps of a text is its entries, and the part of a line whose line feed has not
 /// come.
 #[derive(Drop)]
 pub struct TraceReader {
+    edition: Edition,
     lines: Lines,
     part: Vec<u8>,
     fault: Option<u64>,
@@ -38,19 +40,26 @@ impl Model for TraceReader {
 }
 
 /// Takes the line whose first part was kept and whose end came now.
-fn take_first(lines: &mut Lines, alloc: Global, part: &[u8], end: &[u8]) -> Result<bool, Memory>
-    requires { IsKept lines.old }
-    ensures kept { IsKept lines.new }
+fn take_first(
+    lines: &mut Lines,
+    alloc: Global,
+    edition: Edition,
+    part: &[u8],
+    end: &[u8],
+) -> Result<bool, Memory>
+    requires { IsKept edition lines.old }
+    ensures kept { IsKept edition lines.new }
     ensures front { take (length lines.old.entries.items) lines.new.entries.items ≡ lines.old.entries.items }
-    ensures taken { IfOk result (λ is_next. MatchBool is_next (taken lines.new ≡ taken lines.old ++ (part.now ++ end.now) ∷ [])
-        ((taken lines.new ≡ taken lines.old) × CannotFollow (taken lines.old) (part.now ++ end.now))) }
+    ensures taken { IfOk result (λ is_next. MatchBool is_next
+        (taken edition lines.new ≡ taken edition lines.old ++ (part.now ++ end.now) ∷ [])
+        ((taken edition lines.new ≡ taken edition lines.old) × CannotFollow edition (taken edition lines.old) (part.now ++ end.now))) }
 {
     if part.is_empty() {
-        return lines.take_line(alloc, end);
+        return lines.take_line(alloc, edition, end);
     }
     let mut line = part.to_vec(alloc)?;
     line.extend_from_slice(end)?;
-    lines.take_line(alloc, &line)
+    lines.take_line(alloc, edition, &line)
 }
 
 /// Takes a line whose first part was kept and whose end came now, and the whole lines behind it; answers the part of a line
@@ -58,21 +67,23 @@ fn take_first(lines: &mut Lines, alloc: Global, part: &[u8], end: &[u8]) -> Resu
 fn take_whole(
     lines: &mut Lines,
     alloc: Global,
+    edition: Edition,
     part: &[u8],
     end: &[u8],
     behind: &[u8],
 ) -> Result<Option<Vec<u8>>, Memory>
-    requires kept { IsKept lines.old }
+    requires kept { IsKept edition lines.old }
     requires part { HasNoFeed part.now }
     requires end { HasNoFeed end.now }
-    ensures kept { IsKept lines.new }
+    ensures kept { IsKept edition lines.new }
     ensures front { take (length lines.old.entries.items) lines.new.entries.items ≡ lines.old.entries.items }
     ensures taken { IfOk result (λ rest. MatchOption rest
-        (IsRefused (joined (taken lines.old) ++ (part.now ++ end.now) ++ 10 ∷ behind.now) (taken lines.new))
-        (λ rest. IsTaken (joined (taken lines.old) ++ (part.now ++ end.now) ++ 10 ∷ behind.now) (taken lines.new) rest.items)) }
+        (IsRefused edition (joined (taken edition lines.old) ++ (part.now ++ end.now) ++ 10 ∷ behind.now) (taken edition lines.new))
+        (λ rest. IsTaken (joined (taken edition lines.old) ++ (part.now ++ end.now) ++ 10 ∷ behind.now)
+        (taken edition lines.new) rest.items)) }
 {
-    if take_first(lines, alloc, part, end)? {
-        match lines.take_lines(alloc, behind)? {
+    if take_first(lines, alloc, edition, part, end)? {
+        match lines.take_lines(alloc, edition, behind)? {
             Some(rest) => Ok(Some(rest.to_vec(alloc)?)),
             None => Ok(None),
         }
@@ -87,16 +98,18 @@ fn take_piece(
     lines: &mut Lines,
     part: &mut Vec<u8>,
     alloc: Global,
+    edition: Edition,
     piece: &[u8],
 ) -> Result<Option<u64>, Memory>
-    requires kept { IsKept lines.old }
+    requires kept { IsKept edition lines.old }
     requires apart { HasNoFeed part.old.items }
-    ensures kept { IsKept lines.new }
+    ensures kept { IsKept edition lines.new }
     ensures apart { HasNoFeed part.new.items }
     ensures taken { IfOk result (λ fault. MatchOption fault
-        ((joined (taken lines.old) ++ part.old.items) ++ piece.now ≡ joined (taken lines.new) ++ part.new.items)
-        (λ line. (more : List ℕ) → IsFirstFault (((joined (taken lines.old) ++ part.old.items) ++ piece.now) ++ more) line)) }
-    ensures lines { OnErr result (taken lines.new ≡ taken lines.old) }
+        ((joined (taken edition lines.old) ++ part.old.items) ++ piece.now ≡ joined (taken edition lines.new) ++ part.new.items)
+        (λ line. (more : List ℕ) → IsFirstFault edition
+        (((joined (taken edition lines.old) ++ part.old.items) ++ piece.now) ++ more) line)) }
+    ensures lines { OnErr result (taken edition lines.new ≡ taken edition lines.old) }
     ensures part { OnErr result (part.new.items ≡ part.old.items) }
 {
     let Some((end, behind)) = cut_line(piece) else {
@@ -105,7 +118,7 @@ fn take_piece(
     };
     let entries = lines.entries.len();
     let stage = lines.stage;
-    match take_whole(lines, alloc, part, end, behind) {
+    match take_whole(lines, alloc, edition, part, end, behind) {
         Ok(Some(rest)) => {
             *part = rest;
             Ok(None)
@@ -120,11 +133,12 @@ fn take_piece(
 }
 
 impl TraceReader {
-    /// A reader of a text of which nothing came yet.
-    pub fn new(alloc: Global) -> TraceReader
-        ensures { result ≡ Reading [] }
+    /// A reader of a text in an edition, of which nothing came yet.
+    pub fn new(alloc: Global, edition: Edition) -> TraceReader
+        ensures { result ≡ Reading edition [] }
     {
         TraceReader {
+            edition,
             lines: Lines::new(alloc),
             part: Vec::new(alloc),
             fault: None,
@@ -138,7 +152,7 @@ impl TraceReader {
         if let Some(line) = self.fault {
             return Err(TraceRefusal::Fault { line });
         }
-        match take_piece(&mut self.lines, &mut self.part, alloc, piece) {
+        match take_piece(&mut self.lines, &mut self.part, alloc, self.edition, piece) {
             Ok(None) => Ok(()),
             Ok(Some(line)) => {
                 self.fault = Some(line);
@@ -152,11 +166,16 @@ impl TraceReader {
     pub fn finish(self) -> Result<Vec<Entry>, TraceRefusal>
         ensures { Finishes self (result_map_both (λ entries. entries.items) (λ why. why) result) }
     {
-        let TraceReader { lines, part, fault } = self;
+        let TraceReader {
+            edition,
+            lines,
+            part,
+            fault,
+        } = self;
         if let Some(line) = fault {
             return Err(TraceRefusal::Fault { line });
         }
-        match lines.missing(&part) {
+        match lines.missing(edition, &part) {
             None => Ok(lines.entries),
             Some(line) => Err(TraceRefusal::Fault { line }),
         }
@@ -165,15 +184,15 @@ impl TraceReader {
 
 /// The entries of a trace's text, oldest first.
 pub fn read_trace(alloc: Global, bytes: &[u8]) -> Result<Vec<Entry>, TraceRefusal>
-    ensures { Tells bytes.now (result_map_both (λ entries. entries.items) (λ why. why) result) }
+    ensures { Tells Edition.Two bytes.now (result_map_both (λ entries. entries.items) (λ why. why) result) }
 {
-    let mut reader = TraceReader::new(alloc);
+    let mut reader = TraceReader::new(alloc, Edition::Two);
     reader.feed(alloc, bytes)?;
     reader.finish()
 }
 
-/// Two traces of readable entries never have the same text.
+/// Two traces of readable entries never have the same text in one edition.
 pub fn no_two_traces_share_a_text()
-    ensures { (entries others : List Entry) → AreReadable entries → AreReadable others
-        → text_of entries ≡ text_of others → entries ≡ others }
+    ensures { (edition : Edition) (entries others : List Entry) → AreReadable edition entries → AreReadable edition others
+        → text_of edition entries ≡ text_of edition others → entries ≡ others }
 {}

@@ -1,6 +1,7 @@
 // Reads traces from files and says of each how many entries it has, or the line of its fault. A word before their paths says how:
 // `whole`; or `pieces`, and then each is read in pieces of 1, 2 and 7 bytes too, and what was read is printed again; or `cuts`,
-// and then each proper front of each is read, which must be refused with the line that holds the cut.
+// and then each proper front of each is read, which must be refused with the line that holds the cut; or `migrated`, and then the text
+// of each in the second edition is printed, where it is one of the first.
 #![tactic(auto)]
 
 ghost use Rattle.std.specs.Prelude.{◌<◌};
@@ -8,8 +9,10 @@ ghost use Rattle.std.specs.Prelude.{◌<◌};
 use sgx_rules::entries::Entry;
 use std::alloc::{AllocError, Global};
 use std::{env, fs, io};
+use trace_migrate::migrating::migrate;
 use trace_reader::reader::{TraceReader, read_trace};
 use trace_reader::refusals::TraceRefusal;
+use trace_text::edition::Edition;
 use trace_text::trace::print_trace;
 
 fn main(rt: HostRuntime) -> io::Result<()> {
@@ -19,6 +22,7 @@ fn main(rt: HostRuntime) -> io::Result<()> {
             "whole" => mode = Mode::Whole,
             "pieces" => mode = Mode::Pieces,
             "cuts" => mode = Mode::Cuts,
+            "migrated" => mode = Mode::Migrated,
             path => tell(&rt, mode, path)?,
         }
     }
@@ -31,6 +35,7 @@ enum Mode {
     Whole,
     Pieces,
     Cuts,
+    Migrated,
 }
 
 fn tell(rt: &HostRuntime, mode: Mode, path: &str) -> io::Result<()> {
@@ -38,6 +43,7 @@ fn tell(rt: &HostRuntime, mode: Mode, path: &str) -> io::Result<()> {
     let bytes = text.as_bytes();
     match mode {
         Mode::Cuts => tell_cuts(rt, path, bytes),
+        Mode::Migrated => tell_migrated(rt, path, bytes),
         Mode::Whole => tell_text(rt, path, bytes, false),
         Mode::Pieces => tell_text(rt, path, bytes, true),
     }
@@ -63,6 +69,17 @@ fn tell_told(
             println!(rt; "{path}: {} entries", entries.len())
         }
         Ok(_) => println!(rt; "{path}: printed otherwise"),
+        Err(TraceRefusal::Fault { line }) => println!(rt; "{path}: line {line}"),
+        Err(TraceRefusal::Memory) => println!(rt; "{path}: no memory"),
+    }
+}
+
+fn tell_migrated(rt: &HostRuntime, path: &str, bytes: &[u8]) -> io::Result<()> {
+    if bytes.len() > 1 << 30 {
+        return println!(rt; "{path}: too long");
+    }
+    match migrate(rt.alloc(), bytes) {
+        Ok(text) => println!(rt; "{path}: {}", str::from_utf8(&text).unwrap_or("no text")),
         Err(TraceRefusal::Fault { line }) => println!(rt; "{path}: line {line}"),
         Err(TraceRefusal::Memory) => println!(rt; "{path}: no memory"),
     }
@@ -97,7 +114,7 @@ fn is_kept(alloc: Global, front: &[u8], fault: TraceRefusal) -> bool {
 }
 
 fn is_answered_again(alloc: Global, text: &[u8], last: usize, fault: TraceRefusal) -> bool {
-    let mut reader = TraceReader::new(alloc);
+    let mut reader = TraceReader::new(alloc, Edition::Two);
     let is_so = is_answered_behind(alloc, &mut reader, text, last, fault);
     let ends = reader.finish().err();
     is_so && ends == Some(fault)
@@ -140,7 +157,7 @@ fn is_printed(alloc: Global, entries: &[Entry], bytes: &[u8]) -> bool {
 fn read_pieces(alloc: Global, bytes: &[u8], size: usize) -> Result<Vec<Entry>, TraceRefusal>
     requires { 0 < size }
 {
-    let mut reader = TraceReader::new(alloc);
+    let mut reader = TraceReader::new(alloc, Edition::Two);
     for piece in bytes.chunks(size) {
         let _ = reader.feed(alloc, piece);
     }

@@ -1,7 +1,36 @@
 -- The words of some fields, and of others behind them.
-use Rattle.std.proofs.Common.{◌≡◌, List, ◌++◌}
+use Rattle.std.proofs.Common.{◌≡◌, ℕ, List, ◌++◌, Option, Some, None, refl}
 use Rattle.std.proofs.lemmas.Grind.{flat_map-append}
-use Rattle.trace_text.specs.Fields.{Field, field_words, words_of}
+use Rattle.trace_text.specs.declared.edition.Edition.{Edition}
+use Rattle.trace_text.specs.declared.edition.Edition.TheVariants as editions
+use Rattle.sgx_rules.specs.declared.entries.Action.TheVariants as actions
+use Rattle.sgx_types.specs.declared.lawful.PageInit.{PageInit}
+use Rattle.sgx_types.specs.declared.lawful.PageInit.TheVariants as inits
+use Rattle.sgx_types.specs.declared.names.Frame.{Frame}
+use Rattle.sgx_types.specs.declared.names.Kind.{Kind}
+use Rattle.sgx_types.specs.declared.names.Perm.{Perm}
+use Rattle.sgx_rules.specs.declared.refusals.Refusal.{Refusal}
+use Rattle.sgx_rules.specs.declared.refusals.Refusal.TheVariants as why
+use Rattle.trace_text.specs.Fields.{Field, action_fields, field_words, refusal_fields, words_of}
 
-pub words_append : (fields others : List Field) → words_of (fields ++ others) ≡ words_of fields ++ words_of others
-words_append fields others = flat_map-append field_words fields others
+pub words_append : (edition : Edition) (fields others : List Field)
+    → words_of edition (fields ++ others) ≡ words_of edition fields ++ words_of edition others
+words_append edition fields others = flat_map-append (field_words edition) fields others
+
+-- no refusal tells a page, so each edition has it alike
+pub refusal_words : (edition : Edition) (refusal : Refusal)
+    → words_of edition (refusal_fields refusal) ≡ words_of editions.Two (refusal_fields refusal)
+refusal_words edition why.WrongMode = refl
+refusal_words edition refusal = refl
+
+-- .. nor does an instruction of a build
+pub add_words : (edition : Edition) (enclave number : ℕ) (f : Frame) (kind : Kind) (perm : Perm) (init : PageInit)
+    → words_of edition (action_fields (actions.Add enclave number f kind perm init))
+    ≡ words_of editions.Two (action_fields (actions.Add enclave number f kind perm init))
+add_words edition enclave number f kind perm (inits.Words v) = refl
+add_words edition enclave number f kind perm (inits.Tcs ossa nssa) = refl
+
+pub init_words : (edition : Edition) (enclave : ℕ) (expect : Option (List ℕ))
+    → words_of edition (action_fields (actions.Init enclave expect)) ≡ words_of editions.Two (action_fields (actions.Init enclave expect))
+init_words edition enclave None = refl
+init_words edition enclave (Some digest) = refl

@@ -1,6 +1,7 @@
 -- The fields of a trace's lines: what stands in the line of each instruction, answer and refusal, in which order. How a field is spelled
 -- and which values it can have is said once, for all lines.
-use Rattle.std.specs.Prelude.{ℕ, ◌<◌, ◌^◌, List, [], ◌∷◌, ◌++◌, Option, Some, None, codes}
+use Rattle.std.specs.Prelude.{ℕ, ◌<◌, ◌^◌, ◌-◌, ◌==◌, ◌&&◌, not, nat_lt, if◌then◌else◌, Bool, List, [], ◌∷◌, ◌++◌, Option, Some, None}
+use Rattle.std.specs.Prelude.{codes}
 use Rattle.std.specs.Fmt.{decimal}
 use Rattle.std.specs.List.{AllByRecursion, flat_map}
 use Rattle.sgx_rules.specs.declared.entries.Event.{Event}
@@ -17,6 +18,8 @@ use Rattle.sgx_types.specs.declared.names.Frame.{Frame}
 use Rattle.sgx_types.specs.declared.names.Page.{Page}
 use Rattle.sgx_types.specs.Digests.{IsDigest}
 use Rattle.text_words.specs.Words.{Words, digest_word, enclave_word, hexadecimal}
+use Rattle.trace_text.specs.declared.edition.Edition.{Edition}
+use Rattle.trace_text.specs.declared.edition.Edition.TheVariants as editions
 use Rattle.trace_text.specs.Names.{access_word, cause_word, fault_word, kind_word, look_word, perms_word, stop_word}
 
 -- ---- a field
@@ -29,15 +32,27 @@ pub data Field : Type 0 where
   page : Page → Field
   digest : List ℕ → Field
 
+-- the SECS page of an enclave that has a letter
+abbrev pub is_lettered_secs : Page → Bool
+is_lettered_secs p = (p.number == 2 ^ 32 - 1) && nat_lt p.enclave 9
+
+-- A page has two words: its enclave and its number there. The second edition writes a version array page, which is of enclave 0, as `va`
+-- and its number, and a SECS page as the letter of its enclave and `secs`.
+abbrev pub page_words : Edition → Page → Words
+page_words editions.One p = enclave_word p.enclave ∷ decimal p.number ∷ []
+page_words editions.Two p =
+    if p.enclave == 0 then codes "va" ∷ decimal p.number ∷ []
+    else (if is_lettered_secs p then enclave_word p.enclave ∷ codes "secs" ∷ [] else enclave_word p.enclave ∷ decimal p.number ∷ [])
+
 -- a name as it stands; a number of so many bits in decimal; an address of 64 bits in hexadecimal; an enclave by its letter or its
--- digits; a page by its enclave and its number there; the bytes of a digest in hexadecimal
-abbrev pub field_words : Field → Words
-field_words (name word) = word ∷ []
-field_words (number bits n) = decimal n ∷ []
-field_words (address n) = hexadecimal n ∷ []
-field_words (enclave e) = enclave_word e ∷ []
-field_words (page p) = enclave_word p.enclave ∷ decimal p.number ∷ []
-field_words (digest bytes) = digest_word bytes ∷ []
+-- digits; a page as the edition has it; the bytes of a digest in hexadecimal
+abbrev pub field_words : Edition → Field → Words
+field_words edition (name word) = word ∷ []
+field_words edition (number bits n) = decimal n ∷ []
+field_words edition (address n) = hexadecimal n ∷ []
+field_words edition (enclave e) = enclave_word e ∷ []
+field_words edition (page p) = page_words edition p
+field_words edition (digest bytes) = digest_word bytes ∷ []
 
 -- a field's value has its bits, and a digest its bytes
 abbrev pub Fits : Field → Type 0
@@ -49,8 +64,8 @@ Fits (page p) = (p.enclave < 2 ^ 16) × (p.number < 2 ^ 32)
 Fits (digest bytes) = IsDigest bytes
 
 -- the words of fields, one behind the other
-abbrev pub words_of : List Field → Words
-words_of fields = flat_map field_words fields
+abbrev pub words_of : Edition → List Field → Words
+words_of edition fields = flat_map (field_words edition) fields
 
 abbrev pub AllFit : List Field → Type 0
 AllFit fields = AllByRecursion Fits fields
@@ -107,6 +122,7 @@ answer_fields (answers.Hash bytes) = digest bytes ∷ []
 answer_fields (answers.Version v) = number 64 v ∷ []
 answer_fields (answers.Moved p v tag) = page p ∷ number 64 v ∷ digest tag ∷ []
 answer_fields (answers.Pf fault) = name (fault_word fault) ∷ []
+answer_fields (answers.Va n) = number 32 n ∷ []
 
 -- the forms that answers have
 pub data Form : Type 0 where
@@ -117,6 +133,7 @@ pub data Form : Type 0 where
   version : Form
   moved : Form
   pf : Form
+  va : Form
 
 abbrev pub answer_form : Answer → Form
 answer_form answers.Plain = plain
@@ -126,22 +143,29 @@ answer_form (answers.Hash bytes) = hash
 answer_form (answers.Version v) = version
 answer_form (answers.Moved p v tag) = moved
 answer_form (answers.Pf fault) = pf
+answer_form (answers.Va n) = va
+
+-- the number of a version array page stands in the second edition alone
+abbrev pub epa_form : Edition → Form
+epa_form editions.One = plain
+epa_form editions.Two = va
 
 -- the form of what an instruction answers when it is done
-abbrev pub form_of : Action → Form
-form_of (actions.Enter e tcs tf sf) = cssa
-form_of (actions.Resume e tcs tf sf) = value
-form_of (actions.Load off) = value
-form_of (actions.Xadd off v) = value
-form_of (actions.Plus v) = value
-form_of (actions.OutLoad e off) = value
-form_of (actions.Init e expect) = hash
-form_of (actions.EwbStart f slot) = version
-form_of (actions.EldStart f p slot) = version
-form_of (actions.Ewb f) = moved
-form_of (actions.Eld f) = moved
-form_of (actions.Pf op off) = pf
-form_of action = plain
+abbrev pub form_of : Edition → Action → Form
+form_of edition (actions.Epa f) = epa_form edition
+form_of edition (actions.Enter e tcs tf sf) = cssa
+form_of edition (actions.Resume e tcs tf sf) = value
+form_of edition (actions.Load off) = value
+form_of edition (actions.Xadd off v) = value
+form_of edition (actions.Plus v) = value
+form_of edition (actions.OutLoad e off) = value
+form_of edition (actions.Init e expect) = hash
+form_of edition (actions.EwbStart f slot) = version
+form_of edition (actions.EldStart f p slot) = version
+form_of edition (actions.Ewb f) = moved
+form_of edition (actions.Eld f) = moved
+form_of edition (actions.Pf op off) = pf
+form_of edition action = plain
 
 -- ---- refusals
 

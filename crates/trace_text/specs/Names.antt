@@ -14,6 +14,8 @@ use Rattle.sgx_types.specs.declared.names.Kind.{Kind}
 use Rattle.sgx_types.specs.declared.names.Kind.TheVariants as kinds
 use Rattle.sgx_types.specs.declared.names.Perm.{Perm}
 use Rattle.text_words.specs.Words.{perm_word}
+use Rattle.trace_text.specs.declared.edition.Edition.{Edition}
+use Rattle.trace_text.specs.declared.edition.Edition.TheVariants as editions
 
 abbrev pub kind_word : Kind → List ℕ
 kind_word kinds.Secs = codes "secs"
@@ -57,3 +59,9 @@ stop_word stops.NoRecord = codes "none"
 stop_word stops.PutFailed = codes "put"
 stop_word stops.Mac = codes "mac"
 stop_word stops.Header = codes "header"
+stop_word stops.Slot = codes "slot"
+
+-- the number on a text's first line
+abbrev pub edition_word : Edition → List ℕ
+edition_word editions.One = codes "1"
+edition_word editions.Two = codes "2"

@@ -2,6 +2,7 @@
 #![tactic(auto)]
 
 mod actions;
+pub mod edition;
 pub mod names;
 pub mod room;
 pub mod trace;

@@ -93,6 +93,7 @@ pub(crate) fn stop_name(stop: BusWhy) -> &'static str
         BusWhy::PutFailed => "put",
         BusWhy::Mac => "mac",
         BusWhy::Header => "header",
+        BusWhy::Slot => "slot",
     }
 }
 

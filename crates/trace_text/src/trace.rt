@@ -6,18 +6,19 @@ ghost use Rattle.trace_text.specs.TraceText.{actor_word, entry_text, first_line,
 ghost use Rattle.text_words.specs.inner.Room.{HasRoom, UsesRoom};
 ghost use Rattle.text_words.specs.inner.Words.{with_words};
 
-use crate::actions::write_action;
+use crate::actions::{write_action, write_page};
+use crate::edition::Edition;
 use crate::names::{fault_name, look_name, refusal_name, stop_name};
 use crate::room::{ACTOR_ROOM, ANSWER_ROOM, EVENT_ROOM, LONGEST_LINE, SPELLING_ROOM};
 use sgx_rules::entries::{Action, Answer, BusWhy, Entry, Event, Look};
 use sgx_rules::refusals::Refusal;
 use sgx_types::names::{Actor, Cpu, Memory, Page};
 use std::alloc::Global;
-use text_words::words::Word::{Decimal, Digest, Enclave, Name};
+use text_words::words::Word::{Decimal, Digest, Name};
 use text_words::words::{write_line, write_spaced, write_word, write_words};
 
 /// The text of a trace, whose entries are given oldest first.
-#[tactic(auto, using(crate::proofs::EntryLaws::entries_text_more), unfolding(crate::specs::TraceText::trace_of))]
+#[tactic(auto, using(crate::proofs::EntryLaws::entries_text_more), unfolding(crate::specs::TraceText::trace_in))]
 pub fn print_trace(alloc: Global, entries: &[Entry]) -> Result<Vec<u8>, Memory>
     ensures { IfOk result (λ text. text.items ≡ trace_of (reverse entries.now)) }
 {
@@ -35,10 +36,10 @@ pub fn print_trace(alloc: Global, entries: &[Entry]) -> Result<Vec<u8>, Memory>
 /// Writes the line before the entries.
 pub fn print_first_line(onto: &mut Vec<u8>)
     requires { HasRoom LONGEST_LINE onto.old }
-    ensures text { onto.new.items ≡ onto.old.items ++ first_line }
+    ensures text { onto.new.items ≡ onto.old.items ++ first_line Edition.Two }
     ensures room { UsesRoom LONGEST_LINE onto.old onto.new }
 {
-    write_line(Name("trace"), &[Name("1")], onto);
+    write_line(Name("trace"), &[Name("2")], onto);
 }
 
 /// Writes the line behind so many entries.
@@ -54,22 +55,22 @@ pub fn print_last_line(entries: usize, onto: &mut Vec<u8>)
 #[tactic(auto, unfolding(crate::specs::TraceText::entry_text))]
 pub fn print_entry(entry: &Entry, onto: &mut Vec<u8>)
     requires { HasRoom LONGEST_LINE onto.old }
-    ensures text { onto.new.items ≡ onto.old.items ++ entry_text entry.now }
+    ensures text { onto.new.items ≡ onto.old.items ++ entry_text Edition.Two entry.now }
     ensures room { UsesRoom LONGEST_LINE onto.old onto.new }
 {
-    print_spelling(entry, onto);
+    print_spelling(Edition::Two, entry, onto);
     onto.push_reserved(b'\n');
 }
 
-/// Writes the line of an entry without its line feed.
+/// Writes the line of an entry without its line feed, as an edition has it.
 #[tactic(auto, using(text_words::proofs::LineLaws::with_words_join), unfolding(crate::specs::TraceText::spelling))]
-pub fn print_spelling(entry: &Entry, onto: &mut Vec<u8>)
+pub fn print_spelling(edition: Edition, entry: &Entry, onto: &mut Vec<u8>)
     requires { HasRoom SPELLING_ROOM onto.old }
-    ensures text { onto.new.items ≡ onto.old.items ++ spelling entry.now }
+    ensures text { onto.new.items ≡ onto.old.items ++ spelling edition entry.now }
     ensures room { UsesRoom SPELLING_ROOM onto.old onto.new }
 {
     write_actor(&entry.actor, onto);
-    write_event(&entry.event, onto);
+    write_event(edition, &entry.event, onto);
 }
 
 fn write_actor(actor: &Actor, onto: &mut Vec<u8>)
@@ -89,77 +90,65 @@ fn write_actor(actor: &Actor, onto: &mut Vec<u8>)
 
 // A function pays at its entry for the lists of words of all its arms, so each arm with a list of them is one of its own.
 #[tactic(auto, using(text_words::proofs::LineLaws::with_words_append, crate::proofs::FieldLaws::words_append))]
-fn write_event(event: &Event, onto: &mut Vec<u8>)
+fn write_event(edition: Edition, event: &Event, onto: &mut Vec<u8>)
     requires { HasRoom EVENT_ROOM onto.old }
-    ensures text { onto.new.items ≡ with_words onto.old.items (words_of (event_fields event.now)) }
+    ensures text { onto.new.items ≡ with_words onto.old.items (words_of edition (event_fields event.now)) }
     ensures room { UsesRoom EVENT_ROOM onto.old onto.new }
 {
     match event {
         Event::Did { action, answer } => {
-            write_action(action, onto);
-            write_answer(answer, onto);
+            write_action(edition, action, onto);
+            write_answer(edition, answer, onto);
         }
-        Event::Refused { action, why } => write_refused(action, why, onto),
-        Event::Age { page, look } => write_age(*page, *look, onto),
+        Event::Refused { action, why } => write_refused(edition, action, why, onto),
+        Event::Age { page, look } => write_age(edition, *page, *look, onto),
         Event::Kick { cpu } => write_kick(*cpu, onto),
-        Event::Bus { page, why } => write_bus(*page, *why, onto),
+        Event::Bus { page, why } => write_bus(edition, *page, *why, onto),
     }
 }
 
-#[tactic(auto, using(text_words::proofs::LineLaws::with_words_append, crate::proofs::FieldLaws::words_append))]
-fn write_refused(action: &Action, why: &Refusal, onto: &mut Vec<u8>)
+#[tactic(auto, using(text_words::proofs::LineLaws::with_words_append, crate::proofs::FieldLaws::words_append, crate::proofs::FieldLaws::refusal_words))]
+fn write_refused(edition: Edition, action: &Action, why: &Refusal, onto: &mut Vec<u8>)
     requires { HasRoom EVENT_ROOM onto.old }
-    ensures text { onto.new.items ≡ with_words onto.old.items (words_of (event_fields (Event.Refused action.now why.now))) }
+    ensures text { onto.new.items ≡ with_words onto.old.items (words_of edition (event_fields (Event.Refused action.now why.now))) }
     ensures room { UsesRoom EVENT_ROOM onto.old onto.new }
 {
     write_spaced(Name("refused"), onto);
-    write_action(action, onto);
+    write_action(edition, action, onto);
     write_refusal(why, onto);
 }
 
-fn write_age(page: Page, look: Look, onto: &mut Vec<u8>)
+fn write_age(edition: Edition, page: Page, look: Look, onto: &mut Vec<u8>)
     requires { HasRoom EVENT_ROOM onto.old }
-    ensures text { onto.new.items ≡ with_words onto.old.items (words_of (event_fields (Event.Age page look))) }
+    ensures text { onto.new.items ≡ with_words onto.old.items (words_of edition (event_fields (Event.Age page look))) }
     ensures room { UsesRoom EVENT_ROOM onto.old onto.new }
 {
-    write_words(
-        &[
-            Name("age"),
-            Enclave(page.enclave.into()),
-            Decimal(page.number.into()),
-            Name(look_name(look)),
-        ],
-        onto,
-    );
+    write_spaced(Name("age"), onto);
+    write_page(edition, page, onto);
+    write_spaced(Name(look_name(look)), onto);
 }
 
 fn write_kick(cpu: Cpu, onto: &mut Vec<u8>)
     requires { HasRoom EVENT_ROOM onto.old }
-    ensures text { onto.new.items ≡ with_words onto.old.items (words_of (event_fields (Event.Kick cpu))) }
+    ensures text { onto.new.items ≡ with_words onto.old.items (words_of Edition.Two (event_fields (Event.Kick cpu))) }
     ensures room { UsesRoom EVENT_ROOM onto.old onto.new }
 {
     write_words(&[Name("kick"), Decimal(cpu.0.into())], onto);
 }
 
-fn write_bus(page: Page, why: BusWhy, onto: &mut Vec<u8>)
+fn write_bus(edition: Edition, page: Page, why: BusWhy, onto: &mut Vec<u8>)
     requires { HasRoom EVENT_ROOM onto.old }
-    ensures text { onto.new.items ≡ with_words onto.old.items (words_of (event_fields (Event.Bus page why))) }
+    ensures text { onto.new.items ≡ with_words onto.old.items (words_of edition (event_fields (Event.Bus page why))) }
     ensures room { UsesRoom EVENT_ROOM onto.old onto.new }
 {
-    write_words(
-        &[
-            Name("bus"),
-            Enclave(page.enclave.into()),
-            Decimal(page.number.into()),
-            Name(stop_name(why)),
-        ],
-        onto,
-    );
+    write_spaced(Name("bus"), onto);
+    write_page(edition, page, onto);
+    write_spaced(Name(stop_name(why)), onto);
 }
 
-fn write_answer(answer: &Answer, onto: &mut Vec<u8>)
+fn write_answer(edition: Edition, answer: &Answer, onto: &mut Vec<u8>)
     requires { HasRoom ANSWER_ROOM onto.old }
-    ensures text { onto.new.items ≡ with_words onto.old.items (words_of (answer_fields answer.now)) }
+    ensures text { onto.new.items ≡ with_words onto.old.items (words_of edition (answer_fields answer.now)) }
     ensures room { UsesRoom ANSWER_ROOM onto.old onto.new }
 {
     match *answer {
@@ -168,40 +157,34 @@ fn write_answer(answer: &Answer, onto: &mut Vec<u8>)
         Answer::Value(value) => write_spaced(Decimal(value), onto),
         Answer::Hash(digest) => write_hash(digest, onto),
         Answer::Version(version) => write_spaced(Decimal(version), onto),
-        Answer::Moved { page, version, tag } => write_moved(page, version, tag, onto),
+        Answer::Moved { page, version, tag } => write_moved(edition, page, version, tag, onto),
         Answer::Pf(fault) => write_spaced(Name(fault_name(fault)), onto),
+        Answer::Va(number) => write_spaced(Decimal(number.into()), onto),
     }
 }
 
 fn write_hash(digest: [u8; 32], onto: &mut Vec<u8>)
     requires { HasRoom ANSWER_ROOM onto.old }
-    ensures text { onto.new.items ≡ with_words onto.old.items (words_of (answer_fields (Answer.Hash digest))) }
+    ensures text { onto.new.items ≡ with_words onto.old.items (words_of Edition.Two (answer_fields (Answer.Hash digest))) }
     ensures room { UsesRoom ANSWER_ROOM onto.old onto.new }
 {
     write_words(&[Digest(digest)], onto);
 }
 
-fn write_moved(page: Page, version: u64, tag: [u8; 32], onto: &mut Vec<u8>)
+fn write_moved(edition: Edition, page: Page, version: u64, tag: [u8; 32], onto: &mut Vec<u8>)
     requires { HasRoom ANSWER_ROOM onto.old }
-    ensures text { onto.new.items ≡ with_words onto.old.items (words_of (answer_fields (Answer.Moved page version tag))) }
+    ensures text { onto.new.items ≡ with_words onto.old.items (words_of edition (answer_fields (Answer.Moved page version tag))) }
     ensures room { UsesRoom ANSWER_ROOM onto.old onto.new }
 {
-    write_words(
-        &[
-            Enclave(page.enclave.into()),
-            Decimal(page.number.into()),
-            Decimal(version),
-            Digest(tag),
-        ],
-        onto,
-    );
+    write_page(edition, page, onto);
+    write_words(&[Decimal(version), Digest(tag)], onto);
 }
 
 /// Writes a refusal's name and its numbers.
 #[tactic(auto, using(text_words::proofs::LineLaws::with_words_named))]
 fn write_refusal(refusal: &Refusal, onto: &mut Vec<u8>)
     requires { HasRoom ANSWER_ROOM onto.old }
-    ensures text { onto.new.items ≡ with_words onto.old.items (words_of (refusal_fields refusal.now)) }
+    ensures text { onto.new.items ≡ with_words onto.old.items (words_of Edition.Two (refusal_fields refusal.now)) }
     ensures room { UsesRoom ANSWER_ROOM onto.old onto.new }
 {
     write_words(&[Name(refusal_name(refusal))], onto);
@@ -210,7 +193,7 @@ fn write_refusal(refusal: &Refusal, onto: &mut Vec<u8>)
 
 fn write_refusal_fields(refusal: &Refusal, onto: &mut Vec<u8>)
     requires { HasRoom 250 onto.old }
-    ensures text { onto.new.items ≡ with_words onto.old.items (drop 1 (words_of (refusal_fields refusal.now))) }
+    ensures text { onto.new.items ≡ with_words onto.old.items (drop 1 (words_of Edition.Two (refusal_fields refusal.now))) }
     ensures room { UsesRoom 250 onto.old onto.new }
 {
     match *refusal {

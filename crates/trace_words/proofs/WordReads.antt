@@ -1,9 +1,10 @@
 -- A word that is printed is a word, and is read again as what it was printed of.
-use Rattle.std.proofs.Common.{◌≡◌, ℕ, ◌*◌, ◌^◌, ◌<◌, ◌≤◌, Bool, true, false, ltb, List, [], ◌∷◌}
+use Rattle.std.proofs.Common.{◌≡◌, ◌==◌, ℕ, ◌*◌, ◌^◌, ◌-◌, ◌<◌, ◌≤◌, Bool, true, false, ltb, List, [], ◌∷◌, subst, sym}
 use Rattle.std.proofs.Common.{Some, None, length, decimal, codes, bytes_eq, refl, ap, ◌∙◌, arith, lit≤, inl, inr}
 use Rattle.std.proofs.Common.{◌⊎◌}
+use Rattle.std.specs.Prelude.{nat_lt}
 use Rattle.std.specs.List.{list_all}
-use Rattle.std.proofs.lemmas.Bool.{lt-ltb, le-leb, lt-leb, cases_lt, false_from_ne_true, and_from, and_parts}
+use Rattle.std.proofs.lemmas.Bool.{eqb-true, lt-ltb, le-leb, lt-leb, cases_lt, false_from_ne_true, and_from, and_parts}
 use Rattle.std.proofs.lemmas.Slice.Eq.{bytes_eq-Decides}
 use Rattle.std.proofs.lemmas.Bool.Decides.{nat_tests}
 use Rattle.std.proofs.lemmas.Fmt.{digits_is_IsNumeral}
@@ -26,19 +27,23 @@ use Rattle.sgx_rules.specs.declared.entries.BusWhy.TheVariants as stops
 use Rattle.sgx_types.specs.declared.names.Kind.{Kind}
 use Rattle.sgx_types.specs.declared.names.Kind.TheVariants as kinds
 use Rattle.sgx_types.specs.declared.names.Perm.{Perm}
-use Rattle.text_words.specs.Words.{digest_word, enclave_word, hexadecimal, letter}
-use Rattle.text_words.specs.Reading.{letter_of}
+use Rattle.text_words.specs.Words.{Words, digest_word, enclave_word, hexadecimal, letter}
+use Rattle.text_words.specs.Reading.{letter_of, number_of, numeral_of}
 use Rattle.text_words.proofs.Numerals.{number_of-decimal, number_of-hexadecimal}
-use Rattle.text_words.proofs.Splits.{is_word}
+use Rattle.text_words.proofs.Splits.{AreWords, is_word}
 use Rattle.text_words.proofs.WordLaws.{decimal-is_word, digest_of-encode_lower, letter-is_word, letter_of-letter}
 use Rattle.text_words.proofs.WordLaws.{small_of-decimal}
-use Rattle.trace_text.specs.Fields.{Fits, digest}
+use Rattle.sgx_types.specs.declared.names.Page.{Page}
+use Rattle.sgx_types.proofs.Truths.{tested}
+use Rattle.trace_text.specs.declared.edition.Edition.{Edition}
+use Rattle.trace_text.specs.declared.edition.Edition.TheVariants as editions
+use Rattle.trace_text.specs.Fields.{Fits, digest, is_lettered_secs, page, page_words}
 use Rattle.trace_text.specs.Names.{access_word, cause_word, fault_word, kind_word, look_word, perms_word, stop_word}
 use Rattle.trace_text.specs.TraceText.{actor_word}
 use Rattle.trace_text.specs.Readable.{FitsActor}
 use Rattle.trace_words.specs.inner.Names.{access_in, cause_in, fault_in, kind_in, look_in, perm_in, stop_in}
-use Rattle.trace_words.specs.inner.Reading.{actor_of, byte_in, cpu_of, enclave_in, expect_in, frame_in, number_in, short_in, small_in}
-use Rattle.trace_words.specs.inner.Reading.{tag_in}
+use Rattle.trace_words.specs.inner.Reading.{actor_of, byte_in, cpu_of, enclave_in, expect_in, frame_in, number_in, page_number_in}
+use Rattle.trace_words.specs.inner.Reading.{short_in, small_in, tag_in}
 
 -- ---- read again
 
@@ -94,6 +99,44 @@ enclave-read enclave lt = by_range (cases_lt enclave 1) (cases_lt 8 enclave)
     by_range (inr low) (inr high) = rw (le-leb 1 enclave low, le-leb enclave 8 high) (enclave-letter enclave low high)
     by_range (inl low) high = rw (lt-leb 1 enclave low) (enclave-digits enclave lt)
     by_range (inr low) (inl high) = rw (le-leb 1 enclave low, lt-leb enclave 8 high) (enclave-digits enclave lt)
+
+-- ---- pages
+
+va-read : enclave_in (codes "va") ≡ 0
+unfolding enclave_in letter_of short_in number_in number_of numeral_of
+va-read = refl
+
+secs-read : page_number_in (codes "secs") ≡ 2 ^ 32 - 1
+unfolding page_number_in
+secs-read = refl
+
+-- no digits are the name
+page_number-read : (n : ℕ) → n < 2 ^ 32 → page_number_in (decimal n) ≡ n
+unfolding page_number_in
+page_number-read n lt =
+    let numeral = digits_is_IsNumeral 10 false (lit≤ tt) (lit≤ tt) n (omega arith) in
+    let other : bytes_eq (decimal n) (codes "secs") ≡ false = false_from_ne_true _ (λ e.
+    let all : AllDigits 10 (codes "secs") = subst (AllDigits 10) ((bytes_eq-Decides (decimal n) (codes "secs")).0 e) numeral.0.1 in
+    let low : 28 < 10 = all.0 in
+    omega (arith, low)) in
+    rw (other, small-read n lt) refl
+
+-- the two words of a page are read again as its enclave and its number
+abbrev pub IsPageRead : Page → Words → Type 0
+IsPageRead p (enclave ∷ (number ∷ [])) = (enclave_in enclave ≡ p.enclave) × (page_number_in number ≡ p.number)
+IsPageRead p words = ⊥
+
+pub page-read : (edition : Edition) (p : Page) → Fits (page p) → IsPageRead p (page_words edition p)
+page-read editions.One p fits = (enclave-read p.enclave fits.0, page_number-read p.number fits.1)
+page-read editions.Two p fits = by_kind (tested (p.enclave == 0)) (tested (is_lettered_secs p))
+  where
+    by_kind : ((p.enclave == 0) ≡ true) ⊎ ((p.enclave == 0) ≡ false) → (is_lettered_secs p ≡ true) ⊎ (is_lettered_secs p ≡ false)
+        → IsPageRead p (page_words editions.Two p)
+    by_kind (inl va) secs = rw va (va-read ∙ sym (eqb-true p.enclave 0 va), page_number-read p.number fits.1)
+    by_kind (inr other) (inl secs) =
+        let parts = and_parts (p.number == 2 ^ 32 - 1) (nat_lt p.enclave 9) secs in
+        rw (other, secs) (enclave-read p.enclave fits.0, secs-read ∙ sym (eqb-true p.number (2 ^ 32 - 1) parts.0))
+    by_kind (inr other) (inr plain) = rw (other, plain) (enclave-read p.enclave fits.0, page_number-read p.number fits.1)
 
 pub tag-read : (bytes : List ℕ) → Fits (digest bytes) → tag_in (digest_word bytes) ≡ bytes
 unfolding tag_in
@@ -159,6 +202,7 @@ stop-read stops.NoRecord = refl
 stop-read stops.PutFailed = refl
 stop-read stops.Mac = refl
 stop-read stops.Header = refl
+stop-read stops.Slot = refl
 
 pub perm-read : (perm : Perm) → perm_in (perms_word perm) ≡ perm
 unfolding perm_in
@@ -225,6 +269,7 @@ stop-is_word stops.NoRecord = refl
 stop-is_word stops.PutFailed = refl
 stop-is_word stops.Mac = refl
 stop-is_word stops.Header = refl
+stop-is_word stops.Slot = refl
 
 pub perm-is_word : (perm : Perm) → is_word (perms_word perm) ≡ true
 perm-is_word perm = by_bits perm.r perm.w perm.x
@@ -238,3 +283,14 @@ perm-is_word perm = by_bits perm.r perm.w perm.x
     by_bits false true false = refl
     by_bits false false true = refl
     by_bits false false false = refl
+
+pub page-are_words : (edition : Edition) (p : Page) → Fits (page p) → AreWords (page_words edition p)
+page-are_words editions.One p fits = (enclave-is_word p.enclave fits.0, (decimal-is_word p.number (omega (arith, fits.1)), tt))
+page-are_words editions.Two p fits = by_kind (tested (p.enclave == 0)) (tested (is_lettered_secs p))
+  where
+    by_kind : ((p.enclave == 0) ≡ true) ⊎ ((p.enclave == 0) ≡ false) → (is_lettered_secs p ≡ true) ⊎ (is_lettered_secs p ≡ false)
+        → AreWords (page_words editions.Two p)
+    by_kind (inl va) secs = rw va (refl, (decimal-is_word p.number (omega (arith, fits.1)), tt))
+    by_kind (inr other) (inl secs) = rw (other, secs) (enclave-is_word p.enclave fits.0, (refl, tt))
+    by_kind (inr other) (inr plain) =
+        rw (other, plain) (enclave-is_word p.enclave fits.0, (decimal-is_word p.number (omega (arith, fits.1)), tt))

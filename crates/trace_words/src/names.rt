@@ -166,6 +166,7 @@ const STOPS: &[(&[u8], BusWhy)] = &[
     (b"put", BusWhy::PutFailed),
     (b"mac", BusWhy::Mac),
     (b"header", BusWhy::Header),
+    (b"slot", BusWhy::Slot),
 ];
 
 #[tactic(auto, unfolding(crate::specs::inner::Names::stop_in))]

@@ -5,8 +5,8 @@ ghost use Rattle.std.specs.Prelude.{◌≡◌, IfSome};
 ghost use Rattle.sgx_types.specs.Digests.{IsDigest};
 ghost use Rattle.trace_text.specs.Fields.{Fits, expect_field};
 ghost use Rattle.trace_text.specs.Readable.{FitsActor};
-ghost use Rattle.trace_words.specs.inner.Reading.{actor_of, byte_in, cpu_of, enclave_in, expect_in, frame_in, number_in, short_in};
-ghost use Rattle.trace_words.specs.inner.Reading.{small_in, tag_in};
+ghost use Rattle.trace_words.specs.inner.Reading.{actor_of, byte_in, cpu_of, enclave_in, expect_in, frame_in, number_in};
+ghost use Rattle.trace_words.specs.inner.Reading.{page_number_in, short_in, small_in, tag_in};
 
 use sgx_types::names::{Actor, Cpu, Frame};
 use text_words::readers;
@@ -27,6 +27,17 @@ pub fn small(word: &[u8]) -> u32
     readers::small(word).unwrap_or(0)
 }
 
+/// The number of a page in its enclave. That of a SECS page is a name, too.
+#[tactic(auto, unfolding(crate::specs::inner::Reading::page_number_in))]
+pub fn page_number(word: &[u8]) -> u32
+    ensures { result ≡ page_number_in word.now }
+{
+    match word {
+        b"secs" => u32::MAX,
+        _ => small(word),
+    }
+}
+
 /// A number of 16 bits.
 #[tactic(auto, unfolding(crate::specs::inner::Reading::short_in))]
 pub fn short(word: &[u8]) -> u16
@@ -43,7 +54,7 @@ pub fn byte(word: &[u8]) -> u8
     u8::try_from(number(word)).unwrap_or(0)
 }
 
-/// An enclave by its letter, or by its digits.
+/// An enclave by its letter, or by its digits. Enclave 0 is also `va`, which tells no number.
 #[tactic(auto, unfolding(crate::specs::inner::Reading::enclave_in))]
 pub fn enclave(word: &[u8]) -> u16
     ensures { result ≡ enclave_in word.now }

@@ -1,5 +1,5 @@
--- Whether an answer has the form that its row gives, as a test. Of the ends of starts, and of the start of ELDU, the form says more, and is
--- tested apart.
+-- Whether an answer has the form that its row gives, as a test. Of EPA, of the ends of starts, and of the start of ELDU, the form says
+-- more, and is tested apart.
 use Rattle.std.specs.Prelude.{Bool, true, false}
 use Rattle.sgx_rules.specs.declared.entries.Action.{Action}
 use Rattle.sgx_rules.specs.declared.entries.Action.TheVariants.{Epa, Create, Add, Extend, Init, Enter, Resume, Exit, Aex, Fill}
@@ -34,9 +34,9 @@ abbrev pub is_fault : Answer → Bool
 is_fault (answers.Pf fault) = true
 is_fault _ = false
 
--- the instructions whose rows decide them: all but the two commits. The start of ELDU has its answer by its row too
+-- the instructions whose rows decide them: all but the two commits. EPA and the start of ELDU have their answers by their rows too
 abbrev pub has_form : Action → Answer → Bool
-has_form (Epa f) answer = is_plain answer
+has_form (Epa f) answer = false
 has_form (Create enclave f base size) answer = is_plain answer
 has_form (Add enclave number f kind perm init) answer = is_plain answer
 has_form (Extend f chunk) answer = is_plain answer

@@ -25,6 +25,7 @@ same_answer (answers.Hash one) (answers.Hash other) = bytes_eq one other
 same_answer (answers.Version m) (answers.Version n) = m == n
 same_answer (answers.Moved page m one) (answers.Moved next n other) = same_page page next && ((m == n) && bytes_eq one other)
 same_answer (answers.Pf m) (answers.Pf n) = same_fault m n
+same_answer (answers.Va m) (answers.Va n) = m == n
 same_answer _ _ = false
 
 -- a refusal without numbers

@@ -144,6 +144,7 @@ same_reason reasons.NoRecord reasons.NoRecord = true
 same_reason reasons.PutFailed reasons.PutFailed = true
 same_reason reasons.Mac reasons.Mac = true
 same_reason reasons.Header reasons.Header = true
+same_reason reasons.Slot reasons.Slot = true
 same_reason _ _ = false
 
 abbrev pub is_fetch : Page → SlotAt → Option ℕ → Event → Bool

@@ -23,7 +23,7 @@ use Rattle.sgx_rules.specs.declared.refusals.Refusal.TheVariants as why
 use Rattle.sgx_rules.specs.Eviction.{is_drained}
 use Rattle.sgx_rules.specs.Flat.{accepts, flat, flat_answer, is_visible}
 use Rattle.sgx_types.specs.Pages.{same_page}
-use Rattle.sgx_rules.specs.Frames.{Content, Holds, content, is_free}
+use Rattle.sgx_rules.specs.Frames.{Content, Holds, content, is_free, vas_made}
 use Rattle.sgx_rules.specs.Fresh.{Out, last_out}
 use Rattle.sgx_types.specs.Making.{Making}
 use Rattle.sgx_rules.specs.Processors.{holds_number, translations}
@@ -55,7 +55,7 @@ is_ended_in None page = false
 is_ended_in (Some start) page = loads_page start.loads page
 
 abbrev pub is_formed : List Entry → Action → Answer → Bool
-is_formed past (Epa f) answers.Plain = true
+is_formed past (Epa f) (answers.Va k) = k == vas_made past
 is_formed past (Create enclave f base size) answers.Plain = true
 is_formed past (Add enclave number f kind perm init) answers.Plain = true
 is_formed past (Extend f chunk) answers.Plain = true

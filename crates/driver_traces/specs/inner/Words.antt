@@ -46,7 +46,7 @@ refused actor action refusal = record { actor = actor; event = events.Refused ac
 -- ---- the build
 
 abbrev pub epa : Actor → ℕ → Entry
-epa actor f = did actor (actions.Epa (frame_at f)) answers.Plain
+epa actor f = did actor (actions.Epa (frame_at f)) (answers.Va 0)
 
 abbrev pub create : Actor → ℕ → Entry
 create actor f = did actor (actions.Create 1 (frame_at f) 0x10000 0x10000) answers.Plain

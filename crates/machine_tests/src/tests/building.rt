@@ -12,7 +12,7 @@ use std::test::Fail;
 
 const REFUSALS: &[Row] = &[
     Step(BUILDER, Epa(4), Err(Refusal::BadRange)),
-    Step(BUILDER, Epa(0), DONE),
+    Step(BUILDER, Epa(0), Ok(Answer::Va(0))),
     Step(BUILDER, Epa(0), Err(Refusal::FrameBusy)),
     Step(BUILDER, CreateSized(1, 0x3000), Err(Refusal::BadRange)),
     Step(BUILDER, Create(1), DONE),
@@ -51,7 +51,7 @@ const CHUNKS: &[Row] = &[
     Step(BUILDER, AddTcs(1), DONE),
     Step(BUILDER, Extend(1, 0), DONE),
     Step(BUILDER, AddReg(1, 2, RISING), DONE),
-    Step(BUILDER, Epa(3), DONE),
+    Step(BUILDER, Epa(3), Ok(Answer::Va(0))),
     Step(BUILDER, Extend(3, 1), Err(Refusal::BadKind)),
     Step(BUILDER, Extend(4, 1), Err(Refusal::BadRange)),
     Step(BUILDER, Extend(2, 1), DONE),

@@ -45,7 +45,7 @@ const MOVED_WITH_9: Answer = Answer::Moved {
 // Frame 0 holds a version array page, 1 the SECS, and 2 to 4 the pages 0 to 2 of enclave 1, the last of words 7; the one
 // processor is inside, and holds a translation of page 2.
 const INSIDE: &[Row] = &[
-    Step(BUILDER, Epa(0), DONE),
+    Step(BUILDER, Epa(0), Ok(Answer::Va(0))),
     Step(BUILDER, Create(1), DONE),
     Step(BUILDER, AddTcs(2), DONE),
     Step(BUILDER, AddReg(1, 3, 0), DONE),

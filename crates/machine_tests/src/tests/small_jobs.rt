@@ -33,7 +33,7 @@ const SMALL_JOB: &[Row] = &[
     Tells(Frames, Count(6)),
     Tells(FirstFree, Free(Some(Frame(0)))),
     Tells(FreeCount, Count(6)),
-    Step(BUILDER, Epa(0), DONE),
+    Step(BUILDER, Epa(0), Ok(Answer::Va(0))),
     Step(BUILDER, Create(1), DONE),
     Step(BUILDER, AddTcs(2), DONE),
     Step(BUILDER, AddReg(1, 3, 0), DONE),
@@ -67,7 +67,7 @@ fn a_small_job_answers_as_on_paper(rt: HostRuntime) -> Result<(), Fail> {
 
 const FAULTS: &[Row] = &[
     Step(BUILDER, Epa(6), Err(Refusal::BadRange)),
-    Step(BUILDER, Epa(0), DONE),
+    Step(BUILDER, Epa(0), Ok(Answer::Va(0))),
     Step(BUILDER, Epa(0), Err(Refusal::FrameBusy)),
     Step(BUILDER, AddTcs(2), Err(Refusal::Absent)),
     Step(BUILDER, Create(1), DONE),
@@ -105,7 +105,7 @@ const FAULTS: &[Row] = &[
     Step(FIRST, Exit, DONE),
     Step(SECOND, Enter(2, 3), Ok(Answer::Cssa(0))),
     Step(SECOND, Load(0x2000), Err(Refusal::Miss)),
-    Step(BUILDER, Epa(5), DONE),
+    Step(BUILDER, Epa(5), Ok(Answer::Va(1))),
     Tells(FirstFree, Free(None)),
 ];
 

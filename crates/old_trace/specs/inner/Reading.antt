@@ -2,9 +2,10 @@
 use Rattle.std.specs.Prelude.{ℕ, List, Option, Err}
 use Rattle.old_trace.specs.declared.unread.Unread.{Unread}
 use Rattle.old_trace.specs.declared.unread.Unread.TheVariants.{Bad}
+use Rattle.trace_text.specs.declared.edition.Edition.{Edition}
 use Rattle.old_trace.specs.Reading.{Reads, OfRead}
 
 -- where there is no trace for a fault of its text, it is what reading the bytes gives
-abbrev pub IsFaultOf : Option (List ℕ) → Unread → Type 0
-IsFaultOf left (Bad line) = OfRead left (λ bytes. Reads bytes (Err line))
-IsFaultOf left _ = Unit {0}
+abbrev pub IsFaultOf : Edition → Option (List ℕ) → Unread → Type 0
+IsFaultOf edition left (Bad line) = OfRead left (λ bytes. Reads edition bytes (Err line))
+IsFaultOf edition left _ = Unit {0}

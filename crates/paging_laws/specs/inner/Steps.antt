@@ -90,6 +90,7 @@ MayNeedMemory _ = ⊥
 
 -- what an instruction that its row allows answers, but for `init`
 abbrev pub answer_of : State → Actor → Action → Answer
+answer_of s actor (Epa f) = answers.Va s.vas_made
 answer_of s actor (Enter enclave tcs tf sf) = answers.Cssa (cssa_in s tf.0)
 answer_of s actor (Resume enclave tcs tf sf) = answers.Value (saved_word s sf.0)
 answer_of s (actors.Cpu p) (Load off) = answers.Value (word_at s p.0 off)

@@ -11,8 +11,8 @@ pub const WHOLE: &[Row] = &[
     Did(
         Actor::Builder,
         Action::Epa { frame: Frame(0) },
-        PLAIN,
-        "b epa 0",
+        Answer::Va(0),
+        "b epa 0 0",
     ),
     Did(
         Actor::Builder,
@@ -104,8 +104,8 @@ pub const WHOLE: &[Row] = &[
 
 // The text of the whole trace.
 pub const TEXT: &str = "\
-trace 1
-b epa 0
+trace 2
+b epa 0 0
 b create A 1 0x10000 0x10000
 b add A 0 2 tcs - tcs 1 1
 b add A 1 3 reg rw words 0

@@ -8,6 +8,7 @@ use io_edges::sources::Source;
 use old_trace::reading::read_old;
 use old_trace::unread::Unread;
 use std::test::Fail;
+use trace_text::edition::Edition;
 
 /// A source of bytes without end.
 #[derive(Debug, Drop)]
@@ -47,7 +48,7 @@ impl Source for EndlessSource {
 #[test]
 fn an_endless_text_is_too_long(rt: HostRuntime) -> Result<(), Fail> {
     let mut source = EndlessSource::new();
-    let told = read_old(rt.alloc(), &mut source);
+    let told = read_old(rt.alloc(), Edition::Two, &mut source);
     assert!(rt; told.err() == Some(Unread::Bad { line: 0 }));
     assert_eq!(rt; source.given(), (1 << 30) + 1);
     Ok(())

@@ -119,6 +119,33 @@ pub const PAGING: &[Row] = &[
         "p0 bus B 6 get",
     ),
     Other(
+        Actor::Reclaimer,
+        Event::Age {
+            page: Page {
+                enclave: 8,
+                number: u32::MAX,
+            },
+            look: Look::Held,
+        },
+        "r age H secs held",
+    ),
+    Other(
+        FIRST,
+        Event::Bus {
+            page: Page {
+                enclave: 0,
+                number: u32::MAX,
+            },
+            why: BusWhy::Slot,
+        },
+        "p0 bus va 4294967295 slot",
+    ),
+    Refused(
+        Action::Ewb { frame: Frame(4) },
+        Refusal::ChildPresent { count: 3 },
+        "p0 refused ewb 4 ChildPresent 3",
+    ),
+    Other(
         FIRST,
         Event::Bus {
             page: STOPPED_AT,

@@ -6,7 +6,7 @@ use std::alloc::Global;
 use std::test::Fail;
 
 // The words, with a space between two, and the command.
-const ROWS: [(&str, Option<Command>); 30] = [
+const ROWS: [(&str, Option<Command>); 32] = [
     ("run t", Some(Command::Run)),
     ("run ", None),
     ("Run t", None),
@@ -52,6 +52,8 @@ const ROWS: [(&str, Option<Command>); 30] = [
     ("audit", None),
     ("audit t x", None),
     ("Audit t", None),
+    ("migrate t", Some(Command::Migrate)),
+    ("migrate ", None),
 ];
 
 // What stands between the spaces of a text.

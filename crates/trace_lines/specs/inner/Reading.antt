@@ -15,14 +15,18 @@ use Rattle.sgx_rules.specs.declared.entries.Action.{Action}
 use Rattle.sgx_rules.specs.declared.entries.Action.TheVariants as actions
 use Rattle.sgx_rules.specs.declared.entries.Answer.{Answer}
 use Rattle.sgx_rules.specs.declared.entries.Answer.TheVariants as answers
+use Rattle.sgx_rules.specs.declared.entries.BusWhy.{BusWhy}
+use Rattle.sgx_rules.specs.declared.entries.BusWhy.TheVariants as stops
 use Rattle.sgx_rules.specs.declared.refusals.Refusal.{Refusal}
 use Rattle.sgx_rules.specs.declared.refusals.Refusal.TheVariants as why
 use Rattle.text_words.specs.Words.{Words}
 use Rattle.text_words.specs.Reading.{◌>>=◌}
-use Rattle.trace_text.specs.Fields.{Form, plain, cssa, value, hash, version, moved, pf, form_of}
+use Rattle.trace_text.specs.declared.edition.Edition.{Edition}
+use Rattle.trace_text.specs.declared.edition.Edition.TheVariants as editions
+use Rattle.trace_text.specs.Fields.{Form, plain, cssa, value, hash, version, moved, pf, va, form_of}
 use Rattle.trace_text.specs.Readable.{may_make}
-use Rattle.trace_words.specs.inner.Reading.{actor_of, byte_in, cpu_of, enclave_in, expect_in, frame_in, number_in, short_in, small_in}
-use Rattle.trace_words.specs.inner.Reading.{tag_in}
+use Rattle.trace_words.specs.inner.Reading.{actor_of, byte_in, cpu_of, enclave_in, expect_in, frame_in, number_in, page_number_in}
+use Rattle.trace_words.specs.inner.Reading.{short_in, small_in, tag_in}
 use Rattle.trace_words.specs.declared.names.Row.{Row}
 use Rattle.trace_words.specs.declared.names.Row.TheVariants as rows
 use Rattle.trace_words.specs.inner.Names.{access_in, bare_of, cause_in, fault_in, kind_in, look_in, perm_in, row_of, stop_in}
@@ -61,7 +65,7 @@ abbrev pub ◌⊛◌ : {A B : Type 0} → (Words → (A → B) × Words) → (Wo
 (f ⊛ x) words = ((f words).0 (x (f words).1).0, (x (f words).1).1)
 
 abbrev pub page_in : Words → Page × Words
-page_in = give (λ e n. record { enclave = e; number = n }) ⊛ word enclave_in ⊛ word small_in
+page_in = give (λ e n. record { enclave = e; number = n }) ⊛ word enclave_in ⊛ word page_number_in
 
 abbrev pub slot_in : Words → SlotAt × Words
 slot_in = give (λ f i. record { frame = f; index = i }) ⊛ word frame_in ⊛ word short_in
@@ -116,6 +120,7 @@ answer_in hash = give answers.Hash ⊛ word tag_in
 answer_in version = give answers.Version ⊛ word number_in
 answer_in moved = give answers.Moved ⊛ page_in ⊛ word number_in ⊛ word tag_in
 answer_in pf = give answers.Pf ⊛ word fault_in
+answer_in va = give answers.Va ⊛ word small_in
 
 -- a refusal that has fields
 unfoldable pub fielded_of : List ℕ → Words → Option (Refusal × Words)
@@ -126,7 +131,8 @@ fielded_of name words =
     else (if bytes_eq name (codes "MacFail") then Some ((give why.MacFail ⊛ word tag_in ⊛ word tag_in) words)
     else (if bytes_eq name (codes "BadHeader")
     then Some ((give why.BadHeader ⊛ word number_in ⊛ word number_in ⊛ word number_in) words)
-    else (if bytes_eq name (codes "BadMeasure") then Some ((give why.BadMeasure ⊛ word tag_in) words) else None)))))
+    else (if bytes_eq name (codes "ChildPresent") then Some ((give why.ChildPresent ⊛ word small_in) words)
+    else (if bytes_eq name (codes "BadMeasure") then Some ((give why.BadMeasure ⊛ word tag_in) words) else None))))))
 
 unfoldable pub refusal_of : Words → Option (Refusal × Words)
 refusal_of words = by_name (bare_of (first words))
@@ -143,25 +149,36 @@ refused_of words = do
   refusal ← refusal_of action.1
   Some (events.Refused action.0 refusal.0, refusal.1)
 
-unfoldable pub done_of : List ℕ → Words → Option (Event × Words)
-done_of name words = do
+unfoldable pub done_of : Edition → List ℕ → Words → Option (Event × Words)
+done_of edition name words = do
   action ← action_of name words
-  Some ((give (events.Did action.0) ⊛ answer_in (form_of action.0)) action.1)
+  Some ((give (events.Did action.0) ⊛ answer_in (form_of edition action.0)) action.1)
 
 unfoldable pub kick_of : Words → Option (Event × Words)
 kick_of words = do
   cpu ← cpu_of (first words)
   Some (events.Kick cpu, drop 1 words)
 
-unfoldable pub event_of : Words → Option (Event × Words)
-event_of words = by_name (first words) (drop 1 words)
+-- whether an edition has a word for why a page could not be reloaded
+abbrev pub knows : Edition → BusWhy → Bool
+knows editions.One stops.Slot = false
+knows edition stop = true
+
+unfoldable pub bus_of : Edition → Words → Option (Event × Words)
+bus_of edition words = by_stop (stop_in (first (page_in words).1))
+  where
+    by_stop : BusWhy → Option (Event × Words)
+    by_stop stop = if knows edition stop then Some (events.Bus (page_in words).0 stop, drop 1 (page_in words).1) else None
+
+unfoldable pub event_of : Edition → Words → Option (Event × Words)
+event_of edition words = by_name (first words) (drop 1 words)
   where
     by_name : List ℕ → Words → Option (Event × Words)
     by_name name rest =
         if bytes_eq name (codes "refused") then refused_of rest
         else (if bytes_eq name (codes "age") then Some ((give events.Age ⊛ page_in ⊛ word look_in) rest)
         else (if bytes_eq name (codes "kick") then kick_of rest
-        else (if bytes_eq name (codes "bus") then Some ((give events.Bus ⊛ page_in ⊛ word stop_in) rest) else done_of name rest)))
+        else (if bytes_eq name (codes "bus") then bus_of edition rest else done_of edition name rest)))
 
 -- what a reader of the code gave, and the words that it left
 abbrev pub Took : {A : Type 0} → Option A → Words → Option (A × Words) → Type 0
@@ -173,8 +190,8 @@ abbrev pub is_none : Words → Bool
 is_none [] = true
 is_none (w ∷ rest) = false
 
-unfoldable pub entry_of : Words → Option Entry
-entry_of words = do
+unfoldable pub entry_of : Edition → Words → Option Entry
+entry_of edition words = do
   actor ← actor_of (first words)
-  event ← event_of (drop 1 words)
+  event ← event_of edition (drop 1 words)
   if may_make actor event.0 && is_none event.1 then Some (record { actor = actor; event = event.0 }) else None

@@ -16,6 +16,7 @@ use Rattle.sgx_types.specs.declared.names.Kind.{Kind}
 use Rattle.sgx_types.specs.declared.names.Kind.TheVariants as kinds
 use Rattle.sgx_types.specs.declared.names.Perm.{Perm}
 use Rattle.text_words.specs.Words.{Words}
+use Rattle.trace_text.specs.declared.edition.Edition.TheVariants as editions
 use Rattle.trace_text.specs.Fields.{refusal_fields, words_of}
 use Rattle.trace_text.specs.Names.{access_word, cause_word, fault_word, kind_word, look_word, perms_word, stop_word}
 use Rattle.trace_words.specs.declared.names.Row.{Row}
@@ -87,12 +88,14 @@ unfoldable pub look_in : List ℕ → Look
 look_in word = unwrap_or (named look_word (looks.Young ∷ looks.Held ∷ looks.NoRoom ∷ looks.Taken ∷ []) word) looks.Young
 
 unfoldable pub stop_in : List ℕ → BusWhy
-stop_in word =
-    unwrap_or (named stop_word (stops.GetFailed ∷ stops.NoRecord ∷ stops.PutFailed ∷ stops.Mac ∷ stops.Header ∷ []) word) stops.GetFailed
+stop_in word = unwrap_or (named stop_word all word) stops.GetFailed
+  where
+    all : List BusWhy
+    all = stops.GetFailed ∷ stops.NoRecord ∷ stops.PutFailed ∷ stops.Mac ∷ stops.Header ∷ stops.Slot ∷ []
 
 -- the one word of a refusal that has no fields
 abbrev pub bare_word : Refusal → List ℕ
-bare_word refusal = first (words_of (refusal_fields refusal))
+bare_word refusal = first (words_of editions.Two (refusal_fields refusal))
   where
     first : Words → List ℕ
     first [] = []

@@ -1,5 +1,5 @@
 -- Reading a word of a trace's line, in any spelling of its number. A word that tells none is read as 0.
-use Rattle.std.specs.Prelude.{ℕ, ◌^◌, if◌then◌else◌, List, Option, Some, None, take, drop, nat_lt, codes, bytes_eq, unwrap_or}
+use Rattle.std.specs.Prelude.{ℕ, ◌^◌, ◌-◌, if◌then◌else◌, List, Option, Some, None, take, drop, nat_lt, codes, bytes_eq, unwrap_or}
 use Rattle.std.specs.Prelude.{replicate}
 use Rattle.sgx_types.specs.declared.names.Actor.{Actor}
 use Rattle.sgx_types.specs.declared.names.Actor.TheVariants as actors
@@ -13,6 +13,10 @@ number_in word = unwrap_or (number_of word) 0
 
 unfoldable pub small_in : List ℕ → ℕ
 small_in word = unwrap_or (small_of word) 0
+
+-- the number of a page in its enclave, which that of a SECS page has as a name
+unfoldable pub page_number_in : List ℕ → ℕ
+page_number_in word = if bytes_eq word (codes "secs") then 2 ^ 32 - 1 else small_in word
 
 unfoldable pub short_in : List ℕ → ℕ
 short_in word = if nat_lt (number_in word) (2 ^ 16) then number_in word else 0

@@ -55,7 +55,7 @@ cpu p = Cpu (record { 0 = p })
 
 -- this actor makes a version array of this frame
 abbrev pub epa : Actor → ℕ → Entry
-epa actor f = did actor (actions.Epa (frame_at f)) answers.Plain
+epa actor f = did actor (actions.Epa (frame_at f)) (answers.Va 0)
 
 -- enclave 1 is created, its SECS in frame 1
 abbrev pub create : Entry

@@ -15,18 +15,20 @@ pub returns-then-n-eq0-clause-entries : goal.returns-then-n-eq0-clause-entries
 returns-then-n-eq0-clause-entries g c =
     let was = c.loop-count.invariant in
     let short : length was.bytes ≤ 2 ^ 30 = omega (arith, was.count, c.loop-count-test.true) in
-    entries_read c.entries_of.result (λ entries. entries.items) c.read_piece.new.reader (g.S.Source.left c.args.source.now)
+    entries_read c.args.edition c.entries_of.result (λ entries. entries.items) c.read_piece.new.reader (g.S.Source.left c.args.source.now)
     (g.S.Source.left c.loop-count.source) (g.S.Source.left c.read_piece.new.source) was.bytes _ c.in_ok-n.n c.if-n-eq0.true short was.read
-    c.in_ok-n.ensures.read (c.in_ok-n.ensures.at_end c.if-n-eq0.true) (c.in_ok-n.ensures.seen was.bytes was.seen)
-    c.entries_of.ensures.entries
+    c.in_ok-n.ensures.read (c.in_ok-n.ensures.at_end c.if-n-eq0.true) (c.in_ok-n.ensures.seen c.args.edition was.bytes was.seen)
+    (c.entries_of.ensures.entries c.args.edition)
 
 pub returns-then-n-eq0-clause-fault : goal.returns-then-n-eq0-clause-fault
 returns-then-n-eq0-clause-fault g c =
     let was = c.loop-count.invariant in
     let short : length was.bytes ≤ 2 ^ 30 = omega (arith, was.count, c.loop-count-test.true) in
-    fault_read c.entries_of.result c.read_piece.new.reader (g.S.Source.left c.args.source.now) (g.S.Source.left c.loop-count.source)
+    fault_read c.args.edition c.entries_of.result c.read_piece.new.reader (g.S.Source.left c.args.source.now)
+    (g.S.Source.left c.loop-count.source)
     (g.S.Source.left c.read_piece.new.source) was.bytes _ c.in_ok-n.n c.if-n-eq0.true short was.read c.in_ok-n.ensures.read
-    (c.in_ok-n.ensures.at_end c.if-n-eq0.true) (c.in_ok-n.ensures.seen was.bytes was.seen) c.entries_of.ensures.fault
+    (c.in_ok-n.ensures.at_end c.if-n-eq0.true) (c.in_ok-n.ensures.seen c.args.edition was.bytes was.seen)
+    (c.entries_of.ensures.fault c.args.edition)
 
 pub loop-count-preserved : goal.loop-count-preserved
 loop-count-preserved g c =
@@ -41,7 +43,7 @@ loop-count-preserved g c =
           (g.S.Source.left c.read_piece.new.source)
           was.bytes more was.read c.in_ok-n.ensures.read;
       count = omega (arith, was.count, both, long, c.in_ok-n.ensures.bound, c.read_piece.ensures.length);
-      seen = c.in_ok-n.ensures.seen was.bytes was.seen;
+      seen = c.in_ok-n.ensures.seen c.args.edition was.bytes was.seen;
       short = omega (arith, was.count, room, c.min-room.ensures, c.in_ok-n.ensures.bound, c.loop-count-test.true);
       not_fallen = omega (arith, was.not_fallen, c.read_piece.ensures.cause.not_fallen);
     }
@@ -49,5 +51,5 @@ loop-count-preserved g c =
 pub returns-clause-fault : goal.returns-clause-fault
 returns-clause-fault g c =
     let was = c.loop-count.invariant in
-    too_long (g.S.Source.left c.args.source.now) (g.S.Source.left c.loop-count.source) was.bytes was.read
+    too_long c.args.edition (g.S.Source.left c.args.source.now) (g.S.Source.left c.loop-count.source) was.bytes was.read
     (omega (arith, was.count, c.loop-count-test.false))

@@ -8,7 +8,7 @@ invariant-loop-count g l = record {
   bytes : List ℕ;
   read : HasRead (g.S.Source.left l.initial.source) (g.S.Source.left l.source) bytes;
   count : length bytes ≡ l.count;
-  seen : HasSeen l.reader bytes;
+  seen : HasSeen l.fn.edition l.reader bytes;
   short : l.count ≤ 2 ^ 30 + 1;
   not_fallen : g.S.Source.faults l.initial.source ≤ g.S.Source.faults l.source;
 }

@@ -2,6 +2,7 @@ use Rattle.std.proofs.Common.{◌<◌, ◌≤◌, length, ap, ◌∙◌, arith}
 use Rattle.std.proofs.lemmas.Result.{on_err_weaker, on_ok_weaker}
 use Rattle.io_edges.specs.Sinks.{followed_by}
 use Rattle.io_edges.proofs.Read.{told_at_err}
+use Rattle.trace_text.specs.declared.edition.Edition.TheVariants as editions
 use Rattle.trace_text.specs.TraceText.{first_line}
 use Rattle.trace_text.proofs.EntryLaws.{entries_text_more}
 use Rattle.trace_pieces.proofs.HeldLaws.{broke_off, held_given, held_broke, held_line}
@@ -13,7 +14,7 @@ loop-entry-preserved g c =
     let within : c.loop-entry.entry-index < length c.args.entries.now = omega arith in
     record {
       held = held_line _ _ _ _ _ _ _ _ _ c.loop-entry.invariant.held c.in_ok-make_room.ensures.held c.hold_entry.ensures.text
-          (entries_text_more first_line c.args.entries.now c.loop-entry.entry-index _ within);
+          (entries_text_more editions.Two (first_line editions.Two) c.args.entries.now c.loop-entry.entry-index _ within);
       capacity = omega (arith, c.loop-entry.invariant.capacity, c.in_ok-make_room.ensures.capacity, c.hold_entry.ensures.capacity);
       not_fallen = omega (arith, c.loop-entry.invariant.not_fallen, c.in_ok-make_room.ensures.cause.not_fallen);
     }

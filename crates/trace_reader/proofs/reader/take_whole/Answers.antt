@@ -7,22 +7,26 @@ use Rattle.trace_reader.proofs.reader.take_whole.Goals as goal
 
 pub returns-else-branch-clause-taken : goal.returns-else-branch-clause-taken
 returns-else-branch-clause-taken c =
-    refused_more (joined (taken c.args.lines.now) ++ (c.args.part.now ++ c.args.end.now) ++ 10 ∷ c.args.behind.now)
-    (taken c.args.lines.now) (taken c.take_first.new.lines) ((c.args.part.now ++ c.args.end.now) ++ 10 ∷ c.args.behind.now)
+    refused_more c.args.edition (joined (taken c.args.edition c.args.lines.now) ++
+    (c.args.part.now ++ c.args.end.now) ++ 10 ∷ c.args.behind.now)
+    (taken c.args.edition c.args.lines.now) (taken c.args.edition c.take_first.new.lines)
+    ((c.args.part.now ++ c.args.end.now) ++ 10 ∷ c.args.behind.now)
     (c.args.part.now ++ c.args.end.now) c.args.behind.now c.in_ok-take_first.field-0
-    (append_assoc (joined (taken c.args.lines.now)) (c.args.part.now ++ c.args.end.now) (10 ∷ c.args.behind.now))
+    (append_assoc (joined (taken c.args.edition c.args.lines.now)) (c.args.part.now ++ c.args.end.now) (10 ∷ c.args.behind.now))
     (All-append (λ b. eqb b 10 ≡ false) c.args.part.now c.args.end.now c.requires.part c.requires.end)
     refl c.in_ok-take_first.ensures.taken c.if-branch.false
 
 pub returns-in_ok-to_vec-in-Some-clause-taken : goal.returns-in_ok-to_vec-in-Some-clause-taken
 returns-in_ok-to_vec-in-Some-clause-taken c =
-    taken_behind (taken c.args.lines.now) (taken c.take_first.new.lines) (taken c.take_lines.new.self)
+    taken_behind c.args.edition (taken c.args.edition c.args.lines.now) (taken c.args.edition c.take_first.new.lines)
+    (taken c.args.edition c.take_lines.new.self)
     (c.args.part.now ++ c.args.end.now) c.args.behind.now c.in-Some.rest.now c.in_ok-to_vec-in-Some.field-0.items c.in_ok-take_first.field-0
     c.in_ok-take_first.ensures.taken c.if-branch.true
     (rw c.in-Some.is at c.in_ok-rest.ensures.taken) (search rules)
 
 pub returns-in-None-clause-taken : goal.returns-in-None-clause-taken
 returns-in-None-clause-taken c =
-    refused_behind (taken c.args.lines.now) (taken c.take_first.new.lines) (taken c.take_lines.new.self)
+    refused_behind c.args.edition (taken c.args.edition c.args.lines.now) (taken c.args.edition c.take_first.new.lines)
+    (taken c.args.edition c.take_lines.new.self)
     (c.args.part.now ++ c.args.end.now) c.args.behind.now c.in_ok-take_first.field-0
     c.in_ok-take_first.ensures.taken c.if-branch.true (rw c.in-None.is at c.in_ok-rest.ensures.taken)
