@@ -1,6 +1,6 @@
 -- What is found of an event by the tables is what the rules say of it.
-use Rattle.std.proofs.Common.{◌≡◌, ◌<◌, ◌&&◌, not, Bool, true, false, List, length, map, slice_index, refl, sym, ap, subst}
-use Rattle.std.proofs.Common.{◌∙◌}
+use Rattle.std.proofs.Common.{◌≡◌, ◌<◌, ◌≤◌, ◌&&◌, not, Bool, true, false, List, length, map, slice_index, refl, sym, ap, subst}
+use Rattle.std.proofs.Common.{◌∙◌, arith, nat_lt}
 use Rattle.std.proofs.lemmas.Bool.{false≢true, ltb-true, lt-ltb}
 use Rattle.sgx_types.specs.declared.names.Actor.TheVariants as actors
 use Rattle.sgx_rules.specs.declared.entries.Entry.{Entry}
@@ -117,3 +117,11 @@ module _ (j : JobView) (past : List Entry) (e : Entry) (due : Due) (fresh : is_s
       ∙ sym (ap (λ b. not b && is_actors j past e.actor e.event) fresh
       ∙ ap (λ actor. is_actors j past actor e.event) is
       ∙ ap (λ b. b && is_next (cpu_due j past cpu.0) e.event) (lt-ltb cpu.0 (length j.scripts) low))
+
+  -- a processor that the job does not have makes none
+  pub none_keeps : (cpu : Cpu) → e.actor ≡ actors.Cpu cpu → length j.scripts ≤ cpu.0 → false ≡ keeps_script j past e
+  none_keeps cpu is high =
+      let beyond : nat_lt cpu.0 (length j.scripts) ≡ false = grind (arith, high) in
+      sym (ap (λ b. not b && is_actors j past e.actor e.event) fresh
+      ∙ ap (λ actor. is_actors j past actor e.event) is
+      ∙ ap (λ b. b && is_next (cpu_due j past cpu.0) e.event) beyond)

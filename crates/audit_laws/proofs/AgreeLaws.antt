@@ -1,5 +1,5 @@
 -- What the rules of a trace give.
-use Rattle.std.proofs.Common.{◌≡◌, ◌≤◌, ℕ, true, false, refl, sym, ap, subst, ◌∙◌, List, ◌∷◌, Option, Some, None}
+use Rattle.std.proofs.Common.{◌≡◌, ◌≤◌, ◌==◌, ℕ, Bool, not, true, false, refl, sym, ap, subst, ◌∙◌, List, ◌∷◌, Option, Some, None}
 use Rattle.std.proofs.lemmas.Bool.{false≢true}
 use Rattle.sgx_rules.specs.declared.entries.Action.TheVariants.{Eld}
 use Rattle.sgx_rules.specs.declared.entries.Entry.{Entry}
@@ -7,6 +7,11 @@ use Rattle.sgx_rules.specs.declared.entries.Event.{Event}
 use Rattle.sgx_rules.specs.declared.entries.Event.TheVariants.{Refused}
 use Rattle.sgx_types.specs.declared.names.Page.{Page}
 use Rattle.sgx_types.specs.declared.names.SlotAt.{SlotAt}
+use Rattle.sgx_types.specs.declared.names.TheConstants.{SECS_NUMBER}
+use Rattle.sgx_types.specs.Pages.{is_own_page, is_va_page, same_page, secs_page, va_page}
+use Rattle.sgx_types.proofs.Pages.{same_pages}
+use Rattle.sgx_types.proofs.Truths.{both_true}
+use Rattle.sgx_rules.specs.Frames.{Content, Free, Holds, IsLoading, IsVa, SecsOf, content, is_page, stands}
 use Rattle.sgx_rules.specs.declared.refusals.Refusal.{Refusal}
 use Rattle.sgx_rules.specs.declared.refusals.Refusal.TheVariants as why
 use Rattle.sgx_rules.specs.Ends.{DoesNotFit, IsNotBack}
@@ -30,6 +35,7 @@ use Rattle.driver_laws.proofs.CountLaws.{stays_counted}
 use Rattle.driver_laws.proofs.HistoryLaws.{can_move, driven_before, driven_pages, driven_sound, loading_is}
 use Rattle.driver_laws.proofs.LoadLaws.{driven_theirs}
 use Rattle.driver_laws.proofs.ReadyLaws.{driven_used, start_tells}
+use Rattle.driver_laws.proofs.SoundLaws.{there_own}
 use Rattle.driver_tables.specs.declared.driver.Driver.{Driver}
 use Rattle.driver_steps.specs.inner.Agrees.{Agrees}
 use Rattle.run_history.specs.inner.Histories.{GoesOn}
@@ -50,17 +56,36 @@ is-loading past m g sound is = by_start (open_start past m) refl is
     by_start : (o : Option Start) → open_start past m ≡ o → is_load_of o g ≡ true → (slot : SlotAt) × (place past g ≡ Loading m slot)
     by_start None opened loads = absurd (false≢true loads)
     by_start (Some x) opened loads =
-        let named : load_slot (open_start past m) g ≡ Some x.slot = ap (λ o. load_slot o g) opened ∙ ap (λ b. slot_if b x.slot) loads in
-        (x.slot, loading_is (place past g) m x.slot (sym (sound.places.loads g m) ∙ named))
+        let named : load_slot (open_start past m) g ≡ Some x.at = ap (λ o. load_slot o g) opened ∙ ap (λ b. slot_if b x.at) loads in
+        (x.at, loading_is (place past g) m x.at (sym (sound.places.loads g m) ∙ named))
 
 loading-frame : {m n : ℕ} {s t : SlotAt} → Loading m s ≡ Loading n t → m ≡ n
 loading-frame e = cc
+
+-- a TCS or REG page stands in no frame but as such
+own-stands : (c : Content) (g : Page) → is_own_page g ≡ true → is_page c g ≡ false → stands c g ≡ false
+own-stands Free g own other = refl
+own-stands (IsLoading page) g own other = refl
+own-stands (Holds page kind perm) g own other = other
+own-stands (IsVa number) g own other = by_test (same_page (va_page number) g) refl
+  where
+    by_test : (b : Bool) → same_page (va_page number) g ≡ b → b ≡ false
+    by_test false is = refl
+    by_test true is = absurd (false≢true (ap is_own_page (same_pages (va_page number) g is) ∙ own))
+own-stands (SecsOf enclave) g own other = by_test (same_page (secs_page enclave) g) refl
+  where
+    by_test : (b : Bool) → same_page (secs_page enclave) g ≡ b → b ≡ false
+    by_test false is = refl
+    by_test true is =
+        let its : is_own_page (secs_page enclave) ≡ true = ap is_own_page (same_pages (secs_page enclave) g is) ∙ own in
+        absurd (false≢true (both_true (not (is_va_page (secs_page enclave))) (not (SECS_NUMBER == SECS_NUMBER)) its).1)
 
 pub loads_apart : (past : List Entry) → IsSound past → LoadsAreApart past
 loads_apart past sound = record {
   frames = λ m n g loads.
       let at = is-loading past m g sound loads in
-      sound.places.frames g n ∙ ap (λ (p : Place). stands_in p n) at.1;
+      own-stands (content past n) g (there_own past g (Loading m at.0) sound at.1 refl)
+      (sound.places.frames g n ∙ ap (λ (p : Place). stands_in p n) at.1);
   loads = λ m n g one other.
       let at = is-loading past m g sound one in
       let too = is-loading past n g sound other in

@@ -1,5 +1,5 @@
 -- A refused load counts alike for whatever reason it was refused: a state that stands for one stands for another.
-use Rattle.std.proofs.Common.{◌≡◌, ℕ, List, ◌∷◌, Option, Some, None, IfSome}
+use Rattle.std.proofs.Common.{ℕ, List, ◌∷◌, Option, Some, None, IfSome}
 use Rattle.sgx_types.specs.declared.names.Actor.{Actor}
 use Rattle.sgx_rules.specs.declared.entries.Entry.{Entry}
 use Rattle.sgx_rules.specs.declared.entries.Action.TheVariants.{Eld}
@@ -29,7 +29,7 @@ module _ (past : List Entry) (a : Actor) (f : Frame) (found other : Refusal) whe
   two = refused_by a (Eld f) other ∷ past
 
   columns : (s : State) → HasColumns s one → HasColumns s two
-  columns s h = record { frames = h.frames; cpus = h.cpus; slots = h.slots; enclaves = h.enclaves }
+  columns s h = record { frames = h.frames; cpus = h.cpus; next_version = h.next_version; versions = h.versions; enclaves = h.enclaves }
 
   stale : Stale one → Stale two
   stale h = record {
@@ -52,24 +52,34 @@ module _ (past : List Entry) (a : Actor) (f : Frame) (found other : Refusal) whe
         taken = λ b. let t = (h.shape.busy g).taken b in record { cpu = t.cpu; by = t.by };
         busy = λ t. (h.shape.busy g).busy (record { cpu = t.cpu; by = t.by });
       };
-      slot_busy = h.shape.slot_busy;
+      slots_busy = h.shape.slots_busy;
     };
     frames = h.frames;
     stale = stale h.stale;
     evict = h.evict;
     rising = h.rising;
+    rest = record { rest = h.rest.rest; away = h.rest.away; below = h.rest.below; unmade = h.rest.unmade };
   }
 
   stands : (s : State) → Stands s one → Stands s two
   stands s h = record {
     columns = columns s h.columns;
+    versions = h.versions;
     memory = record { enclaves = h.memory.enclaves; cpus = h.memory.cpus; words = h.memory.words; measure = h.memory.measure };
   }
 
   outside : (key : List ℕ) → OutsideBytes key one → OutsideBytes key two
   outside key h g slot v there =
-      let b = h g slot v there in
-      (b.0, record { made = b.1.made; version = b.1.version; cipher = b.1.cipher; size = b.1.size; back = b.1.back })
+      let b = h g slot v there in (
+        b.0,
+        record {
+          made = b.1.made;
+          version = b.1.version;
+          cipher = b.1.cipher;
+          size = b.1.size;
+          back = record { array = b.1.back.array; own = b.1.back.own };
+        },
+      )
 
   pub other_refusal : (k : Making) (s : State) (records : List Made) → StandsWithAllRules k s one records → IsNotBack past f.0 other
       → StandsWithAllRules k s two records

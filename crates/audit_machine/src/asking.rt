@@ -3,7 +3,7 @@
 ghost use Rattle.std.specs.Prelude.{◌≡◌, IfOk, OnErr, None, Some, length};
 ghost use Rattle.audit_machine.specs.inner.Asked.{Takes};
 ghost use Rattle.paging_laws.specs.inner.State.{making_of};
-ghost use Rattle.paging_laws.specs.inner.Steps.{CanApply, IsStep, MayNeedMemory};
+ghost use Rattle.paging_laws.specs.inner.Steps.{CanApply, CanMove, IsStep, MayNeedMemory};
 ghost use Rattle.paging_machine.specs.inner.Parts.{state_of};
 ghost use Rattle.turn_rules.specs.Script.{action_of};
 
@@ -16,7 +16,8 @@ use sgx_types::names::Memory;
 use std::alloc::Global;
 
 /// Asks a machine for the instruction of an entry. None where it makes this very entry, which then keeps each rule of the machine; else the
-/// rule that the entry breaks first, and nothing is said of the machine any more. Memory may be refused to `epa` and `create` alone.
+/// rule that the entry breaks first, and nothing is said of the machine any more. Memory may be refused to `epa` and `create` alone. Fewer
+/// than 2^32 version array pages were made, and none is to be loaded that a frame holds, or for which one waits.
 pub fn ask(
     alloc: Global,
     machine: &mut Machine,
@@ -25,6 +26,7 @@ pub fn ask(
 ) -> Result<Option<Rule>, Memory>
     requires own { action_of entry.now.event ≡ Some action.now }
     requires asked { CanApply (length machine.old.cpus) entry.now.actor action.now }
+    requires moves { CanMove (state_of machine.old) action.now }
     ensures takes { IfOk result (Takes (state_of machine.old) entry.now (state_of machine.new)) }
     ensures step { IfOk result (λ broken. broken ≡ None
         → IsStep (state_of machine.old) entry.now.actor action.now entry.now (state_of machine.new)) }

@@ -1,7 +1,7 @@
 //! The end of a write-out.
 
 ghost use Rattle.std.specs.Prelude.{◌≡◌, IfOk, OnErr, Some, length};
-ghost use Rattle.audit_machine.specs.inner.Asked.{TakesOut};
+ghost use Rattle.audit_machine.specs.inner.Asked.{TakesOut, tells_secs};
 ghost use Rattle.paging_laws.specs.inner.State.{making_of};
 ghost use Rattle.paging_machine.specs.inner.Parts.{state_of};
 ghost use Rattle.sgx_rules.specs.declared.entries.Action.TheVariants as actions;
@@ -12,9 +12,9 @@ use audit_rules::same::same_end;
 use paging_machine::machine::Machine;
 use run_history::rules::Rule;
 use seal_record::seal::{SealWork, seal};
-use seal_record::unseal::UnsealedWork;
-use sgx_rules::entries::Entry;
-use sgx_types::names::{Frame, Memory};
+use seal_record::unseal::{UnsealWork, UnsealedWork, unseal};
+use sgx_rules::entries::{Answer, Entry, Event};
+use sgx_types::names::{Frame, Memory, SECS_NUMBER};
 use sgx_types::record::Record;
 use std::alloc::Global;
 
@@ -29,7 +29,8 @@ pub enum Out {
 }
 
 /// Asks a machine for the `ewb` of an entry: the page in the frame is sealed, in the time of the SHA-256 of its 4096 bytes. The record is
-/// answered opened, as it is needed when the page comes back. Refused memory leaves the machine as it was.
+/// answered opened, as it is needed when the page comes back. That of a SECS is opened anew, since the machine seals a SECS anew. Refused
+/// memory leaves the machine as it was.
 pub fn ask_out(
     alloc: Global,
     machine: &mut Machine,
@@ -56,6 +57,14 @@ pub fn ask_out(
     if !same_end(&entry.event, &made.event) {
         return Ok(Out::Broken(first_broken(entry, &made)));
     }
+    if tells_secs(&made.event) {
+        return Ok(Out::Gone(unseal(UnsealWork {
+            key,
+            version,
+            rec,
+            space: plain,
+        })));
+    }
     let computed = tag_in(&rec);
     Ok(Out::Gone(UnsealedWork {
         key,
@@ -64,6 +73,19 @@ pub fn ask_out(
         plain,
         computed,
     }))
+}
+
+// Whether an event tells of a page that has a SECS's number.
+fn tells_secs(event: &Event) -> bool
+    ensures { result ≡ tells_secs event.now }
+{
+    match *event {
+        Event::Did {
+            answer: Answer::Moved { page, .. },
+            ..
+        } => page.number == SECS_NUMBER,
+        _ => false,
+    }
 }
 
 // The tag that a record carries.

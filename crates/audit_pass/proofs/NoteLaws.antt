@@ -1,5 +1,5 @@
 -- What a pass stands for behind an entry.
-use Rattle.std.proofs.Common.{◌≡◌, ℕ, zero, suc, ◌+◌, ◌-◌, ◌≤◌, ◌==◌, ◌||◌, not, Bool, true, false}
+use Rattle.std.proofs.Common.{◌≡◌, ℕ, zero, suc, ◌+◌, ◌-◌, ◌≤◌, ◌==◌, ◌&&◌, ◌||◌, not, Bool, true, false}
 use Rattle.std.proofs.Common.{if◌then◌else◌, refl, sym, ◌∙◌, ap}
 use Rattle.std.proofs.Common.{subst, List, [], ◌∷◌, Option, Some, None, drop, length, min, slice_get, arith}
 use Rattle.std.proofs.lemmas.Bool.{eq-eqb}
@@ -20,9 +20,9 @@ use Rattle.sgx_rules.specs.Epochs.{epoch, epoch_of, is_track}
 use Rattle.sgx_rules.specs.Frames.{content, is_free}
 use Rattle.sgx_types.specs.Making.{Making}
 use Rattle.sgx_rules.specs.Rules.{RefusalRule}
-use Rattle.sgx_rules.specs.Sights.{drain_sight_at, sight_at, slot_sight_at}
-use Rattle.sgx_rules.specs.Table.{DrainSight, FrameSight, SlotSight, ewbstart_row, first_of_row, is_busy, is_out_of_range}
-use Rattle.sgx_rules.specs.Table.{is_secs, is_va}
+use Rattle.sgx_rules.specs.Sights.{drain_sight_at, sight_at, slot_sight_at, use_sight_at}
+use Rattle.sgx_rules.specs.Table.{DrainSight, FrameSight, SlotSight, UseSight, ewbstart_row, first_of_row, is_busy, is_out_of_range}
+use Rattle.sgx_rules.specs.Table.{is_own, is_va}
 use Rattle.sgx_rules.proofs.Contents.{page_enclave}
 use Rattle.job_grammar.specs.declared.jobs.Marks.{Marks}
 use Rattle.job_grammar.specs.Jobs.{JobView}
@@ -86,21 +86,21 @@ skip : (b : Bool) (refusal : Refusal) (rest found : Option Refusal) → (Some re
 skip true refusal rest found other h = absurd (other h)
 skip false refusal rest found other h = h
 
-told_epoch : (s : FrameSight) (slot : SlotSight) (d : DrainSight) (spent : Bool) (e o : ℕ)
-    → first_of_row (ewbstart_row s slot d spent) ≡ Some (why.NotTracked e o) → e ≡ d.epoch
-told_epoch s slot d spent e o h =
+told_epoch : (s : FrameSight) (uses : UseSight) (slot : SlotSight) (d : DrainSight) (spent : Bool) (e o : ℕ)
+    → first_of_row (ewbstart_row s uses slot d spent) ≡ Some (why.NotTracked e o) → e ≡ d.epoch
+told_epoch s uses slot d spent e o h =
     let a = skip (is_out_of_range s slot) why.BadRange _ (Some (why.NotTracked e o)) (λ x. cc) h in
-    let b = skip (is_busy s || slot.is_busy) why.Conflict _ (Some (why.NotTracked e o)) (λ x. cc) a in
+    let b = skip (is_busy s || slot.is_busy || uses.is_in_use) why.Conflict _ (Some (why.NotTracked e o)) (λ x. cc) a in
     let c = skip (is_free s.content) why.PgInvld _ (Some (why.NotTracked e o)) (λ x. cc) b in
-    let k = skip (is_secs s.content || is_va s.content || not (is_va slot.frame.content)) why.BadKind _ (Some (why.NotTracked e o))
-    (λ x. cc) c in
-    let l = skip (not s.is_blocked) why.PageNotBlocked _ (Some (why.NotTracked e o)) (λ x. cc) k in
-    by_test d.is_drained l
+    let k = skip (not (is_va slot.frame.content) || uses.is_its_own) why.BadKind _ (Some (why.NotTracked e o)) (λ x. cc) c in
+    let l = skip (not (uses.children == 0)) (why.ChildPresent uses.children) _ (Some (why.NotTracked e o)) (λ x. cc) k in
+    let m = skip (is_own s.content && not s.is_blocked) why.PageNotBlocked _ (Some (why.NotTracked e o)) (λ x. cc) l in
+    by_test (is_own s.content && not d.is_drained) m
   where
     by_test : (b : Bool)
-        → (if not b then Some (why.NotTracked d.epoch d.kept_back) else if not (slot.version == 0) then Some
+        → (if b then Some (why.NotTracked d.epoch d.kept_back) else if not (slot.version == 0) then Some
         (why.SlotOccupied slot.version) else if spent then Some why.VersionSpent else None) ≡ Some (why.NotTracked e o) → e ≡ d.epoch
-    by_test true h = by_slot (slot.version == 0) h
+    by_test false h = by_slot (slot.version == 0) h
       where
         by_spent : (x : Bool) → (if x then Some why.VersionSpent else None) ≡ Some (why.NotTracked e o) → e ≡ d.epoch
         by_spent true y = cc
@@ -111,7 +111,7 @@ told_epoch s slot d spent e o h =
             (why.NotTracked e o) → e ≡ d.epoch
         by_slot true y = by_spent spent y
         by_slot false y = cc
-    by_test false h = cc
+    by_test true h = cc
 
 -- ---- a kick
 
@@ -238,7 +238,7 @@ module _ (made : Making) (j : JobView) (past : List Entry) (d : Driver) (m : Par
         after = frames_quiet past (own (again f slot e o)) (t ∷ ts) refl frames
 
         told : e ≡ epoch made.first_epoch past t.page.enclave
-        told = told_epoch (sight_at made.frames past f.0) (slot_sight_at made.frames past slot)
+        told = told_epoch (sight_at made.frames past f.0) (use_sight_at made.frames past f.0 slot) (slot_sight_at made.frames past slot)
             (drain_sight_at made.first_epoch past f.0) _ e o refusal
             ∙ ap (epoch_of (epoch made.first_epoch past)) (page_enclave (content past f.0) t.page
             (holds_here past t.page (Leaving f.0) f.0 a.sound here (eq-eqb f.0 f.0 refl)))

@@ -1,15 +1,13 @@
 -- The record that is kept of a page which a frame waits for is the one that went out last, and brings the page back.
-use Rattle.std.proofs.Common.{◌≡◌, ℕ, ◌<◌, refl, sym, ap, ◌∙◌, arith, List, Option, Some, None}
+use Rattle.std.proofs.Common.{◌≡◌, ℕ, ◌<◌, refl, sym, ap, subst, ◌∙◌, arith, List, Option, Some, None}
 use Rattle.sgx_rules.specs.declared.entries.Entry.{Entry}
 use Rattle.sgx_types.specs.declared.names.Page.{Page}
-use Rattle.sgx_rules.specs.Flat.{flat, header_at, words_of}
 use Rattle.sgx_rules.specs.Fresh.{IsLastOut, Out}
-use Rattle.sgx_types.specs.Layouts.{bytes_of}
+use Rattle.sgx_rules.specs.PageBytes.{bytes_at, header_at}
 use Rattle.sgx_types.specs.Sealed.{Sealed}
 use Rattle.sgx_rules.specs.Slots.{version_in}
 use Rattle.sgx_rules.specs.Starts.{Start, open_start}
 use Rattle.sgx_types.proofs.Pages.{same_page-refl}
-use Rattle.epcm_entry.specs.inner.Words as words
 use Rattle.seal_record.specs.Cipher.{cipher}
 use Rattle.seal_record.specs.Records.{Made}
 use Rattle.seal_record.specs.Sealing.{made_with}
@@ -23,9 +21,10 @@ use Rattle.page_history.proofs.StartLaws.{starts_apart}
 use Rattle.job_grammar.specs.Jobs.{JobView}
 use Rattle.turn_rules.specs.Machines.{machine_of}
 use Rattle.driver_rules.specs.Places.{place}
+use Rattle.driver_laws.specs.inner.ByFrame as by_frame
 use Rattle.driver_laws.specs.inner.Sound.{IsSound, load_slot, slot_outside, version_out}
 use Rattle.driver_laws.proofs.HistoryLaws.{loading_is}
-use Rattle.paging_laws.specs.inner.Histories.{StandsWithAllRules}
+use Rattle.paging_laws.specs.inner.Histories.{BringsBytes, StandsWithAllRules}
 use Rattle.paging_laws.specs.inner.State.{State}
 use Rattle.paging_laws.proofs.ReloadLaws.{keeps_moves}
 use Rattle.run_history.specs.inner.Histories.{GoesOn}
@@ -56,16 +55,22 @@ module _ (j : JobView) (s : State) (past : List Entry) (records : List Made) (go
   found : (version_in past start.slot ≡ start.version) × (0 < start.version)
   found = (starts_apart (machine_of j) past rules).found n start page opened loads
 
-  its-slot : slot_outside (place past page) ≡ Some start.slot
+  its-slot : slot_outside (place past page) ≡ Some start.at
   its-slot =
-      let load : load_slot (Some start) page ≡ Some start.slot = rw (loads, same_page-refl page) refl in
-      ap slot_outside (loading_is (place past page) n start.slot
+      let load : load_slot (Some start) page ≡ Some start.at = rw (loads, same_page-refl page) refl in
+      ap slot_outside (loading_is (place past page) n start.at
       (sym (places.places.loads page n) ∙ ap (λ o. load_slot o page) opened ∙ load))
+
+  -- where the start found its slot is the version of the slot
+  its-version : by_frame.version_in past start.at ≡ version_in past start.slot
+  its-version =
+      places.slots.versions start.at
+      ∙ ap (by_frame.version_found (version_in past)) (places.slots.found n start opened)
 
   -- the page is outside, in the slot of the start
   outside : copy past page ≡ Some (InSlot start.slot start.version)
   outside =
-      let last = last_of _ (version_in past start.slot) (places.versions page start.slot its-slot) in
+      let last = last_of _ (version_in past start.slot) (places.versions page start.at its-slot ∙ ap Some its-version) in
       let gone = out_is_gone past page last.0 last.1 in
       let live : OneLiveCopy past = live_copies (machine_of j) past h.positive rules in
       whose_copy j.start_version past live drawn start.slot page (omega (arith, found.0, found.1)) (rw last.2 at gone)
@@ -97,14 +102,15 @@ module _ (j : JobView) (s : State) (past : List Entry) (records : List Made) (go
         }
 
     -- .. and its bytes are the page's
-    its-words : words.words_of (cipher j.key start.version rec.cipher) ≡ words_of (flat past) page
-    its-words =
+    its-bytes : BringsBytes past page (cipher j.key start.version rec.cipher)
+    its-bytes =
         let has = h.outside page start.slot start.version outside in
         let same : has.0 ≡ one = once.once has.0 one has.1.made made has.1.version in
-        let enciphered : rec.cipher ≡ cipher j.key start.version (bytes_of (words_of (flat past) page)) =
+        let enciphered : rec.cipher ≡ cipher j.key start.version (bytes_at past page) =
         ap (λ (x : Made). x.cipher) (sym same) ∙ has.1.cipher in
-        ap (λ c. words.words_of (cipher j.key start.version c)) enciphered
-        ∙ ap words.words_of (cipher_twice j.key start.version (bytes_of (words_of (flat past) page)) has.1.size) ∙ has.1.back
+        let opens : cipher j.key start.version rec.cipher ≡ bytes_at past page =
+        ap (cipher j.key start.version) enciphered ∙ cipher_twice j.key start.version (bytes_at past page) has.1.size in
+        subst (BringsBytes past page) (sym opens) has.1.back
 
     is_own : IsOwnRecord j.key past n rec
     is_own = record {
@@ -112,7 +118,7 @@ module _ (j : JobView) (s : State) (past : List Entry) (records : List Made) (go
       page = page;
       opened = opened;
       loads = loads;
-      brings = record { last = last; words = its-words };
+      brings = record { last = last; bytes = its-bytes };
       header = ap (header_at past) (sym its-page) ∙ of_page.header;
       tagged = of_page.tagged;
     }

@@ -5,7 +5,7 @@ use Rattle.std.specs.List.{Any}
 use Rattle.std.proofs.lemmas.List.Quantifiers.{Any-push}
 use Rattle.std.proofs.lemmas.Option.{same_Some}
 use Rattle.sgx_rules.specs.declared.entries.Action.{Action}
-use Rattle.sgx_rules.specs.declared.entries.Action.TheVariants.{Add, Ewb, Eld}
+use Rattle.sgx_rules.specs.declared.entries.Action.TheVariants.{Add, Create, Epa, Ewb, Eld}
 use Rattle.sgx_rules.specs.declared.entries.Answer.{Answer}
 use Rattle.sgx_rules.specs.declared.entries.Answer.TheVariants.{Moved}
 use Rattle.sgx_types.specs.declared.names.Actor.{Actor}
@@ -14,9 +14,10 @@ use Rattle.sgx_rules.specs.declared.entries.Event.{Event}
 use Rattle.sgx_rules.specs.declared.entries.Event.TheVariants.{Did, Refused}
 use Rattle.sgx_types.specs.declared.names.Frame.{Frame}
 use Rattle.sgx_types.specs.declared.names.Page.{Page}
-use Rattle.sgx_types.specs.declared.names.SlotAt.{SlotAt}
+use Rattle.sgx_types.specs.declared.names.VaSlot.{VaSlot}
 use Rattle.sgx_rules.specs.Ends.{IsBack}
-use Rattle.sgx_types.specs.Pages.{page_at, same_page}
+use Rattle.sgx_types.specs.Pages.{page_at, same_page, secs_page, va_page}
+use Rattle.sgx_rules.specs.Frames.{vas_made}
 use Rattle.sgx_types.specs.Making.{Making}
 use Rattle.sgx_rules.specs.Rules.{RefusalRule}
 use Rattle.sgx_types.specs.Sealed.{Sealed}
@@ -69,13 +70,16 @@ none_out key kept g slot v there = cc
 
 -- ---- an entry that puts no page out
 
-event_stays : (opened : ℕ → Option Start) (g : Page) (o : Option Copy) (slot : SlotAt) (v : ℕ) (event : Event) → is_done_ewb event ≡ false
-    → copy_after event opened g o ≡ Some (InSlot slot v) → o ≡ Some (InSlot slot v)
-event_stays opened g o slot v (Did (Ewb f) answer) other there = cc
-event_stays opened g o slot v (Did (Add enclave number f kind perm init) answer) other there =
+event_stays : (vas : ℕ) (opened : ℕ → Option Start) (g : Page) (o : Option Copy) (slot : VaSlot) (v : ℕ) (event : Event)
+    → is_done_ewb event ≡ false → copy_after event vas opened g o ≡ Some (InSlot slot v) → o ≡ Some (InSlot slot v)
+event_stays vas opened g o slot v (Did (Epa f) answer) other there = not_framed (same_page (va_page vas) g) f.0 o slot v there
+event_stays vas opened g o slot v (Did (Create enclave f base size) answer) other there =
+    not_framed (same_page (secs_page enclave) g) f.0 o slot v there
+event_stays vas opened g o slot v (Did (Ewb f) answer) other there = cc
+event_stays vas opened g o slot v (Did (Add enclave number f kind perm init) answer) other there =
     not_framed (same_page (page_at enclave number) g) f.0 o slot v there
-event_stays opened g o slot v (Did (Eld f) (Moved page version tag)) other there = not_framed (same_page page g) f.0 o slot v there
-event_stays opened g o slot v event other there = there
+event_stays vas opened g o slot v (Did (Eld f) (Moved page version tag)) other there = not_framed (same_page page g) f.0 o slot v there
+event_stays vas opened g o slot v event other there = there
 
 still_made : (key : List ℕ) (past : List Entry) (e : Entry) (one : Made) → is_done_ewb e.event ≡ false → IsMade key past one
     → IsMade key (e ∷ past) one
@@ -92,7 +96,8 @@ still_has key past e v o other has = record {
 pub records_stay : (key : List ℕ) (past : List Entry) (e : Entry) (kept : Records) → is_done_ewb e.event ≡ false
     → KeepsRecords key past kept → KeepsRecords key (e ∷ past) kept
 records_stay key past e kept other keeps g slot v there =
-    still_has key past e v (kept g) other (keeps g slot v (event_stays (open_start past) g (copy past g) slot v e.event other there))
+    still_has key past e v (kept g) other (keeps g slot v
+    (event_stays (vas_made past) (open_start past) g (copy past g) slot v e.event other there))
 
 -- ---- a page that goes out
 

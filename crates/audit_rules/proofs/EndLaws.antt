@@ -10,14 +10,10 @@ use Rattle.sgx_rules.specs.declared.entries.Action.TheVariants.{Ewb, Eld}
 use Rattle.sgx_rules.specs.declared.entries.Answer.{Answer}
 use Rattle.sgx_rules.specs.declared.entries.Answer.TheVariants as answers
 use Rattle.sgx_types.specs.declared.names.Frame.{Frame}
-use Rattle.sgx_types.specs.declared.names.Kind.{Kind}
 use Rattle.sgx_types.specs.declared.names.Page.{Page}
-use Rattle.sgx_types.specs.declared.names.Perm.{Perm}
 use Rattle.sgx_rules.specs.Ends.{EndsIn, EndsOut, IsBack}
-use Rattle.sgx_rules.specs.Flat.{flat}
 use Rattle.sgx_rules.specs.Fresh.{IsLastOut}
 use Rattle.sgx_types.specs.Pages.{same_page}
-use Rattle.sgx_rules.specs.Frames.{Holds}
 use Rattle.sgx_rules.specs.Rules.{EndsWriteOut}
 use Rattle.sgx_types.specs.Sealed.{Sealed}
 use Rattle.sgx_rules.specs.Starts.{Start, open_start}
@@ -33,16 +29,13 @@ use Rattle.audit_rules.proofs.OrderLaws.{evict_fails, fresh_fails, refusal_fails
 
 -- ---- what a place has one of
 
-holds-page : {g h : Page} {k l : Kind} {p q : Perm} → Holds g k p ≡ Holds h l q → g ≡ h
-holds-page e = cc
-
 moved-page : {g h : Page} {v w : ℕ} {s t : List ℕ} → answers.Moved g v s ≡ answers.Moved h w t → g ≡ h
 moved-page e = cc
 
 out-page : (past : List Entry) (n : ℕ) (g h : Page) (v w : ℕ) (s t : List ℕ) → EndsOut past n (answers.Moved g v s)
     → EndsOut past n (answers.Moved h w t) → g ≡ h
 out-page past n g h v w s t one other =
-    moved-page one.told ∙ holds-page (sym one.held ∙ other.held) ∙ sym (moved-page other.told)
+    moved-page one.told ∙ same_Some _ _ (sym one.held ∙ other.held) ∙ sym (moved-page other.told)
 
 back-page : (past : List Entry) (n : ℕ) (g h : Page) (v w : ℕ) (s t : List ℕ) → IsBack past n (answers.Moved g v s)
     → IsBack past n (answers.Moved h w t) → g ≡ h
@@ -72,9 +65,7 @@ module _ (j : JobView) (past : List Entry) (actor : Actor) (f : Frame) where
     own-page : (version : ℕ) (tag : List ℕ) → EndsOut past f.0 (answers.Moved g version tag)
     own-page version tag = record {
       page = g;
-      kind = ends.kind;
-      perm = ends.perm;
-      held = ends.held ∙ ap (λ (x : Page). Holds x ends.kind ends.perm) (sym (moved-page ends.told));
+      held = ends.held ∙ ap Some (sym (moved-page ends.told));
       start = ends.start;
       opened = ends.opened;
       writes = ends.writes;
@@ -97,10 +88,10 @@ module _ (j : JobView) (past : List Entry) (actor : Actor) (f : Frame) where
         (keeps.each rules.Stale refl) (keeps.each rules.Evict refl) (record { rising = tt; reload = tt })
         (λ h. other (told h))
       where
-        mine : IsSealed j.key (flat past) g v t
+        mine : IsSealed j.key past g v t
         mine = keeps.each rules.Sealed refl
 
-        told : IsSealed j.key (flat past) g v tag → tag ≡ t
+        told : IsSealed j.key past g v tag → tag ≡ t
         told h = h.told ∙ ap (λ (x : Sealed). x.tag) (same_Some _ _ (sym h.made ∙ mine.made)) ∙ sym mine.told
 
     of-page : (page : Page) (version : ℕ) (tag : List ℕ) → ScriptRule j past (out (answers.Moved page version tag)) → (page ≡ g → ⊥)

@@ -68,13 +68,13 @@ module _ (j : JobView) (past : List Entry) (d : Driver) (m : Parts) (agrees : Ag
   load_fits c page low there = record { room = has_room c low; placed = has_place page there }
 
   end_fits : (c : Cpu) (f : ℕ) (page : Page) (start : Option starts.Start) (k : IsOfLoad past f page start) → c.0 < length j.scripts
-      → FitsEnd d c page k.start.slot
+      → FitsEnd d c page k.start.at
   end_fits c f page start k low = record {
     room = has_room c low;
     placed = in_list page (ap is_absent k.at);
     counts = agrees.shows.counts;
     absent = not_listed past d.active.pages (active past) page agrees.shows.list (agrees.sound.list page ∙ ap once_here k.at);
-    out = agrees.shows.slots.used page k.start.slot (ap (slot_at (open_start past)) k.at);
+    out = agrees.shows.slots.used page k.start.at (ap (slot_at (open_start past)) k.at);
   }
 
   module _ (start : Option starts.Start) where

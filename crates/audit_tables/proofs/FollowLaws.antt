@@ -142,7 +142,7 @@ module _ (j : JobView) (past : List Entry) (d : Driver) (m : Parts) (agrees : Ag
       → new ≡ with_gone start (Moved page version tag) d
       → IsFollowed j past d (did_by actors.Reclaimer (actions.Ewb f) (Moved page version tag)) new
   gone f page version tag law does = record {
-    shows = shows_gone j d new past f page version tag law.can.1.0 (states.Away x.slot)
+    shows = shows_gone j d new past f page version tag law.can.1.0 (states.Away x.at)
         law.can law.can.1.1 (ap Away at.2) agrees.sound (has_place j past d m agrees page (ap is_absent law.can.0))
         only tables;
     counts = ap (λ (y : Driver). count_out y.slots) only;
@@ -150,7 +150,7 @@ module _ (j : JobView) (past : List Entry) (d : Driver) (m : Parts) (agrees : Ag
     arrays = in_pass (Did (actions.Ewb f) (Moved page version tag)) law;
   }
     where
-      at : (y : starts.Start) × (start ≡ Some y) × (y.slot ≡ law.can.1.0.slot)
+      at : (y : starts.Start) × (start ≡ Some y) × (y.at ≡ law.can.1.0.at)
       at = opened_as start (open_start past f.0) law.can.1.0 (law.opened f refl) law.can.1.1
 
       x : starts.Start
@@ -223,7 +223,7 @@ module _ (j : JobView) (past : List Entry) (d : Driver) (m : Parts) (agrees : Ag
         → IsFollowed j past d (did_by (actors.Cpu c) (actions.Eld f) (Moved page version tag)) new
     ended f page version tag law does =
         let k = open_load past f.0 page law.can.0 start agrees.sound law.can.1 (law.opened f refl) in
-        by_slot k.start.slot k.at (subst (λ s. HasEnded (actors.Cpu c) f s (Moved page version tag) d new) k.is does)
+        by_slot k.start.at k.at (subst (λ s. HasEnded (actors.Cpu c) f s (Moved page version tag) d new) k.is does)
       where
         by_slot : (slot : SlotAt) → place past page ≡ Loading f.0 slot
             → IsLoaded (forgetting d c) page f slot new
@@ -241,7 +241,7 @@ module _ (j : JobView) (past : List Entry) (d : Driver) (m : Parts) (agrees : Ag
         → new ≡ with_refused (actors.Cpu c) start d → IsFollowed j past d (refused_by (actors.Cpu c) (actions.Eld f) refusal) new
     refused f refusal law does =
         let k = open_load past f.0 law.can.0 law.can.1 start agrees.sound law.can.2 (law.opened f refl) in
-        by_page law.can.0 k.start.slot k.at
+        by_page law.can.0 k.start.at k.at
         (does ∙ ap (λ s. with_refused (actors.Cpu c) s d) k.is ∙ ap (λ o. away_again c o d) k.loads)
       where
         by_page : (page : Page) (slot : SlotAt) → place past page ≡ Loading f.0 slot → new ≡ away_again c (Some page) d

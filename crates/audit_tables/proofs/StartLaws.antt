@@ -13,8 +13,9 @@ use Rattle.sgx_types.specs.declared.names.SlotAt.{SlotAt}
 use Rattle.sgx_types.specs.Pages.{same_page}
 use Rattle.sgx_rules.specs.Frames.{content}
 use Rattle.sgx_types.specs.Making.{Making}
-use Rattle.sgx_rules.specs.Sights.{drain_sight_at, row_at, sight_at, slot_sight_at}
-use Rattle.sgx_rules.specs.Starts.{Start, loads_page, open_start}
+use Rattle.sgx_rules.specs.Sights.{drain_sight_at, row_at, sight_at, slot_sight_at, use_sight_at}
+use Rattle.sgx_rules.specs.Starts.{Start, open_start}
+use Rattle.sgx_rules.specs.Frames.{is_this}
 use Rattle.sgx_rules.specs.inner.Starts.{BareStart, bare_start, without_place}
 use Rattle.sgx_rules.specs.Table.{ewbstart_row, first_of_row, is_va}
 use Rattle.job_grammar.specs.Jobs.{JobView}
@@ -30,28 +31,28 @@ use Rattle.audit_tables.specs.inner.Naming.{IsLeft}
 
 -- where one is open there is one
 pub opened_as : (s : Option starts.Start) (o : Option Start) (x : Start) → start_of s ≡ bare_start o → o ≡ Some x
-    → (y : starts.Start) × (s ≡ Some y) × (y.slot ≡ x.slot)
+    → (y : starts.Start) × (s ≡ Some y) × (y.at ≡ x.at)
 opened_as None o x same is = absurd (let bad : None ≡ Some (without_place x) = same ∙ ap bare_start is in cc)
 opened_as (Some y) o x same is =
     let both : start_of (Some y) ≡ Some (without_place x) = same ∙ ap bare_start is in (y, refl, slots both)
   where
-    slots : start_of (Some y) ≡ Some (without_place x) → y.slot ≡ x.slot
+    slots : start_of (Some y) ≡ Some (without_place x) → y.at ≡ x.at
     slots h = ap (λ (o : Option BareStart). slot_or o) h
       where
         slot_or : Option BareStart → SlotAt
-        slot_or None = x.slot
-        slot_or (Some z) = z.slot
+        slot_or None = x.at
+        slot_or (Some z) = z.at
 
 -- the slot of a start that loads this page, without its place and its actor
 abbrev bare_slot : Option BareStart → Page → Option SlotAt
 bare_slot None g = None
-bare_slot (Some x) g = slot_if (loads_page x.loads g) x.slot
+bare_slot (Some x) g = slot_if (is_this x.loads g) x.at
 
 -- the start of a load: the page comes back from its slot
 pub record IsOfLoad (past : List Entry) (f : ℕ) (page : Page) (s : Option starts.Start) : Type 0 where
   pub start : starts.Start
   pub is : s ≡ Some start
-  pub at : place past page ≡ Loading f start.slot
+  pub at : place past page ≡ Loading f start.at
   pub loads : start.loads ≡ Some page
 
 pub open_load : (past : List Entry) (f : ℕ) (page : Page) (slot : SlotAt) (s : Option starts.Start) → IsSound past
@@ -68,13 +69,13 @@ open_load past f page slot s sound at opened = by_start s refl named
         ∙ ap (λ b. slot_if b slot) (eq-eqb f f refl)
 
     by_test : (x : starts.Start) (g : Page) (b : Bool) → s ≡ Some x → x.loads ≡ Some g → same_page g page ≡ b
-        → slot_if b x.slot ≡ Some slot → IsOfLoad past f page s
+        → slot_if b x.at ≡ Some slot → IsOfLoad past f page s
     by_test x g true is loads same k =
-        let slots : slot ≡ x.slot = cc in
+        let slots : slot ≡ x.at = cc in
         record { start = x; is = is; at = at ∙ ap (Loading f) slots; loads = loads ∙ ap Some (same_pages g page same) }
     by_test x g false is loads same k = absurd cc
 
-    by_loads : (x : starts.Start) (o : Option Page) → s ≡ Some x → x.loads ≡ o → slot_if (loads_page o page) x.slot ≡ Some slot
+    by_loads : (x : starts.Start) (o : Option Page) → s ≡ Some x → x.loads ≡ o → slot_if (is_this o page) x.at ≡ Some slot
         → IsOfLoad past f page s
     by_loads x None is loads k = absurd cc
     by_loads x (Some g) is loads k = by_test x g (same_page g page) is loads refl k
@@ -94,10 +95,10 @@ record IsNamed (past : List Entry) (slot : SlotAt) : Type 0 where
   within : nat_lt slot.index 512 ≡ true
 
 named_row : (k : Making) (past : List Entry) (f : Frame) (slot : SlotAt) (is_spent : Bool)
-    → NoneHolds (ewbstart_row (sight_at k.frames past f.0) (slot_sight_at k.frames past slot)
+    → NoneHolds (ewbstart_row (sight_at k.frames past f.0) (use_sight_at k.frames past f.0 slot) (slot_sight_at k.frames past slot)
     (drain_sight_at k.first_epoch past f.0) is_spent) → IsNamed past slot
 named_row k past f slot is_spent none = record {
-  array = not_false (is_va (content past slot.frame.0)) (neither _ _ none.1.1.1.0).1;
+  array = not_false (is_va (content past slot.frame.0)) (neither _ _ none.1.1.1.0).0;
   within = below_end slot.index (neither _ (nat_lt 511 slot.index) none.0).1;
 }
 

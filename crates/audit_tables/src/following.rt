@@ -117,7 +117,7 @@ fn note_gone(driver: &mut Driver, start: Option<Start>, answer: Answer)
     ensures { driver.new ≡ with_gone start answer driver.old }
 {
     if let (Some(start), Answer::Moved { page, .. }) = (start, answer) {
-        driver.states.set_state(page, PageState::Away(start.slot));
+        driver.states.set_state(page, PageState::Away(start.at));
     }
 }
 
@@ -148,7 +148,7 @@ fn end_load(driver: &mut Driver, actor: Actor, frame: Frame, start: Option<Start
 {
     if let (Actor::Cpu(cpu), Some(start), Answer::Moved { page, .. }) = (actor, start, answer) {
         driver.kept.forget(cpu);
-        driver.load(page, frame, start.slot);
+        driver.load(page, frame, start.at);
     }
 }
 

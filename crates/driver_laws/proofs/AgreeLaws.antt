@@ -1,12 +1,12 @@
 -- The keeper of the version slots agrees with the entries, one entry longer.
 use Rattle.std.proofs.Common.{◌≡◌, ℕ, ◌==◌, ◌&&◌, ◌||◌, not, Bool, true, false, if◌then◌else◌, refl, sym}
-use Rattle.std.proofs.Common.{◌∙◌, ap, subst, List, [], ◌∷◌, Option, Some, None, length}
+use Rattle.std.proofs.Common.{◌∙◌, ap, subst, List, [], ◌∷◌, Some, None, length, nat_lt}
 use Rattle.std.specs.List.{list_any}
 use Rattle.std.proofs.lemmas.Bool.{eqb-true, eq-eqb, false≢true, or_left, or_right}
 use Rattle.std.proofs.lemmas.List.Folds.{list_any-append}
 use Rattle.std.proofs.lemmas.Option.{none-some, same_Some}
 use Rattle.std.proofs.Math.Bool.{or-false}
-use Rattle.sgx_types.proofs.Pages.{same_page-refl, same_pages, same_slots}
+use Rattle.sgx_types.proofs.Pages.{same_page-refl, same_pages, same_places}
 use Rattle.sgx_rules.specs.declared.entries.Action.TheVariants.{Epa, Create, Add, EwbStart, Ewb, EldStart, Eld}
 use Rattle.sgx_types.specs.declared.names.Actor.{Actor}
 use Rattle.sgx_rules.specs.declared.entries.Answer.{Answer}
@@ -24,23 +24,25 @@ use Rattle.sgx_types.specs.declared.names.SlotAt.{SlotAt}
 use Rattle.sgx_rules.specs.declared.refusals.Refusal.{Refusal}
 use Rattle.sgx_types.specs.Pages.{page_at, same_page}
 use Rattle.sgx_rules.specs.Frames.{Content, Free, Holds, IsLoading, IsVa, SecsOf, added, content, reloaded, vas_made}
-use Rattle.sgx_types.specs.Pages.{same_slot}
-use Rattle.sgx_rules.specs.Slots.{names_slot, open_slot, version_in}
-use Rattle.sgx_rules.specs.inner.Slots.{IsIdle}
+use Rattle.sgx_types.specs.Pages.{same_place}
+use Rattle.driver_laws.specs.inner.ByFrame.{names_slot, open_slot, starting, version_in}
+use Rattle.driver_laws.specs.inner.ByFrame.{IsIdle}
 use Rattle.sgx_rules.specs.Starts.{Start, open_start, version_told}
 use Rattle.version_array.specs.inner.Keeper.{Adds, Gives, Keeper, Takes, is_added, is_out}
 use Rattle.job_grammar.specs.Jobs.{JobView, va_pages}
 use Rattle.driver_laws.specs.inner.Agrees.{ShowsSlots, has_pages}
-use Rattle.driver_laws.specs.inner.Kinds.{CanMove, is_quiet}
+use Rattle.driver_laws.specs.inner.Kinds.{CanMove, IsFoundAt, is_quiet}
 use Rattle.driver_rules.specs.Places.{Leaving, Loading, place}
-use Rattle.sgx_rules.specs.Slots.{slot_of as starts_slot}
-use Rattle.sgx_rules.proofs.Busy.{idle_ended, idle_freed, idle_started}
+use Rattle.driver_laws.specs.inner.ByFrame.{slot_of as starts_slot}
+use Rattle.driver_laws.proofs.FrameLaws.{found_in}
+use Rattle.sgx_types.proofs.Truths.{both_true}
+use Rattle.driver_laws.proofs.IdleLaws.{idle_ended, idle_freed, idle_started}
 use Rattle.sgx_rules.specs.Table.{is_loading, is_va}
 use Rattle.sgx_rules.proofs.Contents.{loading_no_va, page_is_no_other}
 use Rattle.driver_laws.specs.inner.Sound.{IsSound, load_slot, slot_at, slot_loading, slot_of, stands_in}
 use Rattle.driver_laws.proofs.PlaceLaws.{load_slot_is}
-use Rattle.driver_laws.proofs.SlotLaws.{same_slot-refl}
-use Rattle.driver_laws.proofs.SoundLaws.{entry_of, load_start, named}
+use Rattle.driver_laws.proofs.SlotLaws.{same_place-refl}
+use Rattle.driver_laws.proofs.SoundLaws.{entry_of, load_start, named, reloaded_no_va, there_own}
 use Rattle.driver_laws.proofs.SlotMoves.{SameSlots, same_add, same_age, same_eldstart, same_ewb, same_refused, slot_back}
 use Rattle.driver_laws.proofs.SlotMoves.{slot_back_other}
 use Rattle.driver_laws.proofs.SlotMoves.{slot_started, slot_started_other}
@@ -78,11 +80,11 @@ not_array past f n c free other = by_frame (f == n) refl
     by_frame false is = refl
 
 -- a slot that is out is not one that is not
-out_apart : (keeper : Keeper) (mine slot : SlotAt) → is_out keeper mine ≡ true → is_out keeper slot ≡ false → same_slot mine slot ≡ false
-out_apart keeper mine slot out free = by_test (same_slot mine slot) refl
+out_apart : (keeper : Keeper) (mine slot : SlotAt) → is_out keeper mine ≡ true → is_out keeper slot ≡ false → same_place mine slot ≡ false
+out_apart keeper mine slot out free = by_test (same_place mine slot) refl
   where
-    by_test : (b : Bool) → same_slot mine slot ≡ b → same_slot mine slot ≡ false
-    by_test true is = absurd (false≢true (sym free ∙ ap (is_out keeper) (sym (same_slots mine slot is)) ∙ out))
+    by_test : (b : Bool) → same_place mine slot ≡ b → same_place mine slot ≡ false
+    by_test true is = absurd (false≢true (sym free ∙ ap (is_out keeper) (sym (same_places mine slot is)) ∙ out))
     by_test false is = is
 
 -- ---- entries
@@ -108,9 +110,10 @@ shows_eldstart j keeper past a f page slot answer can sound s =
     (same_eldstart past a f page slot answer can sound)
     (λ t free. (
       refl,
-      idle_started past f.0
-          (record { slot = slot; version = version_told answer; loads = Some page; place = length past; actor = a }) t
-          (out_apart keeper slot t (s.used page slot (ap (slot_at (open_start past)) can.1)) free),
+      λ idle. subst (λ o. (n : ℕ) → names_slot (starts_slot (starting past a f.0 slot answer (Some page) o n)) t ≡ false) (sym can.2.1)
+          (idle_started past f.0
+          (record { at = slot; slot = can.2.0; version = version_told answer; loads = Some page; place = length past; actor = a }) t
+          (out_apart keeper slot t (s.used page slot (ap (slot_at (open_start past)) can.1)) free) idle),
     ))
 
 -- ---- a page goes out
@@ -122,19 +125,23 @@ pub shows_ewbstart : (j : JobView) (old new : Keeper) (past : List Entry) (a : A
 shows_ewbstart j old new past a f slot answer page at none sound takes s = record {
   frames = λ n. ap (λ fs. list_any (λ (x : Frame). x.0 == n) fs) takes.frames ∙ s.frames n;
   made = λ h. ap (λ fs. length fs) takes.frames ∙ s.made h;
-  out = λ t k. by_out t (same_slot slot t) refl (sym (takes.out t) ∙ k);
+  out = λ t k. by_out t (same_place slot t) refl (sym (takes.out t) ∙ k);
   used = λ g t k. takes.out t ∙ by_used g t (same_page page g) refl k;
-  empty = λ t k. by_empty t (same_slot slot t) refl (is_out old t) refl (sym (takes.out t) ∙ k);
+  empty = λ t k. by_empty t (same_place slot t) refl (is_out old t) refl (sym (takes.out t) ∙ k);
 }
   where
     entry : Entry
     entry = entry_of a (Did (EwbStart f slot) answer)
 
+    found : IsFoundAt past slot
+    found = found_in (content past) slot
+        (sym (s.frames slot.frame.0) ∙ (both_true (is_added old slot.frame.0) (nat_lt slot.index 512) takes.ours).0)
+
     before : slot_of past page ≡ None
     before = ap (slot_at (open_start past)) at ∙ ap starts_slot none
 
     mine : slot_of (entry ∷ past) page ≡ Some slot
-    mine = slot_started past a f slot answer page at
+    mine = slot_started past a f slot answer page at found
 
     others : (g : Page) → same_page page g ≡ false → slot_of (entry ∷ past) g ≡ slot_of past g
     others g = slot_started_other past a f slot answer page g sound at
@@ -143,29 +150,31 @@ shows_ewbstart j old new past a f slot answer page at none sound takes s = recor
     apart g t true is k = absurd (none-some t (sym before ∙ ap (slot_of past) (same_pages page g is) ∙ k))
     apart g t false is k = is
 
-    by_out : (t : SlotAt) (b : Bool) → same_slot slot t ≡ b → (b || is_out old t) ≡ true
+    by_out : (t : SlotAt) (b : Bool) → same_place slot t ≡ b → (b || is_out old t) ≡ true
         → (g : Page) × (slot_of (entry ∷ past) g ≡ Some t)
-    by_out t true is k = (page, mine ∙ ap Some (same_slots slot t is))
+    by_out t true is k = (page, mine ∙ ap Some (same_places slot t is))
     by_out t false is k =
         let owner = s.out t k in
         (owner.0, others owner.0 (apart owner.0 t (same_page page owner.0) refl owner.1) ∙ owner.1)
 
     by_used : (g : Page) (t : SlotAt) (b : Bool) → same_page page g ≡ b → slot_of (entry ∷ past) g ≡ Some t
-        → (same_slot slot t || is_out old t) ≡ true
+        → (same_place slot t || is_out old t) ≡ true
     by_used g t true is k =
         let same = same_Some slot t (sym mine ∙ ap (slot_of (entry ∷ past)) (same_pages page g is) ∙ k) in
-        or_left (same_slot slot t) (is_out old t) (subst (λ u. same_slot slot u ≡ true) same (same_slot-refl slot))
-    by_used g t false is k = or_right (same_slot slot t) (is_out old t) (s.used g t (sym (others g is) ∙ k))
+        or_left (same_place slot t) (is_out old t) (subst (λ u. same_place slot u ≡ true) same (same_place-refl slot))
+    by_used g t false is k = or_right (same_place slot t) (is_out old t) (s.used g t (sym (others g is) ∙ k))
 
-    by_empty : (t : SlotAt) (b : Bool) → same_slot slot t ≡ b → (c : Bool) → is_out old t ≡ c → (b || c) ≡ false
+    by_empty : (t : SlotAt) (b : Bool) → same_place slot t ≡ b → (c : Bool) → is_out old t ≡ c → (b || c) ≡ false
         → (version_in past t ≡ 0) × IsIdle (entry ∷ past) t
     by_empty t true is c free k = cc
     by_empty t false is true free k = cc
     by_empty t false is false free k =
         let before = s.empty t free in (
           before.0,
-          idle_started past f.0
-              (record { slot = slot; version = version_told answer; loads = None; place = length past; actor = a }) t is before.1,
+          subst (λ o. (n : ℕ) → names_slot (starts_slot (starting past a f.0 slot answer None o n)) t ≡ false) (sym found.1)
+              (idle_started past f.0
+              (record { at = slot; slot = found.0; version = version_told answer; loads = None; place = length past; actor = a }) t is
+              before.1),
         )
 
 -- its end leaves the slot with the page
@@ -175,16 +184,16 @@ pub shows_ewb : (j : JobView) (keeper : Keeper) (past : List Entry) (a : Actor) 
 shows_ewb j keeper past a f page version tag can sound s =
     shows_same j keeper past (entry_of a (Did (Ewb f) (Moved page version tag))) s (λ n. arrays n (f.0 == n) refl) s.made
     (same_ewb past a f page version tag can sound)
-    (λ t free. (rw (named past f.0 x can.1.1, out_apart keeper x.slot t mine free) refl, idle_ended past f.0 t))
+    (λ t free. (rw (named past f.0 x can.1.1, out_apart keeper x.at t mine free) refl, idle_ended past f.0 t))
   where
     x : Start
     x = can.1.0
 
-    before : slot_of past page ≡ Some x.slot
+    before : slot_of past page ≡ Some x.at
     before = ap (slot_at (open_start past)) can.0 ∙ ap starts_slot can.1.1
 
-    mine : is_out keeper x.slot ≡ true
-    mine = s.used page x.slot before
+    mine : is_out keeper x.at ≡ true
+    mine = s.used page x.at before
 
     arrays : (n : ℕ) (b : Bool) → (f.0 == n) ≡ b → is_va (if b then Free else content past n) ≡ is_va (content past n)
     arrays n true is = sym (page_is_no_other (content past n) page (sound.places.frames page n ∙ ap (λ q. stands_in q n) can.0 ∙ is)).va
@@ -199,12 +208,12 @@ pub shows_eld : (j : JobView) (old new : Keeper) (past : List Entry) (a : Actor)
 shows_eld j old new past a f page version tag slot loading sound gives s = record {
   frames = λ n. ap (λ fs. list_any (λ (x : Frame). x.0 == n) fs) gives.frames ∙ s.frames n ∙ sym (arrays n (f.0 == n) refl);
   made = λ h. ap (λ fs. length fs) gives.frames ∙ s.made h;
-  out = λ t k. by_out t (same_slot slot t) refl (sym (gives.out t) ∙ k);
+  out = λ t k. by_out t (same_place slot t) refl (sym (gives.out t) ∙ k);
   used = λ g t k. gives.out t ∙ by_used g t (same_page page g) refl k;
-  empty = λ t k. by_empty t (same_slot slot t) refl (sym (gives.out t) ∙ k);
+  empty = λ t k. by_empty t (same_place slot t) refl (sym (gives.out t) ∙ k);
 }
   where
-    start : (x : Start) × (open_start past f.0 ≡ Some x) × (x.slot ≡ slot)
+    start : (x : Start) × (open_start past f.0 ≡ Some x) × (x.at ≡ slot)
     start = load_start past f.0 page slot sound loading
 
     names : open_slot past f.0 ≡ Some slot
@@ -222,36 +231,32 @@ shows_eld j old new past a f page version tag slot loading sound gives s = recor
     arrays : (n : ℕ) (b : Bool) → (f.0 == n) ≡ b
         → is_va (if b then reloaded page (added past page) else content past n) ≡ is_va (content past n)
     arrays n true is =
-        by_kind (added past page)
+        reloaded_no_va page (added past page) (there_own past page (Loading f.0 slot) sound loading refl)
         ∙ sym (ap (λ m. is_va (content past m)) (sym (eqb-true f.0 n is)) ∙ loading_no_va (content past f.0) held)
       where
         held : is_loading (content past f.0) ≡ true
         held =
             sym (sound.places.loading f.0) ∙ load_slot_is (open_start past f.0) page slot
             (sound.places.loads page f.0 ∙ ap (λ q. slot_loading q f.0) loading ∙ rw (eq-eqb f.0 f.0 refl) refl)
-
-        by_kind : (o : Option (Kind × Perm)) → is_va (reloaded page o) ≡ false
-        by_kind None = refl
-        by_kind (Some k) = refl
     arrays n false is = refl
 
     -- the page of another slot is another page
-    apart : (g : Page) (t : SlotAt) (b : Bool) → same_page page g ≡ b → same_slot slot t ≡ false → slot_of past g ≡ Some t
+    apart : (g : Page) (t : SlotAt) (b : Bool) → same_page page g ≡ b → same_place slot t ≡ false → slot_of past g ≡ Some t
         → same_page page g ≡ false
     apart g t true is other k =
         let equal = same_Some slot t (sym mine ∙ ap (slot_of past) (same_pages page g is) ∙ k) in
-        absurd (false≢true (sym other ∙ subst (λ u. same_slot slot u ≡ true) equal (same_slot-refl slot)))
+        absurd (false≢true (sym other ∙ subst (λ u. same_place slot u ≡ true) equal (same_place-refl slot)))
     apart g t false is other k = is
 
     -- .. and the slot of another page is another slot
-    slots_apart : (g : Page) (t : SlotAt) (b : Bool) → same_slot slot t ≡ b → same_page page g ≡ false → slot_of past g ≡ Some t
-        → same_slot slot t ≡ false
+    slots_apart : (g : Page) (t : SlotAt) (b : Bool) → same_place slot t ≡ b → same_page page g ≡ false → slot_of past g ≡ Some t
+        → same_place slot t ≡ false
     slots_apart g t true is other k =
-        let owner : page ≡ g = sound.apart page g t (mine ∙ ap Some (same_slots slot t is)) k in
+        let owner : page ≡ g = sound.apart page g t (mine ∙ ap Some (same_places slot t is)) k in
         absurd (false≢true (sym other ∙ subst (λ h. same_page page h ≡ true) owner (same_page-refl page)))
     slots_apart g t false is other k = is
 
-    by_out : (t : SlotAt) (b : Bool) → same_slot slot t ≡ b → (not b && is_out old t) ≡ true
+    by_out : (t : SlotAt) (b : Bool) → same_place slot t ≡ b → (not b && is_out old t) ≡ true
         → (g : Page) × (slot_of (entry ∷ past) g ≡ Some t)
     by_out t true is k = cc
     by_out t false is k =
@@ -259,20 +264,20 @@ shows_eld j old new past a f page version tag slot loading sound gives s = recor
         (owner.0, others owner.0 (apart owner.0 t (same_page page owner.0) refl is owner.1) ∙ owner.1)
 
     by_used : (g : Page) (t : SlotAt) (b : Bool) → same_page page g ≡ b → slot_of (entry ∷ past) g ≡ Some t
-        → (not (same_slot slot t) && is_out old t) ≡ true
+        → (not (same_place slot t) && is_out old t) ≡ true
     by_used g t true same k =
         absurd (none-some t (sym (slot_back past a f page version tag) ∙ ap (slot_of (entry ∷ past)) (same_pages page g same) ∙ k))
     by_used g t false same k =
         let before : slot_of past g ≡ Some t = sym (others g same) ∙ k in
-        rw (slots_apart g t (same_slot slot t) refl same before) (s.used g t before)
+        rw (slots_apart g t (same_place slot t) refl same before) (s.used g t before)
 
-    by_empty : (t : SlotAt) (b : Bool) → same_slot slot t ≡ b → (not b && is_out old t) ≡ false
+    by_empty : (t : SlotAt) (b : Bool) → same_place slot t ≡ b → (not b && is_out old t) ≡ false
         → ((if names_slot (open_slot past f.0) t then 0 else version_in past t) ≡ 0) × IsIdle (entry ∷ past) t
     by_empty t true is k = (rw (names, is) refl, idle_freed past f.0 t alone_by)
       where
-        alone_by : (n : ℕ) (x : Start) → open_start past n ≡ Some x → x.slot ≡ t → f.0 ≡ n
+        alone_by : (n : ℕ) (x : Start) → open_start past n ≡ Some x → x.at ≡ t → f.0 ≡ n
         alone_by n x is_open same =
-            (alone past sound).apart f.0 n start.0 x start.1 is_open (start.2 ∙ same_slots slot t is ∙ sym same)
+            (alone past sound).apart f.0 n start.0 x start.1 is_open (start.2 ∙ same_places slot t is ∙ sym same)
     by_empty t false is k = let before = s.empty t k in (rw (names, is) before.0, idle_ended past f.0 t before.1)
 
 -- a refused load leaves the slot with the page
@@ -290,7 +295,7 @@ shows_refused j keeper past a f refusal can sound s =
     slot : SlotAt
     slot = can.1
 
-    start : (x : Start) × (open_start past f.0 ≡ Some x) × (x.slot ≡ slot)
+    start : (x : Start) × (open_start past f.0 ≡ Some x) × (x.at ≡ slot)
     start = load_start past f.0 page slot sound can.2
 
     names : open_slot past f.0 ≡ Some slot

@@ -6,7 +6,7 @@ use Rattle.sgx_rules.specs.declared.entries.Entry.{Entry}
 use Rattle.sgx_types.specs.declared.names.Page.{Page}
 use Rattle.sgx_types.specs.declared.names.SlotAt.{SlotAt}
 use Rattle.sgx_rules.specs.Frames.{Free, content, is_page}
-use Rattle.sgx_rules.specs.Slots.{slot_of as slot_of_start}
+use Rattle.driver_laws.specs.inner.ByFrame.{slot_of as slot_of_start}
 use Rattle.sgx_rules.specs.Starts.{Start, open_start}
 use Rattle.sgx_types.proofs.Pages.{same_page-refl}
 use Rattle.sgx_rules.specs.Table.{is_loading}
@@ -28,32 +28,32 @@ record IsStarted (past : List Entry) (n : ℕ) (slot : SlotAt) : Type 0 where
   pub names : slot_of past page ≡ Some slot
 
 -- an open start is that of a page
-started : (past : List Entry) (n : ℕ) (x : Start) → IsSound past → open_start past n ≡ Some x → IsStarted past n x.slot
+started : (past : List Entry) (n : ℕ) (x : Start) → IsSound past → open_start past n ≡ Some x → IsStarted past n x.at
 started past n x s is_open = by_loads x.loads refl
   where
-    by_loads : (o : Option Page) → x.loads ≡ o → IsStarted past n x.slot
+    by_loads : (o : Option Page) → x.loads ≡ o → IsStarted past n x.at
     by_loads None is =
         let w = s.places.writes n (ap is_write_start is_open ∙ ap (λ y. not (is_some y)) is) in
         record { page = w.0; moving = ap frame_moving w.1; names = ap (slot_at (open_start past)) w.1 ∙ ap slot_of_start is_open }
     by_loads (Some g) is =
-        let load : load_slot (Some x) g ≡ Some x.slot = rw (is, same_page-refl g) refl in
-        let at = loading_is (place past g) n x.slot (sym (s.places.loads g n) ∙ ap (λ o. load_slot o g) is_open ∙ load) in
+        let load : load_slot (Some x) g ≡ Some x.at = rw (is, same_page-refl g) refl in
+        let at = loading_is (place past g) n x.at (sym (s.places.loads g n) ∙ ap (λ o. load_slot o g) is_open ∙ load) in
         record { page = g; moving = ap frame_moving at; names = ap (slot_at (open_start past)) at }
 
 pub alone : (past : List Entry) → IsSound past → StartsAlone past
 alone past s = record { apart = apart; away = away }
   where
-    apart : (m n : ℕ) (x y : Start) → open_start past m ≡ Some x → open_start past n ≡ Some y → x.slot ≡ y.slot → m ≡ n
+    apart : (m n : ℕ) (x y : Start) → open_start past m ≡ Some x → open_start past n ≡ Some y → x.at ≡ y.at → m ≡ n
     apart m n x y open_x open_y same =
         let a = started past m x s open_x in
         let b = started past n y s open_y in
-        let one = s.apart a.page b.page y.slot (a.names ∙ ap Some same) b.names in
+        let one = s.apart a.page b.page y.at (a.names ∙ ap Some same) b.names in
         same_Some m n (sym a.moving ∙ ap (λ g. frame_moving (place past g)) one ∙ b.moving)
 
-    away : (n : ℕ) (x : Start) (g : Page) → open_start past n ≡ Some x → place past g ≡ Away x.slot → ⊥
+    away : (n : ℕ) (x : Start) (g : Page) → open_start past n ≡ Some x → place past g ≡ Away x.at → ⊥
     away n x g is_open at =
         let a = started past n x s is_open in
-        let one = s.apart a.page g x.slot a.names (ap (slot_at (open_start past)) at) in
+        let one = s.apart a.page g x.at a.names (ap (slot_at (open_start past)) at) in
         none-some n (sym (ap frame_moving at) ∙ ap (λ h. frame_moving (place past h)) (sym one) ∙ a.moving)
 
 -- no start of a free frame is open

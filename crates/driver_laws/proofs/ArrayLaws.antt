@@ -3,8 +3,8 @@ use Rattle.std.proofs.Common.{◌≡◌, ℕ, zero, suc, ◌+◌, ◌≤◌, ◌
 use Rattle.std.proofs.Common.{sym, ◌∙◌, ap, List, [], ◌∷◌, ◌++◌, Some, length, map, take, replicate, slice_get, arith}
 use Rattle.std.proofs.Common.{nat_le}
 use Rattle.std.proofs.lemmas.Bool.{false≢true, leb-false, leb-true}
-use Rattle.std.proofs.lemmas.List.{length-append}
-use Rattle.std.proofs.lemmas.List.Sums.{sum_by-append, sum_by-cons, sum_by-take-le}
+use Rattle.std.proofs.lemmas.List.{length-append, length-take}
+use Rattle.std.proofs.lemmas.List.Sums.{count_by-le-length, sum_by-append, sum_by-cons, sum_by-take-le}
 use Rattle.std.specs.List.{count_by, flat_map}
 use Rattle.sgx_types.specs.Pages.{no_perm}
 use Rattle.sgx_rules.specs.declared.entries.Action.TheVariants as actions
@@ -31,6 +31,8 @@ use Rattle.driver_rules.specs.Scripts.{ScriptRule}
 use Rattle.driver_laws.specs.inner.Agrees.{has_pages, is_add}
 use Rattle.driver_laws.specs.inner.Counted.{AddsAreBuilt, is_add_step, pages_added, with_added}
 use Rattle.driver_laws.specs.inner.Keeps.{ArraysAreBuilt, ArraysFirst, KeeperMoves, is_epa, is_epa_refused, is_va_step}
+use Rattle.driver_laws.proofs.BuiltLaws.{epa_built, one_va}
+use Rattle.sgx_rules.specs.Frames.{vas_made}
 use Rattle.driver_laws.proofs.StepLaws.{Builds, ByStep, IsStep, NoStep, adds_by, arrays_by, builds_by, builds_or_none, counts}
 use Rattle.driver_laws.proofs.StepLaws.{epa_by}
 use Rattle.driver_laws.proofs.StepLaws.{step_counts}
@@ -39,9 +41,6 @@ use Rattle.driver_laws.proofs.StepLaws.{step_counts}
 
 abbrev vas_in : List BuildStep → ℕ
 vas_in steps = count_by is_va_step steps
-
-abbrev one_va : BuildStep → ℕ
-one_va step = cond (is_va_step step) 1 0
 
 abbrev one_add : BuildStep → ℕ
 one_add step = cond (is_add_step step) 1 0
@@ -111,6 +110,18 @@ then_all_made (suc n) (suc i) rest none low =
 all_made : (j : JobView) (n : ℕ) → va_pages j ≤ n → counts is_va_step j n ≡ va_pages j
 all_made j n behind = then_all_made (va_pages j) n (enclaves_steps 1 j.enclaves) (enclaves_none 1 j.enclaves) behind
 
+-- so no more are made than the job has
+pub arrays_few : (j : JobView) (past : List Entry) → AddsAreBuilt j past → vas_made past ≤ va_pages j
+arrays_few j past h = by_test (nat_le (va_pages j) (built past)) refl
+  where
+    by_test : (b : Bool) → nat_le (va_pages j) (built past) ≡ b → vas_made past ≤ va_pages j
+    by_test true is = omega (arith, h.arrays, all_made j (built past) (leb-true (va_pages j) (built past) is))
+    by_test false is =
+        let low = leb-false (va_pages j) (built past) is in
+        let few = count_by-le-length is_va_step (take (built past) (build_of j)) in
+        let size = length-take (built past) (build_of j) in
+        omega (arith, low, few, size, h.arrays)
+
 -- a step that makes a version array page is among the first
 va_is_first : (j : JobView) (past : List Entry) (step : BuildStep) → slice_get (build_of j) (built past) ≡ Some step
     → is_va_step step ≡ true → built past ≤ va_pages j
@@ -158,7 +169,7 @@ arrays_first j keeper past e script age adds arrays = by_event e.event (builds_o
     by_epa ev epa there (ByStep is s) =
         let first = va_is_first j past s.step s.there (arrays_by ev s.step s.frame s.made epa) in
         let none = firsts_add_none (va_pages j) (built past) (enclaves_steps 1 j.enclaves) first in
-        none_has_pages past (omega (arith, none, adds))
+        none_has_pages past (omega (arith, none, adds.adds))
 
     by_add : (ev : Event) → is_add ev ≡ true → builds_by ev ≡ true → Builds j past e.actor ev → length keeper.frames ≡ va_pages j
     by_add ev add there (NoStep other none) = absurd (false≢true (sym none ∙ there))
@@ -183,10 +194,6 @@ frames_moved past (Did (actions.Epa f) answer) old new m = ap (λ fs. length fs)
 frames_moved past (Did (actions.EwbStart f slot) answer) old new m = ap (λ fs. length fs) m.frames ∙ omega arith
 frames_moved past (Did (actions.Eld f) answer) old new m = ap (λ fs. length fs) m.2.frames ∙ omega arith
 frames_moved past _ old new m = ap (λ fs. length fs) m.frames ∙ omega arith
-
-epa_built : (ev : Event) → builds_by ev ≡ false → is_epa ev ≡ false
-epa_built (Did (actions.Epa f) answer) none = absurd (false≢true (sym none))
-epa_built _ none = refl
 
 pub stays_arrays : (j : JobView) (old new : Keeper) (past : List Entry) (e : Entry) → ScriptRule j past e → AgeRule j past e
     → is_epa_refused e.event ≡ false → KeeperMoves past e.event old new → ArraysAreBuilt j old past → ArraysAreBuilt j new (e ∷ past)

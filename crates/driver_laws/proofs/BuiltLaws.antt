@@ -7,7 +7,7 @@ use Rattle.std.proofs.lemmas.List.Folds.{sum_by-replicate}
 use Rattle.std.proofs.lemmas.List.Sums.{count_by-le-length, sum_by-append, sum_by-cons, sum_by-take-le}
 use Rattle.std.specs.List.{count_by, flat_map, sum_by}
 use Rattle.sgx_types.specs.Pages.{no_perm}
-use Rattle.sgx_rules.specs.Frames.{added, added_by}
+use Rattle.sgx_rules.specs.Frames.{added, added_by, vas_after, vas_made}
 use Rattle.sgx_types.specs.Making.{Making}
 use Rattle.sgx_rules.specs.declared.entries.Action.TheVariants as actions
 use Rattle.sgx_types.specs.declared.names.Actor.{Actor}
@@ -35,9 +35,11 @@ use Rattle.driver_rules.specs.Scripts.{ScriptRule}
 use Rattle.driver_laws.specs.inner.Agrees.{ShowsSlots, has_pages, is_add}
 use Rattle.driver_laws.specs.inner.Counted.{AddsAreBuilt, CountsSlots, has_slot, is_add_step, pages_added, with_added}
 use Rattle.driver_laws.specs.inner.Driven.{IsDriven}
+use Rattle.driver_laws.specs.inner.Keeps.{is_epa, is_va_step}
 use Rattle.driver_laws.specs.inner.Sound.{IsSound, is_absent}
 use Rattle.driver_laws.proofs.HistoryLaws.{driven_before}
-use Rattle.driver_laws.proofs.StepLaws.{Builds, ByStep, IsStep, NoStep, adds_by, builds_by, builds_or_none, counts, step_counts}
+use Rattle.driver_laws.proofs.StepLaws.{Builds, ByStep, IsStep, NoStep, adds_by, arrays_by, builds_by, builds_or_none, counts}
+use Rattle.driver_laws.proofs.StepLaws.{step_counts}
 
 -- ---- how many pages the build adds
 
@@ -119,13 +121,52 @@ adds_built : (ev : Event) → builds_by ev ≡ false → is_add ev ≡ false
 adds_built (Did (actions.Add e n f kind perm init) answer) none = absurd (false≢true (sym none))
 adds_built _ none = refl
 
+-- .. and as many version array pages
+abbrev pub one_va : BuildStep → ℕ
+one_va step = cond (is_va_step step) 1 0
+
+vas_more : (ev : Event) (n : ℕ) → is_epa ev ≡ true → vas_after ev n ≡ n + 1
+vas_more (Did (actions.Epa f) answer) n epa = refl
+vas_more _ n epa = absurd cc
+
+vas_same : (ev : Event) (n : ℕ) → is_epa ev ≡ false → vas_after ev n ≡ n
+vas_same (Did (actions.Epa f) answer) n epa = absurd cc
+vas_same _ n epa = refl
+
+pub epa_built : (ev : Event) → builds_by ev ≡ false → is_epa ev ≡ false
+epa_built (Did (actions.Epa f) answer) none = absurd (false≢true (sym none))
+epa_built _ none = refl
+
 pub first_built : (j : JobView) → AddsAreBuilt j []
-first_built j = omega arith
+first_built j = record { adds = omega arith; arrays = omega arith }
 
 pub stays_built : (j : JobView) (past : List Entry) (e : Entry) → ScriptRule j past e → AgeRule j past e → AddsAreBuilt j past
     → AddsAreBuilt j (e ∷ past)
-stays_built j past e script age h = by_step e.actor (builds_or_none j past e script age)
+stays_built j past e script age built_before =
+    record {
+      adds = by_step e.actor (builds_or_none j past e script age);
+      arrays = arrays_step e.actor (builds_or_none j past e script age);
+    }
   where
+    h : length (pages_added past) ≤ counts is_add_step j (built past)
+    h = built_before.adds
+
+    low : vas_made past ≤ counts is_va_step j (built past)
+    low = built_before.arrays
+
+    by_epa : (s : IsStep j past e.event) (b : Bool) → is_epa e.event ≡ b → vas_made (e ∷ past) ≤ counts is_va_step j (built past + 1)
+    by_epa s true is =
+        let one : one_va s.step ≡ 1 = ap (λ b. cond b 1 0) (arrays_by e.event s.step s.frame s.made is) in
+        omega (arith, vas_more e.event (vas_made past) is, step_counts is_va_step j past s.step s.there, one, low)
+    by_epa s false is =
+        omega (arith, vas_same e.event (vas_made past) is, step_counts is_va_step j past s.step s.there, low)
+
+    arrays_step : (a : Actor) → Builds j past a e.event
+        → vas_made (e ∷ past) ≤ counts is_va_step j (if is_builder a then built past + 1 else built past)
+    arrays_step a (ByStep is s) = rw is (by_epa s (is_epa e.event) refl)
+    arrays_step a (NoStep other none) =
+        rw other (omega (arith, vas_same e.event (vas_made past) (epa_built e.event none), low))
+
     by_add : (s : IsStep j past e.event) (b : Bool) → is_add e.event ≡ b
         → length (pages_added (e ∷ past)) ≤ counts is_add_step j (built past + 1)
     by_add s true is =
@@ -148,7 +189,7 @@ driven_built k j (e ∷ past) d = stays_built j past e d.script.0 d.age.0 (drive
 few_pages : (j : JobView) (past : List Entry) → AddsAreBuilt j past → length (pages_added past) ≤ job_pages j
 few_pages j past h =
     let all : counts is_add_step j (built past) ≤ adds_in (build_of j) = sum_by-take-le one_add (build_of j) (built past) in
-    omega (arith, all, build_adds j, h)
+    omega (arith, all, build_adds j, h.adds)
 
 -- ---- a slot is left
 

@@ -25,7 +25,7 @@ use Rattle.driver_rules.specs.Places.{Leaving, Loading, place, Absent}
 use Rattle.driver_laws.specs.inner.Counted.{CountMoves, CountsSlots, has_slot, pages_added}
 use Rattle.driver_laws.specs.inner.Kinds.{CanMove}
 use Rattle.driver_laws.specs.inner.Sound.{IsSound, is_absent, slot_at, times}
-use Rattle.sgx_rules.specs.Slots.{slot_of as starts_slot}
+use Rattle.driver_laws.specs.inner.ByFrame.{slot_of as starts_slot}
 use Rattle.driver_laws.specs.inner.Used.{StartTells}
 use Rattle.driver_laws.proofs.SlotMoves.{SameSlots, same_add, same_age, same_eldstart, same_ewb, same_refused, slot_back}
 use Rattle.driver_laws.proofs.SlotMoves.{slot_back_other}
@@ -140,7 +140,7 @@ counts_started old new past a f slot answer can none s out c = record {
     before = ap is_some (ap (slot_at (open_start past)) at ∙ ap starts_slot none)
 
     now : has_slot (entry ∷ past) page ≡ true
-    now = ap is_some (slot_started past a f slot answer page at)
+    now = ap is_some (slot_started past a f slot answer page at can.2)
 
     others : (g : Page) → same_page page g ≡ false → has_slot (entry ∷ past) g ≡ has_slot past g
     others g other = ap is_some (slot_started_other past a f slot answer page g s at other)

@@ -15,12 +15,13 @@ use Rattle.sgx_rules.specs.declared.refusals.Refusal.{Refusal}
 use Rattle.sgx_rules.specs.declared.refusals.Refusal.TheVariants as why
 use Rattle.sgx_rules.specs.Epochs.{epoch, is_in_before, is_track, last_track, older_at}
 use Rattle.sgx_rules.specs.inner.Epochs.{block_epoch}
-use Rattle.sgx_rules.specs.Eviction.{earlier_or, is_drained, keeps_back, number_kept_back, track_behind}
+use Rattle.sgx_rules.specs.Eviction.{is_drained, keeps_back, number_kept_back, track_behind}
+use Rattle.sgx_types.specs.Counts.{earlier_or}
 use Rattle.sgx_rules.specs.Frames.{content, is_free}
 use Rattle.sgx_rules.specs.Processors.{stay}
-use Rattle.sgx_rules.specs.Sights.{drain_sight_at, sight_at, slot_sight_at}
+use Rattle.sgx_rules.specs.Sights.{drain_sight_at, sight_at, slot_sight_at, use_sight_at}
 use Rattle.sgx_rules.specs.Table.{DrainSight, FrameSight, SlotSight, ewbstart_row, first_of_row, is_busy, is_out_of_range}
-use Rattle.sgx_rules.specs.Table.{is_secs, is_va}
+use Rattle.sgx_rules.specs.Table.{UseSight, is_own, is_va}
 use Rattle.sgx_rules.proofs.Contents.{page_enclave}
 use Rattle.sgx_types.proofs.CountLaws.{count_below-zero}
 use Rattle.driver_rules.specs.Passes.{keepers, keepers_behind, keepers_from, keepers_in, keeps_from}
@@ -129,43 +130,47 @@ skip : (b : Bool) (refusal : Refusal) (rest found : Option Refusal) → (Some re
 skip true refusal rest found other h = absurd (other h)
 skip false refusal rest found other h = (refl, h)
 
-not_drained_row : (s : FrameSight) (slot : SlotSight) (d : DrainSight) (spent : Bool) (e o : ℕ)
-    → first_of_row (ewbstart_row s slot d spent) ≡ Some (why.NotTracked e o) → (s.is_blocked ≡ true) × (d.is_drained ≡ false)
-not_drained_row s slot d spent e o h =
+not_drained_row : (s : FrameSight) (uses : UseSight) (slot : SlotSight) (d : DrainSight) (spent : Bool) (e o : ℕ)
+    → first_of_row (ewbstart_row s uses slot d spent) ≡ Some (why.NotTracked e o) → (s.is_blocked ≡ true) × (d.is_drained ≡ false)
+not_drained_row s uses slot d spent e o h =
     let a = skip (is_out_of_range s slot) why.BadRange _ (Some (why.NotTracked e o)) (λ x. cc) h in
-    let b = skip (is_busy s || slot.is_busy) why.Conflict _ (Some (why.NotTracked e o)) (λ x. cc) a.1 in
+    let b = skip (is_busy s || slot.is_busy || uses.is_in_use) why.Conflict _ (Some (why.NotTracked e o)) (λ x. cc) a.1 in
     let c = skip (is_free s.content) why.PgInvld _ (Some (why.NotTracked e o)) (λ x. cc) b.1 in
-    let k = skip (is_secs s.content || is_va s.content || not (is_va slot.frame.content)) why.BadKind _ (Some (why.NotTracked e o))
-    (λ x. cc) c.1 in
-    let l = skip (not s.is_blocked) why.PageNotBlocked _ (Some (why.NotTracked e o)) (λ x. cc) k.1 in
-    (not-false s.is_blocked l.0, by_test d.is_drained l.1)
+    let k = skip (not (is_va slot.frame.content) || uses.is_its_own) why.BadKind _ (Some (why.NotTracked e o)) (λ x. cc) c.1 in
+    let i = skip (not (uses.children == 0)) (why.ChildPresent uses.children) _ (Some (why.NotTracked e o)) (λ x. cc) k.1 in
+    let l = skip (is_own s.content && not s.is_blocked) why.PageNotBlocked _ (Some (why.NotTracked e o)) (λ x. cc) i.1 in
+    let own = by_test (is_own s.content) d.is_drained l.1 in
+    (not-false s.is_blocked (ap (λ x. x && not s.is_blocked) (sym own.0) ∙ l.0), own.1)
   where
-    by_test : (b : Bool)
-        → (if not b then Some (why.NotTracked d.epoch d.kept_back) else if not (slot.version == 0) then Some
-        (why.SlotOccupied slot.version) else if spent then Some why.VersionSpent else None) ≡ Some (why.NotTracked e o) → b ≡ false
-    by_test true k = by_slot (slot.version == 0) k
-      where
-        by_spent : (x : Bool) → (if x then Some why.VersionSpent else None) ≡ Some (why.NotTracked e o) → true ≡ false
-        by_spent true y = cc
-        by_spent false y = cc
+    by_spent : (x : Bool) → (if x then Some why.VersionSpent else None) ≡ Some (why.NotTracked e o) → ⊥
+    by_spent true y = cc
+    by_spent false y = cc
 
-        by_slot : (x : Bool)
-            → (if not x then Some (why.SlotOccupied slot.version) else if spent then Some why.VersionSpent else None) ≡ Some
-            (why.NotTracked e o) → true ≡ false
-        by_slot true y = by_spent spent y
-        by_slot false y = cc
-    by_test false k = refl
+    by_slot : (x : Bool)
+        → (if not x then Some (why.SlotOccupied slot.version) else if spent then Some why.VersionSpent else None) ≡ Some
+        (why.NotTracked e o) → ⊥
+    by_slot true y = by_spent spent y
+    by_slot false y = cc
 
-drained_row : (s : FrameSight) (slot : SlotSight) (d : DrainSight) (spent : Bool) → first_of_row (ewbstart_row s slot d spent) ≡ None
-    → d.is_drained ≡ true
-drained_row s slot d spent h =
+    by_test : (own b : Bool)
+        → (if own && not b then Some (why.NotTracked d.epoch d.kept_back) else if not (slot.version == 0) then Some
+        (why.SlotOccupied slot.version) else if spent then Some why.VersionSpent else None) ≡ Some (why.NotTracked e o)
+        → (own ≡ true) × (b ≡ false)
+    by_test true false k = (refl, refl)
+    by_test true true k = absurd (by_slot (slot.version == 0) k)
+    by_test false b k = absurd (by_slot (slot.version == 0) k)
+
+drained_row : (s : FrameSight) (uses : UseSight) (slot : SlotSight) (d : DrainSight) (spent : Bool)
+    → first_of_row (ewbstart_row s uses slot d spent) ≡ None → is_own s.content ≡ true → d.is_drained ≡ true
+drained_row s uses slot d spent h own =
     let a = skip (is_out_of_range s slot) why.BadRange _ None (λ x. cc) h in
-    let b = skip (is_busy s || slot.is_busy) why.Conflict _ None (λ x. cc) a.1 in
+    let b = skip (is_busy s || slot.is_busy || uses.is_in_use) why.Conflict _ None (λ x. cc) a.1 in
     let c = skip (is_free s.content) why.PgInvld _ None (λ x. cc) b.1 in
-    let k = skip (is_secs s.content || is_va s.content || not (is_va slot.frame.content)) why.BadKind _ None (λ x. cc) c.1 in
-    let l = skip (not s.is_blocked) why.PageNotBlocked _ None (λ x. cc) k.1 in
-    let m = skip (not d.is_drained) (why.NotTracked d.epoch d.kept_back) _ None (λ x. cc) l.1 in
-    not-false d.is_drained m.0
+    let k = skip (not (is_va slot.frame.content) || uses.is_its_own) why.BadKind _ None (λ x. cc) c.1 in
+    let i = skip (not (uses.children == 0)) (why.ChildPresent uses.children) _ None (λ x. cc) k.1 in
+    let l = skip (is_own s.content && not s.is_blocked) why.PageNotBlocked _ None (λ x. cc) i.1 in
+    let m = skip (is_own s.content && not d.is_drained) (why.NotTracked d.epoch d.kept_back) _ None (λ x. cc) l.1 in
+    not-false d.is_drained (ap (λ x. x && not d.is_drained) (sym own) ∙ m.0)
 
 -- a try tells what is so where it is answered by its row
 pub try_tells : (k : Making) (past : List Entry) (e : Entry) → RefusalRule k past e → TryTells past e.event
@@ -173,8 +178,9 @@ try_tells k past e h = by_event e.event h
   where
     by_event : (ev : Event) → RefusalRule k past (record { actor = e.actor; event = ev }) → TryTells past ev
     by_event (Did (EwbStart f slot) answer) m =
-        drained_row (sight_at k.frames past f.0) (slot_sight_at k.frames past slot) (drain_sight_at k.first_epoch past f.0) _ m.0
+        drained_row (sight_at k.frames past f.0) (use_sight_at k.frames past f.0 slot) (slot_sight_at k.frames past slot)
+        (drain_sight_at k.first_epoch past f.0) _ m.0
     by_event (Refused (EwbStart f slot) (why.NotTracked epoch older)) m =
-        not_drained_row (sight_at k.frames past f.0) (slot_sight_at k.frames past slot)
+        not_drained_row (sight_at k.frames past f.0) (use_sight_at k.frames past f.0 slot) (slot_sight_at k.frames past slot)
         (drain_sight_at k.first_epoch past f.0) _ epoch older m
     by_event _ m = tt

@@ -1,6 +1,6 @@
 -- In a history places, the list and the slots are sound throughout, and a pass keeps what it says of tracks.
-use Rattle.std.proofs.Common.{◌≡◌, ℕ, ◌+◌, ◌≤◌, ◌^◌, ◌==◌, not, Bool, true, false, if◌then◌else◌, zero, suc}
-use Rattle.std.proofs.Common.{refl, sym, ◌∙◌, ap, subst, List, [], ◌∷◌, Option, Some, None, is_some, arith}
+use Rattle.std.proofs.Common.{◌≡◌, ℕ, ◌+◌, ◌≤◌, ◌^◌, ◌==◌, ◌||◌, ◌&&◌, not, Bool, true, false, if◌then◌else◌, zero, suc}
+use Rattle.std.proofs.Common.{refl, sym, ◌∙◌, ap, subst, List, [], ◌∷◌, Option, Some, None, is_some, nat_lt, arith}
 use Rattle.std.proofs.lemmas.Bool.{eqb-true, eq-eqb, false≢true, not-false}
 use Rattle.page_history.proofs.CopyLaws.{out_is_gone}
 use Rattle.page_history.proofs.DrawnLaws.{drawn_once}
@@ -8,6 +8,8 @@ use Rattle.page_history.proofs.FlatLaws.{added_flat}
 use Rattle.sgx_rules.proofs.Rows.{NoneHolds, none_holds}
 use Rattle.sgx_types.proofs.Truths.{neither}
 use Rattle.page_history.proofs.StartLaws.{starts_apart}
+use Rattle.page_history.proofs.ThereLaws.{Makes as MakesPage, add_makes}
+use Rattle.std.proofs.lemmas.Option.{same_Some}
 use Rattle.sgx_rules.specs.Fresh.{Out, last_out}
 use Rattle.sgx_types.specs.Making.{Making}
 use Rattle.sgx_rules.specs.Ends.{EndsIn}
@@ -27,28 +29,32 @@ use Rattle.sgx_types.specs.declared.names.Page.{Page}
 use Rattle.sgx_types.specs.declared.names.Perm.{Perm}
 use Rattle.sgx_types.specs.declared.names.SlotAt.{SlotAt}
 use Rattle.sgx_rules.specs.Flat.{FlatPage, added_as, enclave_sight, flat}
-use Rattle.sgx_types.specs.Pages.{page_at}
-use Rattle.sgx_rules.specs.Frames.{Content, Free, Holds, content, free_from, is_free, is_page, least_free}
-use Rattle.sgx_rules.specs.Rules.{FitsRule, RefusalRule}
-use Rattle.sgx_rules.specs.Sights.{drain_sight_at, row_at, sight_at, slot_sight_at}
-use Rattle.sgx_rules.specs.Slots.{is_slot_busy, next_version, version_in}
-use Rattle.sgx_rules.specs.inner.Slots.{IsIdle}
+use Rattle.sgx_types.specs.declared.names.TheConstants.{SECS_NUMBER}
+use Rattle.sgx_types.specs.Pages.{is_own_page, page_at}
+use Rattle.sgx_rules.specs.Frames.{Content, Free, added, content, free_from, is_free, least_free, page_there, vas_made}
+use Rattle.sgx_rules.specs.inner.Enclaves.{created}
+use Rattle.sgx_rules.specs.Rules.{Along, FitsRule, RefusalRule}
+use Rattle.sgx_rules.specs.Sights.{drain_sight_at, load_sight_at, row_at, secs_sight_at, sight_at, slot_sight_at, use_sight_at}
+use Rattle.sgx_rules.specs.Slots.{is_busy_at, is_busy_of, next_version, version_at}
+use Rattle.driver_laws.specs.inner.ByFrame.{version_in}
+use Rattle.driver_laws.specs.inner.ByFrame.{IsIdle}
 use Rattle.sgx_rules.specs.Starts.{Start, is_load_of, open_start}
-use Rattle.sgx_rules.specs.Table.{EnclaveSight, FrameSight, add_row, ewbstart_row, first_of_row}
+use Rattle.sgx_rules.specs.Table.{EnclaveSight, FrameSight, SecsSight, add_row, eldstart_row, ewbstart_row, first_of_row, is_busy, is_va}
 use Rattle.job_grammar.specs.Jobs.{JobView}
 use Rattle.turn_rules.specs.Script.{frame_at}
 use Rattle.driver_rules.specs.Ages.{AgeRule, InPass, LookOf, PassOf}
 use Rattle.driver_laws.specs.inner.Driven.{IsDriven}
-use Rattle.driver_laws.specs.inner.Kinds.{CanMove}
+use Rattle.driver_laws.specs.inner.Kinds.{CanMove, IsFoundAt}
 use Rattle.driver_rules.specs.Passes.{Between, Blocking, Pass, Scan, Tries, pass}
 use Rattle.driver_rules.specs.Places.{Absent, Away, Here, Leaving, Loading, Place, place}
 use Rattle.driver_rules.specs.Scripts.{IsActors, ScriptRule}
 use Rattle.driver_laws.specs.inner.Stages.{KeepsPages}
 use Rattle.driver_laws.proofs.StageLaws.{first_pages, pages_kept}
-use Rattle.sgx_rules.specs.Slots.{slot_of as slot_of_start}
-use Rattle.sgx_rules.proofs.Busy.{idle_apart, not_busy_idle}
+use Rattle.driver_laws.specs.inner.ByFrame.{slot_of as slot_of_start}
+use Rattle.driver_laws.proofs.FrameLaws.{found_in, version_there}
+use Rattle.driver_laws.proofs.IdleLaws.{idle_apart, not_busy_idle}
 use Rattle.sgx_types.proofs.Pages.{same_page-refl}
-use Rattle.sgx_rules.proofs.Contents.{free_is}
+use Rattle.sgx_rules.proofs.Contents.{free_is, held_page}
 use Rattle.driver_laws.specs.inner.Sound.{IsSound, is_absent, load_slot, slot_at, slot_if, slot_loading, slot_of, stands_in}
 use Rattle.driver_laws.specs.inner.Sound.{version_out}
 use Rattle.driver_laws.specs.inner.Tracks.{KeepsTracks, is_reclaimers}
@@ -59,7 +65,6 @@ use Rattle.driver_rules.specs.Turns.{builder_due, cpu_due}
 use Rattle.driver_laws.proofs.EpochLaws.{try_tells}
 use Rattle.driver_laws.proofs.OwnLaws.{Plain, build_plain, due_plain, is_paging, script_own}
 use Rattle.driver_laws.proofs.PassLaws.{tracks_stay}
-use Rattle.driver_laws.proofs.PlaceLaws.{holds_one, of_same}
 use Rattle.driver_laws.proofs.SoundLaws.{stays_sound}
 
 -- ---- frames that are free
@@ -125,10 +130,33 @@ can_load j past actors.Reclaimer f page slot answer n = absurd (false≢true (sy
 
 -- ---- adds
 
-new_page : (number : ℕ) (kind : Kind) (perm : Perm) (init : PageInit) (o : Option EnclaveSight) (is_added : Bool) (s : FrameSight)
-    → NoneHolds (add_row number kind perm init o is_added s) → is_added ≡ false
-new_page number kind perm init None is_added s h = cc
-new_page number kind perm init (Some enclave) is_added s h = h.1.1.1.1.1.0
+new_page : (number : ℕ) (kind : Kind) (perm : Perm) (init : PageInit) (o : Option EnclaveSight) (secs : SecsSight) (is_added : Bool)
+    (s : FrameSight) → NoneHolds (add_row number kind perm init o secs is_added s) → is_added ≡ false
+new_page number kind perm init None secs is_added s h = cc
+new_page number kind perm init (Some enclave) secs is_added s h = h.1.1.1.1.1.1.1.0
+
+-- what is added is a TCS or REG page
+own_added : (k : Making) (past : List Entry) (a : Actor) (enclave number : ℕ) (f : Frame) (kind : Kind) (perm : Perm) (init : PageInit)
+    (answer : Answer) → Along (RefusalRule k) past → first_of_row (row_at k past a (actions.Add enclave number f kind perm init)) ≡ None
+    → is_own_page (page_at enclave number) ≡ true
+own_added k past a enclave number f kind perm init answer refusals h = by_name (enclave == 0) (number == SECS_NUMBER) new.fresh new.there
+  where
+    e : Entry
+    e = record { actor = a; event = Did (actions.Add enclave number f kind perm init) answer }
+
+    new : MakesPage past e (page_at enclave number)
+    new = add_makes k past a enclave number f kind perm init answer refusals
+        (none_holds (row_at k past a (actions.Add enclave number f kind perm init)) h)
+
+    by_name : (va secs : Bool)
+        → (if va then nat_lt number (vas_made past) else if not va && secs then is_some (created past enclave)
+        else is_some (added past (page_at enclave number))) ≡ false
+        → (if va then nat_lt number (vas_made past) else if not va && secs then is_some (created past enclave)
+        else is_some (added (e ∷ past) (page_at enclave number))) ≡ true
+        → (not va && not secs) ≡ true
+    by_name true secs fresh there = absurd (false≢true (sym fresh ∙ there))
+    by_name false true fresh there = absurd (false≢true (sym fresh ∙ there))
+    by_name false false fresh there = refl
 
 some_added : (o : Option FlatPage) → is_some (added_as o) ≡ is_some o
 some_added None = refl
@@ -157,13 +185,13 @@ loading_is (Away s) f slot h = cc
 ends_in : (past : List Entry) (f : ℕ) (page : Page) → IsSound past → EndsIn past f page
     → (slot : SlotAt) × (place past page ≡ Loading f slot)
 ends_in past f page s e = (
-  e.start.slot,
-  loading_is (place past page) f e.start.slot (sym (s.places.loads page f) ∙ ap (λ o. load_slot o page) e.opened
+  e.start.at,
+  loading_is (place past page) f e.start.at (sym (s.places.loads page f) ∙ ap (λ o. load_slot o page) e.opened
       ∙ found e.start.loads e.loads),
 )
   where
     found : (o : Option Page) → o ≡ Some page
-        → slot_if (is_load_of (Some (record e.start { loads = o })) page) e.start.slot ≡ Some e.start.slot
+        → slot_if (is_load_of (Some (record e.start { loads = o })) page) e.start.at ≡ Some e.start.at
     found None h = cc
     found (Some g) h = let same : g ≡ page = cc in rw (same, same_page-refl page) refl
 
@@ -188,7 +216,7 @@ used_slot k past slot positive s keeps empty g at = by_place (place past g) refl
     started : (n : ℕ) (o : Option Start) → open_start past n ≡ o → slot_of_start o ≡ Some slot → ⊥
     started n None is told = cc
     started n (Some x) is told =
-        let same : x.slot ≡ slot = cc in idle_apart past slot n x empty.1 is same
+        let same : x.at ≡ slot = cc in idle_apart past slot n x empty.1 is same
 
     by_place : (p : Place) → place past g ≡ p → slot_at (open_start past) p ≡ Some slot → ⊥
     by_place Absent here told = cc
@@ -228,26 +256,52 @@ end_frame j past f answer (Scan left taken) h = absurd h
 end_frame j past f answer (Blocking todo taken) h = absurd h
 
 -- the page that a frame holds is the one that leaves from it
-leaving_there : (past : List Entry) (f : ℕ) (g page : Page) (kind : Kind) (perm : Perm) → IsSound past → place past g ≡ Leaving f
-    → content past f ≡ Holds page kind perm → place past page ≡ Leaving f
-leaving_there past f g page kind perm s at held =
-    of_same (place past) (Leaving f) g page at (sym (holds_one (content past f) g page
-    (s.places.frames g f ∙ ap (λ p. stands_in p f) at ∙ eq-eqb f f refl)) ∙ ap (λ c. is_page c page) held ∙ same_page-refl page)
+leaving_there : (past : List Entry) (f : ℕ) (g page : Page) → IsSound past → place past g ≡ Leaving f
+    → page_there (content past f) ≡ Some page → place past page ≡ Leaving f
+leaving_there past f g page s at told =
+    let held = held_page (content past f) g (s.places.frames g f ∙ ap (λ p. stands_in p f) at ∙ eq-eqb f f refl) in
+    subst (λ x. place past x ≡ Leaving f) (same_Some g page (sym (ap page_there held.holds) ∙ told)) at
 
 -- ---- each entry can move its page
 
-empty_row : (k : Making) (past : List Entry) (f : Frame) (slot : SlotAt) (is_spent : Bool) → KeepsMoves k past
-    → NoneHolds (ewbstart_row (sight_at k.frames past f.0) (slot_sight_at k.frames past slot)
-    (drain_sight_at k.first_epoch past f.0) is_spent) → IsEmpty past slot
-empty_row k past f slot is_spent keeps none = (
-  eqb-true (version_in past slot) 0 (not-false (version_in past slot == 0) none.1.1.1.1.1.1.0),
-  not_busy_idle k.frames past slot (starts_apart k past keeps).below (neither _ (is_slot_busy k.frames past slot) none.1.0).1,
-)
+-- the slot of a write-out that its row does not refuse stands in a version array page, and is empty
+record IsEmptyAt (past : List Entry) (slot : SlotAt) : Type 0 where
+  pub there : IsFoundAt past slot
+  pub empty : IsEmpty past slot
 
-empty_slot : (k : Making) (past : List Entry) (a : Actor) (f : Frame) (slot : SlotAt) → KeepsMoves k past
-    → first_of_row (row_at k past a (actions.EwbStart f slot)) ≡ None → IsEmpty past slot
-empty_slot k past a f slot keeps h =
-    empty_row k past f slot (next_version k.first_version past == 2 ^ 64) keeps (none_holds (row_at k past a (actions.EwbStart f slot)) h)
+empty_row : (k : Making) (past : List Entry) (f : Frame) (slot : SlotAt) (is_spent : Bool) → IsSound past → KeepsMoves k past
+    → NoneHolds (ewbstart_row (sight_at k.frames past f.0) (use_sight_at k.frames past f.0 slot) (slot_sight_at k.frames past slot)
+    (drain_sight_at k.first_epoch past f.0) is_spent) → IsEmptyAt past slot
+empty_row k past f slot is_spent s keeps none = record {
+  there = there;
+  empty = (
+    version_there past slot s.slots
+        ∙ eqb-true (version_at past slot) 0 (not-false (version_at past slot == 0) none.1.1.1.1.1.1.1.0),
+    not_busy_idle k.frames past slot there.0 s.slots there.1 (starts_apart k past keeps).below
+        (sym (ap (is_busy_of k.frames past) there.1) ∙ idle),
+  );
+}
+  where
+    there : IsFoundAt past slot
+    there = found_in (content past) slot
+        (not-false (is_va (content past slot.frame.0)) (neither (not (is_va (content past slot.frame.0))) _ none.1.1.1.0).0)
+
+    idle : is_busy_at k.frames past slot ≡ false
+    idle =
+        (neither (is_busy (sight_at k.frames past f.0)) (is_busy_at k.frames past slot)
+        (neither (is_busy (sight_at k.frames past f.0) || is_busy_at k.frames past slot) _ none.1.0).0).1
+
+-- the slot of a load that its row does not refuse stands in a version array page
+load_there : (k : Making) (past : List Entry) (f : Frame) (page : Page) (slot : SlotAt)
+    → NoneHolds (eldstart_row (sight_at k.frames past f.0) (load_sight_at k.frames past page) (slot_sight_at k.frames past slot))
+    → IsFoundAt past slot
+load_there k past f page slot none =
+    found_in (content past) slot (not-false (is_va (content past slot.frame.0)) none.1.1.1.1.1.1.0)
+
+empty_slot : (k : Making) (past : List Entry) (a : Actor) (f : Frame) (slot : SlotAt) → IsSound past → KeepsMoves k past
+    → first_of_row (row_at k past a (actions.EwbStart f slot)) ≡ None → IsEmptyAt past slot
+empty_slot k past a f slot s keeps h =
+    empty_row k past f slot (next_version k.first_version past == 2 ^ 64) s keeps (none_holds (row_at k past a (actions.EwbStart f slot)) h)
 
 -- an entry that keeps the rules can move its page
 pub can_move : (k : Making) (j : JobView) (past : List Entry) (e : Entry) → 1 ≤ k.first_version → IsSound past → KeepsMoves k (e ∷ past)
@@ -262,13 +316,14 @@ can_move k j past e positive s keeps fits script age = by_event e.event keeps.re
         absent_is (place past g) (sym (s.added g) ∙ ap is_some (added_flat past before.flat g) ∙ some_added ((flat past).pages g) ∙ none)
 
     added_row : (n number : ℕ) (kind : Kind) (perm : Perm) (init : PageInit) (f : Frame)
-        → first_of_row (add_row number kind perm init (enclave_sight (flat past) n) (is_some ((flat past).pages (page_at n number)))
+        → first_of_row (add_row number kind perm init (enclave_sight (flat past) n) (secs_sight_at k.frames past n) (is_some ((flat past).pages (page_at n number)))
         (sight_at k.frames past f.0)) ≡ None → is_some ((flat past).pages (page_at n number)) ≡ false
     added_row n number kind perm init f h =
         let o = enclave_sight (flat past) n in
         let there = is_some ((flat past).pages (page_at n number)) in
-        new_page number kind perm init o there (sight_at k.frames past f.0)
-        (none_holds (add_row number kind perm init o there (sight_at k.frames past f.0)) h)
+        let secs = secs_sight_at k.frames past n in
+        new_page number kind perm init o secs there (sight_at k.frames past f.0)
+        (none_holds (add_row number kind perm init o secs there (sight_at k.frames past f.0)) h)
 
     same_told : (page other : Page) (v w : ℕ) (t u : List ℕ) → Moved page v t ≡ Moved other w u → page ≡ other
     same_told page other v w t u h = cc
@@ -279,22 +334,29 @@ can_move k j past e positive s keeps fits script age = by_event e.event keeps.re
         → CanMove past ev
     by_event (Did (actions.Epa f) answer) refusal fit sc ag = fit.1
     by_event (Did (actions.Create n f base size) answer) refusal fit sc ag = fit.1
-    by_event (Did (actions.Add n number f kind perm init) answer) refusal fit sc ag =
-        (fit.1, absent (page_at n number) (added_row n number kind perm init f refusal.0))
-    by_event (Age page look) refusal fit sc ag = (reclaimed j past e.actor (Age page look) sc ag refl).0.head
-    by_event (Did (actions.EwbStart f slot) answer) refusal fit sc ag = (
-      start_frame j past f slot answer (pass j past) (reclaimed j past e.actor (Did (actions.EwbStart f slot) answer) sc ag refl).1,
-      used_slot k past slot positive s before (empty_slot k past e.actor f slot before refusal.0),
+    by_event (Did (actions.Add n number f kind perm init) answer) refusal fit sc ag = (
+      fit.1,
+      absent (page_at n number) (added_row n number kind perm init f refusal.0),
+      own_added k past e.actor n number f kind perm init answer before.refusal refusal.0,
     )
+    by_event (Age page look) refusal fit sc ag = (reclaimed j past e.actor (Age page look) sc ag refl).0.head
+    by_event (Did (actions.EwbStart f slot) answer) refusal fit sc ag =
+        let its = empty_slot k past e.actor f slot s before refusal.0 in (
+          start_frame j past f slot answer (pass j past) (reclaimed j past e.actor (Did (actions.EwbStart f slot) answer) sc ag refl).1,
+          used_slot k past slot positive s before its.empty,
+          its.there,
+        )
     by_event (Did (actions.Ewb f) (Moved page version tag)) refusal fit sc ag =
         let out = refusal.1 in
         let at = end_frame j past f (Moved page version tag) (pass j past)
         (reclaimed j past e.actor (Did (actions.Ewb f) (Moved page version tag)) sc ag refl).1 in (
           subst (λ g. place past g ≡ Leaving f.0) (sym (same_told page out.page version out.version tag out.tag out.told))
-              (leaving_there past f.0 at.0 out.page out.kind out.perm s at.1 out.held),
+              (leaving_there past f.0 at.0 out.page s at.1 out.held),
           (out.start, out.opened),
         )
-    by_event (Did (actions.EldStart f page slot) answer) refusal fit sc ag = can_load j past e.actor f page slot answer sc.next
+    by_event (Did (actions.EldStart f page slot) answer) refusal fit sc ag =
+        let can = can_load j past e.actor f page slot answer sc.next in
+        (can.0, can.1, load_there k past f page slot (none_holds (row_at k past e.actor (actions.EldStart f page slot)) refusal.0))
     by_event (Did (actions.Eld f) (Moved page version tag)) refusal fit sc ag =
         let back = refusal.1 in
         let same = same_told page back.page version back.version tag back.tag back.told in
@@ -316,6 +378,16 @@ first_sound = record {
   apart = λ g h slot at_g at_h. cc;
   versions = λ g slot h. cc;
   added = λ g. refl;
+  own = λ g h. cc;
+  slots = record {
+    found = λ n x h. cc;
+    versions = λ at. refl;
+    made = λ n number h. cc;
+    unmade = λ s low. refl;
+    once = λ m n number h k. cc;
+  };
+  secs = λ e h. cc;
+  home = λ number. refl;
 }
 
 -- the entries without the last one

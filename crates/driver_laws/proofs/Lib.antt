@@ -1,5 +1,8 @@
 pub mod PlaceLaws
 pub mod ListLaws
+pub mod FrameLaws
+pub mod SecsLaws
+pub mod IdleLaws
 pub mod SlotLaws
 pub mod SoundLaws
 pub mod MoveLaws

@@ -18,7 +18,7 @@ use Rattle.sgx_types.specs.declared.names.SlotAt.{SlotAt}
 use Rattle.sgx_rules.specs.declared.refusals.Refusal.{Refusal}
 use Rattle.sgx_rules.specs.Frames.{content, is_page}
 use Rattle.sgx_types.specs.Making.{Making}
-use Rattle.sgx_rules.specs.Starts.{Start, open_start, opened_by, version_told}
+use Rattle.sgx_rules.specs.Starts.{Start, open_start, opened_by, slot_found, started}
 use Rattle.sgx_types.proofs.Pages.{same_page-refl}
 use Rattle.sgx_rules.proofs.Contents.{page_is_no_other}
 use Rattle.driver_rules.specs.Places.{Leaving, Loading, place}
@@ -154,13 +154,13 @@ pub loading_place : (past : List Entry) (n : ℕ) (g : Page) → IsSound past �
     → (slot : SlotAt) × (place past g ≡ Loading n slot)
 loading_place past n g s h = by_start (open_start past n) refl h
   where
-    found : (x : Start) → x.loads ≡ Some g → load_slot (Some x) g ≡ Some x.slot
+    found : (x : Start) → x.loads ≡ Some g → load_slot (Some x) g ≡ Some x.at
     found x is = rw (is, same_page-refl g) refl
 
     by_start : (o : Option Start) → open_start past n ≡ o → load_of o ≡ Some g → (slot : SlotAt) × (place past g ≡ Loading n slot)
     by_start None is k = absurd (none-some g k)
     by_start (Some x) is k =
-        (x.slot, loading_is (place past g) n x.slot (sym (s.places.loads g n) ∙ ap (λ o. load_slot o g) is ∙ found x k))
+        (x.at, loading_is (place past g) n x.at (sym (s.places.loads g n) ∙ ap (λ o. load_slot o g) is ∙ found x k))
 
 -- a page's frame loads nothing
 standing_none : (past : List Entry) (n : ℕ) (g : Page) → IsSound past → place past g ≡ Leaving n → load_of (open_start past n) ≡ None
@@ -192,11 +192,11 @@ loads_kept past e s can no_start no_end n = by_event e.event can no_start no_end
     by_frame f false x g is none at = refl
 
     by_event : (ev : Event) → CanMove past ev → begins ev ≡ false → load_ended ev ≡ None
-        → load_of (opened_by e.actor (length past) ev n (open_start past n)) ≡ load_of (open_start past n)
+        → load_of (opened_by e.actor (length past) (content past) ev n (open_start past n)) ≡ load_of (open_start past n)
     by_event (Did (actions.EwbStart f slot) answer) c h k =
         by_frame f.0 (f.0 == n)
-        (Some (record { slot = slot; version = version_told answer; loads = None; place = length past; actor = e.actor })) c.0.0 refl refl
-        c.0.1
+        (started e.actor (length past) slot answer None (slot_found (content past) slot)) c.0.0 refl
+        (ap (λ o. load_of (started e.actor (length past) slot answer None o)) c.2.1) c.0.1
     by_event (Did (actions.Ewb f) (Moved page version tag)) c h k = by_frame f.0 (f.0 == n) None page refl refl c.0
     by_event (Did (actions.Ewb f) answer) c h k = absurd c
     by_event (Did (actions.EldStart f page slot) answer) c h k = absurd (false≢true (sym h))
@@ -265,11 +265,11 @@ by_free past c ev s can none no_end h = by_begin (begins ev) refl
   where
     starts : (x : Event) → CanMove past x → begins x ≡ true → LoadsAreTheirs (entry_of (actors.Cpu c) x ∷ past)
     starts (Did (actions.EldStart f page slot) answer) k b =
-        let new : Start =
-        record { slot = slot; version = version_told answer; loads = Some page; place = length past; actor = actors.Cpu c } in
-        loads_same (λ m. load_of (if f.0 == m then Some new else open_start past m))
+        let new : Option Start = started (actors.Cpu c) (length past) slot answer (Some page) (slot_found (content past) slot) in
+        let its : load_of new ≡ Some page = ap (λ o. load_of (started (actors.Cpu c) (length past) slot answer (Some page) o)) k.2.1 in
+        loads_same (λ m. load_of (if f.0 == m then new else open_start past m))
         (λ m. if f.0 == m then Some page else load_of (open_start past m)) (λ p. if c.0 == p then Loads f.0 page else last_of past p)
-        (λ m. opens_load (open_start past) f.0 m (Some new) (f.0 == m) refl)
+        (λ m. opens_load (open_start past) f.0 m new (f.0 == m) refl ∙ ap (λ l. if f.0 == m then l else load_of (open_start past m)) its)
         (loads_begin (λ m. load_of (open_start past m)) (last_of past) f.0 c.0 page (ap load_of (free_none past f.0 s k.0)) none h)
     starts _ k b = absurd (false≢true b)
 

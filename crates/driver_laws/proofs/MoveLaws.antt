@@ -68,7 +68,7 @@ place-noroom past a page g = either (same_page page g) (place past g)
 
 -- a page that went out is away in the slot of the start that ended
 pub place-ewb : (past : List Entry) (a : Actor) (f : Frame) (g : Page) (version : ℕ) (tag : List ℕ) (x : Start)
-    → open_start past f.0 ≡ Some x → place (entry_of a (Did (Ewb f) (Moved g version tag)) ∷ past) g ≡ Away x.slot
+    → open_start past f.0 ≡ Some x → place (entry_of a (Did (Ewb f) (Moved g version tag)) ∷ past) g ≡ Away x.at
 place-ewb past a f g version tag x now = rw (same_page-refl g, now) refl
 
 pub place-ewb-other : (past : List Entry) (a : Actor) (f : Frame) (page g : Page) (version : ℕ) (tag : List ℕ) → same_page page g ≡ false

@@ -14,7 +14,9 @@ use Rattle.sgx_types.specs.declared.names.Page.{Page}
 use Rattle.sgx_rules.specs.declared.refusals.Refusal.TheVariants as why
 use Rattle.sgx_rules.specs.Epochs.{is_track}
 use Rattle.sgx_rules.specs.Eviction.{block_place, is_drained}
-use Rattle.sgx_rules.specs.Frames.{is_blocked}
+use Rattle.sgx_rules.specs.Frames.{content, is_blocked}
+use Rattle.sgx_rules.specs.Table.{is_own}
+use Rattle.sgx_rules.proofs.Contents.{held_page}
 use Rattle.job_grammar.specs.Jobs.{JobView}
 use Rattle.driver_rules.specs.Ages.{AgeRule, FormOf, InPass, IsFrame, KickRule, PassOf}
 use Rattle.driver_rules.specs.Ages as ages
@@ -25,7 +27,7 @@ use Rattle.driver_rules.specs.Passes.{block_on, decided, free_count, keepers, ki
 use Rattle.driver_rules.specs.Passes.{scan_on}
 use Rattle.driver_rules.specs.Passes.{scanned, taken_by}
 use Rattle.driver_rules.specs.Places.{Leaving, active, place}
-use Rattle.driver_laws.specs.inner.Sound.{IsSound}
+use Rattle.driver_laws.specs.inner.Sound.{IsSound, stands_in}
 use Rattle.driver_laws.specs.inner.Tracks.{AllCalm, InForm, IsCalm, IsTracked, IsUntracked, KeepsTracks, OwnRule, TryTells}
 use Rattle.driver_laws.specs.inner.Tracks.{is_reclaimers}
 use Rattle.driver_laws.specs.inner.Tracks.{moves_out}
@@ -174,9 +176,11 @@ abbrev by_reclaimer : List Entry → Event → List Entry
 by_reclaimer past ev = entry_of actors.Reclaimer ev ∷ past
 
 -- a start ends the tries: all is calm where the page is drained
-sealing : (past : List Entry) (ev : Event) (g : Page) (f : ℕ) → NoTrack ev → IsSound past → IsFrame past g f → is_drained past f ≡ true
-    → IsTracked past g → AllCalm (by_reclaimer past ev)
-sealing past ev g f none s at drained t = calm_all past (entry_of actors.Reclaimer ev) none (all_calm past g f s at drained t)
+sealing : (past : List Entry) (ev : Event) (g : Page) (f : ℕ) → NoTrack ev → IsSound past → IsFrame past g f
+    → (is_own (content past f) ≡ true → is_drained past f ≡ true) → IsTracked past g → AllCalm (by_reclaimer past ev)
+sealing past ev g f none s at drained t =
+    let held = held_page (content past f) g (s.places.frames g f ∙ ap (λ p. stands_in p f) at ∙ eq-eqb f f refl) in
+    calm_all past (entry_of actors.Reclaimer ev) none (all_calm past g f s at (drained (ap is_own held.holds)) t)
 
 -- behind the second refusal: the first kick, or the last try where nobody keeps the page back
 to_kick : (j : JobView) (past : List Entry) (g : Page) (rest : List Page) (all : List ℕ) (ev : Event) → IsSound past → CanMove past ev

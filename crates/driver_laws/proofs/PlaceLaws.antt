@@ -7,9 +7,11 @@ use Rattle.sgx_types.specs.declared.names.Kind.{Kind}
 use Rattle.sgx_types.specs.declared.names.Page.{Page}
 use Rattle.sgx_types.specs.declared.names.Perm.{Perm}
 use Rattle.sgx_types.specs.declared.names.SlotAt.{SlotAt}
+use Rattle.sgx_types.specs.declared.names.VaSlot.{VaSlot}
 use Rattle.sgx_types.specs.Pages.{same_page}
 use Rattle.sgx_rules.specs.Frames.{Content, Free, Holds, IsLoading, is_page}
-use Rattle.sgx_rules.specs.Starts.{Start, is_load_of, loads_page}
+use Rattle.sgx_rules.specs.Starts.{Start, is_load_of}
+use Rattle.sgx_rules.specs.Frames.{is_this}
 use Rattle.driver_rules.specs.Places.{Absent, Away, Here, Leaving, Loading, Place, after_look, back_to, frame_here, gone_to}
 use Rattle.driver_rules.specs.Places.{leaves}
 use Rattle.driver_laws.specs.inner.Sound.{PlacesAreFrames, is_absent, is_load_start, is_write_start, load_slot, slot_if}
@@ -47,7 +49,7 @@ pub no_load_slot : (o : Option Start) (g : Page) → is_load_start o ≡ false �
 no_load_slot None g h = refl
 no_load_slot (Some start) g h = by_loads start.loads h
   where
-    by_loads : (o : Option Page) → is_some o ≡ false → slot_if (loads_page o g) start.slot ≡ None
+    by_loads : (o : Option Page) → is_some o ≡ false → slot_if (is_this o g) start.at ≡ None
     by_loads None k = refl
     by_loads (Some page) k = cc
 
@@ -56,7 +58,7 @@ pub load_slot_is : (o : Option Start) (g : Page) (slot : SlotAt) → load_slot o
 load_slot_is None g slot h = cc
 load_slot_is (Some start) g slot h = by_loads start.loads h
   where
-    by_loads : (o : Option Page) → slot_if (loads_page o g) start.slot ≡ Some slot → is_some o ≡ true
+    by_loads : (o : Option Page) → slot_if (is_this o g) start.at ≡ Some slot → is_some o ≡ true
     by_loads None k = cc
     by_loads (Some page) k = refl
 
@@ -65,11 +67,11 @@ pub loads_one : (o : Option Start) (a g : Page) (slot : SlotAt) → load_slot o 
 loads_one None a g slot h = cc
 loads_one (Some start) a g slot h = by_loads start.loads h
   where
-    by_page : (page : Page) (b : Bool) → same_page page a ≡ b → slot_if b start.slot ≡ Some slot → same_page page g ≡ same_page a g
+    by_page : (page : Page) (b : Bool) → same_page page a ≡ b → slot_if b start.at ≡ Some slot → same_page page g ≡ same_page a g
     by_page page true is k = ap (λ x. same_page x g) (same_pages page a is)
     by_page page false is k = cc
 
-    by_loads : (o : Option Page) → slot_if (loads_page o a) start.slot ≡ Some slot → loads_page o g ≡ same_page a g
+    by_loads : (o : Option Page) → slot_if (is_this o a) start.at ≡ Some slot → is_this o g ≡ same_page a g
     by_loads None k = cc
     by_loads (Some page) k = by_page page (same_page page a) refl k
 
@@ -152,11 +154,11 @@ put_looked at held opened a look s = record {
 
 -- the write-out of a page starts
 pub put_starting : (at : Page → Place) (held : ℕ → Content) (opened : ℕ → Option Start) (f : ℕ) (a : Page) (slot : SlotAt)
-    (v q : ℕ) (who : Actor)
+    (named : VaSlot) (v q : ℕ) (who : Actor)
     → PlacesAreFrames at held opened → at a ≡ Leaving f
     → PlacesAreFrames at held
-    (λ n. if f == n then Some (record { slot = slot; version = v; loads = None; place = q; actor = who }) else opened n)
-put_starting at held opened f a slot v q who s leaving = record {
+    (λ n. if f == n then Some (record { at = slot; slot = named; version = v; loads = None; place = q; actor = who }) else opened n)
+put_starting at held opened f a slot named v q who s leaving = record {
   frames = s.frames;
   loads = λ g n. grind (arith, s.loads, no_loads);
   loading = λ n. grind (arith, s.loading, no_load);
@@ -173,7 +175,7 @@ put_starting at held opened f a slot v q who s leaving = record {
     no_loads g = sym (s.loads g f) ∙ no_load_slot (opened f) g (s.loading f ∙ no_load)
 
     by_write : (n : ℕ) (b : Bool) → (f == n) ≡ b
-        → is_write_start (if b then Some (record { slot = slot; version = v; loads = None; place = q; actor = who }) else opened n) ≡ true
+        → is_write_start (if b then Some (record { at = slot; slot = named; version = v; loads = None; place = q; actor = who }) else opened n) ≡ true
         → (g : Page) × (at g ≡ Leaving n)
     by_write n true is h = (a, leaving ∙ ap Leaving (eqb-true f n is))
     by_write n false is h = s.writes n h
@@ -227,11 +229,11 @@ put_out at held opened f a x s leaving open_now = record {
 
 -- a load starts
 pub put_loading : (at : Page → Place) (held : ℕ → Content) (opened : ℕ → Option Start) (f : ℕ) (a : Page) (before slot : SlotAt)
-    (v q : ℕ) (who : Actor)
+    (named : VaSlot) (v q : ℕ) (who : Actor)
     → PlacesAreFrames at held opened → held f ≡ Free → at a ≡ Away before
     → PlacesAreFrames (λ g. if same_page a g then Loading f slot else at g) (λ n. if f == n then IsLoading a else held n)
-    (λ n. if f == n then Some (record { slot = slot; version = v; loads = Some a; place = q; actor = who }) else opened n)
-put_loading at held opened f a before slot v q who s free away = record {
+    (λ n. if f == n then Some (record { at = slot; slot = named; version = v; loads = Some a; place = q; actor = who }) else opened n)
+put_loading at held opened f a before slot named v q who s free away = record {
   frames = λ g n. grind (arith, s.frames, same_pages);
   loads = λ g n. grind (arith, s.loads, no_loads, same_pages);
   loading = λ n. grind (arith, s.loading);
@@ -242,7 +244,7 @@ put_loading at held opened f a before slot v q who s free away = record {
     no_loads g = sym (s.loads g f) ∙ no_load_slot (opened f) g (s.loading f ∙ ap is_loading free)
 
     by_write : (n : ℕ) (b : Bool) → (f == n) ≡ b
-        → is_write_start (if b then Some (record { slot = slot; version = v; loads = Some a; place = q; actor = who }) else opened n) ≡ true
+        → is_write_start (if b then Some (record { at = slot; slot = named; version = v; loads = Some a; place = q; actor = who }) else opened n) ≡ true
         → (g : Page) × ((if same_page a g then Loading f slot else at g) ≡ Leaving n)
     by_write n true is h = cc
     by_write n false is h = let w = s.writes n h in (w.0, grind (arith, same_pages))

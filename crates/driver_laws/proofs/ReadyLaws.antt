@@ -1,5 +1,5 @@
 -- What the rules say of a write-out; the slot of a page that is away is not busy; slots are used in a history.
-use Rattle.std.proofs.Common.{◌≡◌, ℕ, ◌+◌, ◌<◌, ◌≤◌, not, Bool, true, false, if◌then◌else◌, refl, sym}
+use Rattle.std.proofs.Common.{◌≡◌, ℕ, ◌+◌, ◌<◌, ◌≤◌, ◌||◌, not, Bool, true, false, if◌then◌else◌, refl, sym}
 use Rattle.std.proofs.Common.{◌∙◌, ap, subst, List, [], ◌∷◌, Option, Some, None, is_some, arith}
 use Rattle.sgx_rules.proofs.Rows.{none_holds}
 use Rattle.sgx_types.proofs.Truths.{neither}
@@ -16,10 +16,11 @@ use Rattle.sgx_types.specs.Making.{Making}
 use Rattle.sgx_rules.specs.Rules.{EvictRule, RefusalRule, RisingRule}
 use Rattle.sgx_rules.specs.Table.{is_busy, is_loading}
 use Rattle.sgx_rules.specs.Sights.{row_at, sight_at}
-use Rattle.sgx_rules.specs.Slots.{is_draw, is_slot_busy, next_version}
-use Rattle.sgx_rules.specs.inner.Slots.{IsIdle}
+use Rattle.sgx_rules.specs.Slots.{is_busy_at, is_draw, next_version}
+use Rattle.driver_laws.specs.inner.ByFrame.{IsIdle}
 use Rattle.sgx_rules.specs.Starts.{Start, open_start, version_told}
-use Rattle.sgx_rules.proofs.Busy.{idle_by}
+use Rattle.driver_laws.proofs.FrameLaws.{version_there}
+use Rattle.driver_laws.proofs.IdleLaws.{idle_by}
 use Rattle.job_grammar.specs.Jobs.{JobView}
 use Rattle.driver_rules.specs.Places.{Away, place}
 use Rattle.driver_laws.specs.inner.Driven.{IsDriven}
@@ -64,7 +65,8 @@ start_tells k past e positive s sealing = by_event e.event
         → RisingRule k.first_version past (entry_of e.actor ev) → StartTells past ev
     by_event (Did (EwbStart f slot) answer) refusal evict rising =
         let row = none_holds (row_at k past e.actor (EwbStart f slot)) refusal.0 in
-        let idle = neither (is_busy (sight_at k.frames past f.0)) (is_slot_busy k.frames past slot) row.1.0 in
+        let both = neither (is_busy (sight_at k.frames past f.0) || is_busy_at k.frames past slot) _ row.1.0 in
+        let idle = neither (is_busy (sight_at k.frames past f.0)) (is_busy_at k.frames past slot) both.0 in
         let two = neither (is_sealing past f.0) (is_loading (content past f.0)) idle.0 in
         let low = first_below k.first_version past in (
           idle_none past f.0 s sealing two.0 two.1,
@@ -72,7 +74,7 @@ start_tells k past e positive s sealing = by_event e.event
         )
     by_event (Did (Ewb f) (Moved page version tag)) refusal evict rising =
         (evict.start, evict.opened, evict.writes, sym evict.told)
-    by_event (Did (EldStart f page slot) answer) refusal evict rising = ap version_told refusal.1
+    by_event (Did (EldStart f page slot) answer) refusal evict rising = ap version_told refusal.1 ∙ sym (version_there past slot s.slots)
     by_event _ refusal evict rising = tt
 
 -- ---- what it is for

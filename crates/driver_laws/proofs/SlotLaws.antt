@@ -3,17 +3,18 @@ use Rattle.std.proofs.Common.{◌≡◌, ℕ, ◌==◌, ◌⊎◌, inl, inr, not
 use Rattle.std.proofs.Common.{◌∙◌, ap, subst, List, Option, Some, None, is_some}
 use Rattle.std.proofs.lemmas.Bool.{eqb-true, eq-eqb, false≢true}
 use Rattle.std.proofs.lemmas.Option.{none-some}
-use Rattle.sgx_types.proofs.Pages.{same_page-refl, same_slots}
+use Rattle.sgx_types.proofs.Pages.{same_page-refl, same_places}
 use Rattle.sgx_rules.specs.Fresh.{Out}
 use Rattle.sgx_types.specs.declared.names.Page.{Page}
 use Rattle.sgx_types.specs.declared.names.SlotAt.{SlotAt}
+use Rattle.sgx_types.specs.declared.names.VaSlot.{VaSlot}
 use Rattle.sgx_types.specs.Pages.{same_page}
 use Rattle.sgx_rules.specs.Frames.{Content, Free, is_page}
-use Rattle.sgx_types.specs.Pages.{same_slot}
-use Rattle.sgx_rules.specs.Slots.{names_slot}
+use Rattle.sgx_types.specs.Pages.{same_place}
+use Rattle.driver_laws.specs.inner.ByFrame.{names_slot}
 use Rattle.sgx_rules.specs.Starts.{Start, is_load_of}
 use Rattle.driver_rules.specs.Places.{Absent, Away, Here, Leaving, Loading, Place, back_to, gone_to, leaves}
-use Rattle.sgx_rules.specs.Slots.{slot_of as slot_of_start}
+use Rattle.driver_laws.specs.inner.ByFrame.{slot_of as slot_of_start}
 use Rattle.sgx_types.specs.declared.names.Actor.{Actor}
 use Rattle.sgx_rules.proofs.Contents.{one_page, page_is_no_other}
 use Rattle.driver_laws.specs.inner.Sound.{PlacesAreFrames, SlotsAreApart, SlotsHaveVersions, is_load_start, is_write_start}
@@ -106,21 +107,21 @@ apart_taken at opened a f h here none =
 
 -- the write-out of a page starts, by a slot that is no other page's
 pub apart_starting : (at : Page → Place) (held : ℕ → Content) (opened : ℕ → Option Start) (f : ℕ) (a : Page) (slot : SlotAt)
-    (v q : ℕ) (who : Actor)
+    (named : VaSlot) (v q : ℕ) (who : Actor)
     → PlacesAreFrames at held opened → at a ≡ Leaving f
     → ((g : Page) → slot_at opened (at g) ≡ Some slot → ⊥) → SlotsAreApart at opened
-    → SlotsAreApart at (λ n. if f == n then Some (record { slot = slot; version = v; loads = None; place = q; actor = who }) else opened n)
-apart_starting at held opened f a slot v q who s leaving fresh h =
+    → SlotsAreApart at (λ n. if f == n then Some (record { at = slot; slot = named; version = v; loads = None; place = q; actor = who }) else opened n)
+apart_starting at held opened f a slot named v q who s leaving fresh h =
     more (λ g. slot_at opened (at g)) (λ g. slot_at now (at g)) a slot (λ g t. by_place g t (at g) refl) fresh h
   where
     now : ℕ → Option Start
-    now n = if f == n then Some (record { slot = slot; version = v; loads = None; place = q; actor = who }) else opened n
+    now n = if f == n then Some (record { at = slot; slot = named; version = v; loads = None; place = q; actor = who }) else opened n
 
     here : is_page (held f) a ≡ true
     here = s.frames a f ∙ ap (λ y. stands_in y f) leaving ∙ eq-eqb f f refl
 
     by_frame : (g : Page) (t : SlotAt) (n : ℕ) (b : Bool) → (f == n) ≡ b → at g ≡ Leaving n
-        → slot_of_start (if b then Some (record { slot = slot; version = v; loads = None; place = q; actor = who }) else opened n) ≡ Some t
+        → slot_of_start (if b then Some (record { at = slot; slot = named; version = v; loads = None; place = q; actor = who }) else opened n) ≡ Some t
         → (slot_at opened (at g) ≡ Some t) ⊎ ((a ≡ g) × (slot ≡ t))
     by_frame g t n true is it k =
         let other : is_page (held f) g ≡ true = s.frames g f ∙ ap (λ y. stands_in y f) it ∙ rw (eqb-true f n is) (eq-eqb n n refl) in
@@ -168,19 +169,19 @@ apart_out at opened f a x leaving now h =
 
 -- a load starts
 pub apart_loading : (at : Page → Place) (held : ℕ → Content) (opened : ℕ → Option Start) (f : ℕ) (a : Page) (slot : SlotAt)
-    (v q : ℕ) (who : Actor)
+    (named : VaSlot) (v q : ℕ) (who : Actor)
     → PlacesAreFrames at held opened → held f ≡ Free → at a ≡ Away slot → SlotsAreApart at opened
     → SlotsAreApart (λ g. if same_page a g then Loading f slot else at g)
-    (λ n. if f == n then Some (record { slot = slot; version = v; loads = Some a; place = q; actor = who }) else opened n)
-apart_loading at held opened f a slot v q who s free away h =
+    (λ n. if f == n then Some (record { at = slot; slot = named; version = v; loads = Some a; place = q; actor = who }) else opened n)
+apart_loading at held opened f a slot named v q who s free away h =
     less (λ g. slot_at opened (at g)) (λ g. slot_at now (if same_page a g then Loading f slot else at g))
     (λ g t. by_page g t (same_page a g) refl) h
   where
     now : ℕ → Option Start
-    now n = if f == n then Some (record { slot = slot; version = v; loads = Some a; place = q; actor = who }) else opened n
+    now n = if f == n then Some (record { at = slot; slot = named; version = v; loads = Some a; place = q; actor = who }) else opened n
 
     by_frame : (g : Page) (t : SlotAt) (n : ℕ) (b : Bool) → (f == n) ≡ b → at g ≡ Leaving n
-        → slot_of_start (if b then Some (record { slot = slot; version = v; loads = Some a; place = q; actor = who }) else opened n)
+        → slot_of_start (if b then Some (record { at = slot; slot = named; version = v; loads = Some a; place = q; actor = who }) else opened n)
         ≡ Some t
         → slot_of_start (opened n) ≡ Some t
     by_frame g t n true is it k =
@@ -290,40 +291,40 @@ outside_refused at opened f g slot = by_load (is_load_of (opened f) g)
 -- the slot of another page that is outside is another slot
 pub other_slot : (at : Page → Place) (opened : ℕ → Option Start) (a g : Page) (mine slot : SlotAt) → SlotsAreApart at opened
     → slot_at opened (at a) ≡ Some mine → same_page a g ≡ false → slot_outside (at g) ≡ Some slot
-    → same_slot mine slot ≡ false
-other_slot at opened a g mine slot h at_a other k = by_slot (same_slot mine slot) refl
+    → same_place mine slot ≡ false
+other_slot at opened a g mine slot h at_a other k = by_slot (same_place mine slot) refl
   where
-    by_slot : (b : Bool) → same_slot mine slot ≡ b → same_slot mine slot ≡ false
+    by_slot : (b : Bool) → same_place mine slot ≡ b → same_place mine slot ≡ false
     by_slot true is =
-        let same : a ≡ g = h a g mine at_a (outside_slot opened (at g) slot k ∙ ap Some (sym (same_slots mine slot is))) in
+        let same : a ≡ g = h a g mine at_a (outside_slot opened (at g) slot k ∙ ap Some (sym (same_places mine slot is))) in
         absurd (false≢true (sym other ∙ subst (λ y. same_page a y ≡ true) same (same_page-refl a)))
     by_slot false is = is
 
-pub same_slot-refl : (slot : SlotAt) → same_slot slot slot ≡ true
-same_slot-refl slot = rw (eq-eqb slot.frame.0 slot.frame.0 refl, eq-eqb slot.index slot.index refl) refl
+pub same_place-refl : (slot : SlotAt) → same_place slot slot ≡ true
+same_place-refl slot = rw (eq-eqb slot.frame.0 slot.frame.0 refl, eq-eqb slot.index slot.index refl) refl
 
 -- a page went out under a version
 pub versions_out : (at : Page → Place) (opened : ℕ → Option Start) (out : Page
     → Option Out) (version : Versions) (f : ℕ) (a : Page) (x : Start) (named : Option SlotAt) (v : ℕ) (tag : List ℕ)
-    → at a ≡ Leaving f → opened f ≡ Some x → named ≡ Some x.slot → SlotsAreApart at opened → SlotsHaveVersions at out version
+    → at a ≡ Leaving f → opened f ≡ Some x → named ≡ Some x.at → SlotsAreApart at opened → SlotsHaveVersions at out version
     → SlotsHaveVersions (λ g. if same_page a g then gone_to (opened f) (at g) else at g)
     (λ g. if same_page a g then Some (record { version = v; tag = tag }) else out g) (λ s. if names_slot named s then v else version s)
 versions_out at opened out version f a x named v tag leaving now names apart h g slot = by_page (same_page a g) refl
   where
-    at_a : slot_at opened (at a) ≡ Some x.slot
+    at_a : slot_at opened (at a) ≡ Some x.at
     at_a = ap (slot_at opened) leaving ∙ ap slot_of_start now
 
-    its_own : slot_outside (gone_to (opened f) (at g)) ≡ Some slot → x.slot ≡ slot
+    its_own : slot_outside (gone_to (opened f) (at g)) ≡ Some slot → x.at ≡ slot
     its_own k = told (sym (ap (λ y. slot_outside (gone_to y (at g))) now) ∙ k)
       where
-        told : Some x.slot ≡ Some slot → x.slot ≡ slot
+        told : Some x.at ≡ Some slot → x.at ≡ slot
         told e = cc
 
     by_page : (b : Bool) → same_page a g ≡ b → slot_outside (if b then gone_to (opened f) (at g) else at g) ≡ Some slot
         → version_out (if b then Some (record { version = v; tag = tag }) else out g) ≡ Some
         (if names_slot named slot then v else version slot)
-    by_page true is k = rw (names, its_own k, same_slot-refl slot) refl
-    by_page false is k = rw (names, other_slot at opened a g x.slot slot apart at_a is k) (h g slot k)
+    by_page true is k = rw (names, its_own k, same_place-refl slot) refl
+    by_page false is k = rw (names, other_slot at opened a g x.at slot apart at_a is k) (h g slot k)
 
 -- a page came back from its slot
 pub versions_back : (at : Page → Place) (opened : ℕ → Option Start) (out : Page

@@ -1,6 +1,6 @@
 -- Which slot each page has behind each kind of entry.
 use Rattle.std.proofs.Common.{◌≡◌, ℕ, ◌==◌, Bool, true, false, if◌then◌else◌, refl, sym, ◌∙◌, ap, List, ◌∷◌}
-use Rattle.std.proofs.Common.{Option, Some, None, length}
+use Rattle.std.proofs.Common.{Option, Some, None}
 use Rattle.std.proofs.lemmas.Bool.{eqb-true, eq-eqb, false≢true}
 use Rattle.sgx_types.proofs.Pages.{same_page-refl, same_pages}
 use Rattle.sgx_rules.specs.declared.entries.Action.TheVariants.{Add, EwbStart, Ewb, EldStart, Eld}
@@ -20,10 +20,10 @@ use Rattle.sgx_types.specs.declared.names.SlotAt.{SlotAt}
 use Rattle.sgx_rules.specs.declared.refusals.Refusal.{Refusal}
 use Rattle.sgx_types.specs.Pages.{page_at, same_page}
 use Rattle.sgx_rules.specs.Frames.{content, is_page}
-use Rattle.sgx_rules.specs.Starts.{Start, is_load_of, open_start, version_told}
-use Rattle.driver_laws.specs.inner.Kinds.{CanMove}
+use Rattle.sgx_rules.specs.Starts.{Start, is_load_of, open_start}
+use Rattle.driver_laws.specs.inner.Kinds.{CanMove, IsFoundAt}
 use Rattle.driver_rules.specs.Places.{Absent, Away, Here, Leaving, Loading, Place, after_look, back_to, gone_to, place}
-use Rattle.sgx_rules.specs.Slots.{slot_of as starts_slot}
+use Rattle.driver_laws.specs.inner.ByFrame.{slot_of as starts_slot}
 use Rattle.sgx_rules.proofs.Contents.{load_no_page}
 use Rattle.driver_laws.specs.inner.Sound.{IsSound, slot_at, slot_of, stands_in}
 use Rattle.driver_laws.proofs.PlaceLaws.{holds_one}
@@ -119,7 +119,7 @@ same_ewb past a f page version tag can sound g = by_test (same_page page g) refl
     now : ℕ → Option Start
     now n = if f.0 == n then None else open_start past n
 
-    before : slot_of past page ≡ Some can.1.0.slot
+    before : slot_of past page ≡ Some can.1.0.at
     before = ap (slot_at (open_start past)) can.0 ∙ ap starts_slot can.1.1
 
     by_test : (b : Bool) → same_page page g ≡ b
@@ -135,10 +135,7 @@ same_eldstart past a f page slot answer can sound g =
     (λ h other. frame_apart past now f.0 h (λ n k. rw k refl) (apart h))
   where
     now : ℕ → Option Start
-    now n =
-        if f.0 == n
-        then Some (record { slot = slot; version = version_told answer; loads = Some page; place = length past; actor = a })
-        else open_start past n
+    now = open_start (entry_of a (Did (EldStart f page slot) answer) ∷ past)
 
     apart : (h : Page) → place past h ≡ Leaving f.0 → ⊥
     apart h here = false≢true (sym (ap (λ c. is_page c h) can.0) ∙ stands past h f.0 sound here)
@@ -164,8 +161,8 @@ same_refused past a f refusal can sound g = by_load (is_load_of (open_start past
 -- ---- a page gets a slot, and loses it
 
 pub slot_started : (past : List Entry) (a : Actor) (f : Frame) (slot : SlotAt) (answer : Answer) (page : Page)
-    → place past page ≡ Leaving f.0 → slot_of (entry_of a (Did (EwbStart f slot) answer) ∷ past) page ≡ Some slot
-slot_started past a f slot answer page at = rw (at, eq-eqb f.0 f.0 refl) refl
+    → place past page ≡ Leaving f.0 → IsFoundAt past slot → slot_of (entry_of a (Did (EwbStart f slot) answer) ∷ past) page ≡ Some slot
+slot_started past a f slot answer page at found = rw (at, eq-eqb f.0 f.0 refl, found.1) refl
 
 pub slot_started_other : (past : List Entry) (a : Actor) (f : Frame) (slot : SlotAt) (answer : Answer) (page g : Page) → IsSound past
     → place past page ≡ Leaving f.0 → same_page page g ≡ false

@@ -12,8 +12,8 @@ use Rattle.sgx_types.specs.declared.names.Perm.{Perm}
 use Rattle.sgx_rules.specs.declared.refusals.Refusal.{Refusal}
 use Rattle.sgx_rules.specs.Flat.{enclave_sight, flat}
 use Rattle.sgx_types.specs.Making.{Making}
-use Rattle.sgx_rules.specs.Sights.{enclave_of_stay, row_at, sight_at, stay_of}
-use Rattle.sgx_rules.specs.Table.{Case, EnclaveSight, FrameSight, add_row, fill_row, first_of_row, init_row}
+use Rattle.sgx_rules.specs.Sights.{enclave_of_stay, row_at, secs_sight_at, sight_at, stay_of}
+use Rattle.sgx_rules.specs.Table.{Case, EnclaveSight, FrameSight, SecsSight, add_row, fill_row, first_of_row, init_row}
 use Rattle.driver_rules.specs.Stops.{is_last_refusal}
 
 -- no case of a row ends a run
@@ -36,16 +36,16 @@ never_last (c ∷ cases) r h is = by_last (is_last_refusal c.why) refl h (never_
     by_last true fine k rest = cc
     by_last false fine k rest = by_holds c.holds is fine (rest k)
 
-add_spares : (n : ℕ) (kind : Kind) (perm : Perm) (init : PageInit) (o : Option EnclaveSight) (is_added : Bool) (s : FrameSight)
-    → spares (add_row n kind perm init o is_added s) ≡ true
+add_spares : (n : ℕ) (kind : Kind) (perm : Perm) (init : PageInit) (o : Option EnclaveSight) (secs : SecsSight) (is_added : Bool)
+    (s : FrameSight) → spares (add_row n kind perm init o secs is_added s) ≡ true
 unfolding spares
-add_spares n kind perm init None is_added s = refl
-add_spares n kind perm init (Some enclave) is_added s = refl
+add_spares n kind perm init None secs is_added s = refl
+add_spares n kind perm init (Some enclave) secs is_added s = refl
 
-init_spares : (o : Option EnclaveSight) → spares (init_row o) ≡ true
+init_spares : (o : Option EnclaveSight) (secs : SecsSight) → spares (init_row o secs) ≡ true
 unfolding spares
-init_spares None = refl
-init_spares (Some enclave) = refl
+init_spares None secs = refl
+init_spares (Some enclave) secs = refl
 
 fill_spares : (n : ℕ) (o : Option ℕ) (s : FrameSight) → spares (fill_row n o s) ≡ true
 unfolding spares
@@ -67,8 +67,8 @@ is_tame _ = true
 row_spares : (k : Making) (past : List Entry) (a : Actor) (action : Action) → is_tame action ≡ true → spares (row_at k past a action) ≡ true
 unfolding spares
 row_spares k past a (actions.Add e n f kind perm init) tame =
-    add_spares n kind perm init (enclave_sight (flat past) e) _ (sight_at k.frames past f.0)
-row_spares k past a (actions.Init e expect) tame = init_spares (enclave_sight (flat past) e)
+    add_spares n kind perm init (enclave_sight (flat past) e) (secs_sight_at k.frames past e) _ (sight_at k.frames past f.0)
+row_spares k past a (actions.Init e expect) tame = init_spares (enclave_sight (flat past) e) (secs_sight_at k.frames past e)
 row_spares k past a (actions.Fill n f) tame = fill_spares n (enclave_of_stay (stay_of past a)) (sight_at k.frames past f.0)
 row_spares k past a (actions.Block f) tame = cc
 row_spares k past a (actions.Track e) tame = cc

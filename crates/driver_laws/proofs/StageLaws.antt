@@ -22,7 +22,8 @@ use Rattle.sgx_types.specs.declared.names.SlotAt.{SlotAt}
 use Rattle.sgx_rules.specs.declared.refusals.Refusal.TheVariants as why
 use Rattle.sgx_types.specs.Pages.{same_page}
 use Rattle.sgx_rules.specs.Frames.{Free, content, is_block, is_blocked, is_page, is_sealing}
-use Rattle.sgx_rules.specs.Starts.{Start, is_load_of, open_start, version_told}
+use Rattle.sgx_rules.specs.Starts.{Start, is_load_of, open_start, slot_found, started, version_told}
+use Rattle.driver_laws.specs.inner.ByFrame.{starting}
 use Rattle.job_grammar.specs.Jobs.{JobView}
 use Rattle.driver_rules.specs.Ages.{AgeRule, FormOf, InPass, IsFrame, KickRule, LookOf, PassOf, head_of}
 use Rattle.driver_rules.specs.Ages as ages
@@ -266,15 +267,15 @@ start_has past f slot answer g rest s can at waiting apart = record {
         frame = f.0;
         leaving = at;
         start = record {
-          slot = slot;
+          at = slot;
+          slot = can.2.0;
           version = version_told answer;
           loads = None;
           place = length past;
           actor = actors.Reclaimer;
         };
-        opened = rw
-            (self_eq f.0) refl;
-        write = rw (self_eq f.0) refl;
+        opened = rw (self_eq f.0, can.2.1) refl;
+        write = rw (self_eq f.0, can.2.1) refl;
       };
   waiting = others_kept past (entry_of actors.Reclaimer (Did (EwbStart f slot) answer)) true g f.0 rest s can at (λ m k. k) apart.0 waiting;
   apart = apart;
@@ -565,13 +566,13 @@ sealing_kept past e s can h n = by_event e.event can
 
     by_event : (ev : Event) → CanMove past ev
         → is_sealing (entry_of e.actor ev ∷ past) n ≡ is_write_start (open_start (entry_of e.actor ev ∷ past) n)
-    by_event (Did (EwbStart f slot) answer) k = by_test (f.0 == n)
+    by_event (Did (EwbStart f slot) answer) k =
+        subst (λ o. (if f.0 == n then true else is_sealing past n) ≡ is_write_start (starting past e.actor f.0 slot answer None o n))
+        (sym k.2.1) (by_test (f.0 == n))
       where
         by_test : (b : Bool)
-            → (if b then true else is_sealing past n) ≡ is_write_start
-            (if b
-            then Some (record { slot = slot; version = version_told answer; loads = None; place = length past; actor = e.actor })
-            else open_start past n)
+            → (if b then true else is_sealing past n)
+            ≡ is_write_start (if b then started e.actor (length past) slot answer None (Some k.2.0) else open_start past n)
         by_test true = refl
         by_test false = h n
     by_event (Did (Ewb f) (Moved page version tag)) k = by_test (f.0 == n)
@@ -581,8 +582,8 @@ sealing_kept past e s can h n = by_event e.event can
         by_test false = h n
     by_event (Did (EldStart f page slot) answer) k =
         at_other f.0 (free_no_write past f.0 s k.0)
-        (Some (record { slot = slot; version = version_told answer; loads = Some page; place = length past; actor = e.actor })) refl
-        (f.0 == n) refl
+        (started e.actor (length past) slot answer (Some page) (slot_found (content past) slot))
+        (ap (λ o. is_write_start (started e.actor (length past) slot answer (Some page) o)) k.2.1) (f.0 == n) refl
     by_event (Did (Eld f) (Moved page version tag)) k =
         at_other f.0 (load_no_write (open_start past f.0) (load_open past page f.0 k.0 s k.1)) None refl (f.0 == n) refl
     by_event (Refused (Eld f) refusal) k =

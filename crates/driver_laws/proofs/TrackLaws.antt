@@ -1,5 +1,5 @@
 -- Tracks, blocks and stays, one entry longer.
-use Rattle.std.proofs.Common.{◌≡◌, ℕ, ◌+◌, ◌<◌, ◌≤◌, ◌==◌, ◌&&◌, ◌||◌, not, Bool, true, false}
+use Rattle.std.proofs.Common.{◌≡◌, ℕ, ◌<◌, ◌≤◌, ◌==◌, ◌&&◌, ◌||◌, not, Bool, true, false}
 use Rattle.std.proofs.Common.{if◌then◌else◌, refl, sym, ◌∙◌, ap, subst, List, [], ◌∷◌, Option, Some, None}
 use Rattle.std.proofs.Common.{length, nat_lt, is_some, arith}
 use Rattle.std.proofs.lemmas.Bool.{eqb-true, eq-eqb, false≢true}
@@ -14,8 +14,9 @@ use Rattle.sgx_rules.specs.declared.entries.Look.TheVariants as looks
 use Rattle.sgx_types.specs.declared.names.Page.{Page}
 use Rattle.sgx_types.specs.declared.names.SlotAt.{SlotAt}
 use Rattle.sgx_rules.specs.Epochs.{is_before, is_in_before, is_track, last_track}
-use Rattle.sgx_rules.specs.Eviction.{block_place, earlier_or, is_drained, is_drained_from, keeps_back, number_kept_back}
+use Rattle.sgx_rules.specs.Eviction.{block_place, is_drained, is_drained_from, keeps_back, number_kept_back}
 use Rattle.sgx_rules.specs.Eviction.{track_behind}
+use Rattle.sgx_types.specs.Counts.{earlier_or}
 use Rattle.sgx_types.specs.Pages.{same_page}
 use Rattle.sgx_rules.specs.Frames.{Free, content, is_block, is_blocked, is_page, is_put, made_before, put_by}
 use Rattle.sgx_rules.specs.Starts.{is_load_of, open_start}

@@ -2,7 +2,7 @@
 use Rattle.std.proofs.Common.{◌≡◌, ℕ, ◌<◌, ◌==◌, Bool, true, false, if◌then◌else◌, refl, sym, ◌∙◌, ap, subst}
 use Rattle.std.proofs.Common.{List, [], ◌∷◌, Option, Some, None, length}
 use Rattle.std.proofs.lemmas.Bool.{eq-eqb, false≢true}
-use Rattle.sgx_types.proofs.Pages.{same_slots}
+use Rattle.sgx_types.proofs.Pages.{same_places}
 use Rattle.sgx_rules.specs.declared.entries.Action.TheVariants.{Add, EwbStart, Ewb, EldStart, Eld}
 use Rattle.sgx_types.specs.declared.names.Actor.{Actor}
 use Rattle.sgx_rules.specs.declared.entries.Answer.{Answer}
@@ -17,14 +17,14 @@ use Rattle.sgx_types.specs.declared.names.Page.{Page}
 use Rattle.sgx_types.specs.declared.names.SlotAt.{SlotAt}
 use Rattle.sgx_rules.specs.declared.refusals.Refusal.{Refusal}
 use Rattle.sgx_types.specs.Pages.{page_at, same_page}
-use Rattle.sgx_types.specs.Pages.{same_slot}
-use Rattle.sgx_rules.specs.Slots.{names_slot, open_slot, version_in}
+use Rattle.sgx_types.specs.Pages.{same_place}
+use Rattle.driver_laws.specs.inner.ByFrame.{names_slot, open_slot, starting, version_in}
 use Rattle.sgx_rules.specs.Starts.{Start, open_start, version_told}
 use Rattle.driver_rules.specs.Places.{Here, Place, after_look, gone_to, place}
 use Rattle.driver_laws.specs.inner.Kinds.{CanMove}
 use Rattle.driver_laws.specs.inner.Sound.{IsSound, slot_at, slot_outside}
 use Rattle.driver_laws.specs.inner.Used.{LoadsHaveFound, SlotsAreFilled, SlotsAreUsed, StartTells, WritesHaveDrawn}
-use Rattle.driver_laws.proofs.SlotLaws.{other_slot, outside_here, outside_loading, outside_refused, outside_taken, same_slot-refl}
+use Rattle.driver_laws.proofs.SlotLaws.{other_slot, outside_here, outside_loading, outside_refused, outside_taken, same_place-refl}
 use Rattle.driver_laws.proofs.SoundLaws.{entry_of, load_start, named}
 use Rattle.driver_laws.proofs.AloneLaws.{alone}
 
@@ -49,55 +49,55 @@ drawn_closed opened f h n y = by_frame (f == n)
 -- ---- versions that were found
 
 found_opened : (opened : ℕ → Option Start) (version : SlotAt → ℕ) (f : ℕ) (x : Start)
-    → ((g : Page) → x.loads ≡ Some g → x.version ≡ version x.slot) → LoadsHaveFound opened version
+    → ((g : Page) → x.loads ≡ Some g → x.version ≡ version x.at) → LoadsHaveFound opened version
     → LoadsHaveFound (λ n. if f == n then Some x else opened n) version
 found_opened opened version f x new h n y g = by_frame (f == n)
   where
-    by_frame : (b : Bool) → (if b then Some x else opened n) ≡ Some y → y.loads ≡ Some g → y.version ≡ version y.slot
+    by_frame : (b : Bool) → (if b then Some x else opened n) ≡ Some y → y.loads ≡ Some g → y.version ≡ version y.at
     by_frame true k loads =
         let same : x ≡ y = cc in
-        subst (λ (z : Start). z.version ≡ version z.slot) same (new g (ap (λ (z : Start). z.loads) same ∙ loads))
+        subst (λ (z : Start). z.version ≡ version z.at) same (new g (ap (λ (z : Start). z.loads) same ∙ loads))
     by_frame false k loads = h n y g k loads
 
 found_dropped : (opened : ℕ → Option Start) (version : SlotAt → ℕ) (f : ℕ) → LoadsHaveFound opened version
     → LoadsHaveFound (λ n. if f == n then None else opened n) version
 found_dropped opened version f h n y g = by_frame (f == n)
   where
-    by_frame : (b : Bool) → (if b then None else opened n) ≡ Some y → y.loads ≡ Some g → y.version ≡ version y.slot
+    by_frame : (b : Bool) → (if b then None else opened n) ≡ Some y → y.loads ≡ Some g → y.version ≡ version y.at
     by_frame true k loads = cc
     by_frame false k loads = h n y g k loads
 
 -- the start of a frame ends, and its slot holds another version: no other start names that
-found_closed : (opened : ℕ → Option Start) (version : SlotAt → ℕ) (f : ℕ) (x : Start) (its : Option SlotAt) (v : ℕ) → its ≡ Some x.slot
-    → ((n : ℕ) (y : Start) → opened n ≡ Some y → x.slot ≡ y.slot → f ≡ n) → LoadsHaveFound opened version
+found_closed : (opened : ℕ → Option Start) (version : SlotAt → ℕ) (f : ℕ) (x : Start) (its : Option SlotAt) (v : ℕ) → its ≡ Some x.at
+    → ((n : ℕ) (y : Start) → opened n ≡ Some y → x.at ≡ y.at → f ≡ n) → LoadsHaveFound opened version
     → LoadsHaveFound (λ n. if f == n then None else opened n) (λ slot. if names_slot its slot then v else version slot)
 found_closed opened version f x its v names apart h n y g = rw names (by_frame (f == n) refl)
   where
-    by_slot : (b : Bool) → (f == n) ≡ false → opened n ≡ Some y → y.loads ≡ Some g → same_slot x.slot y.slot ≡ b
-        → y.version ≡ (if b then v else version y.slot)
-    by_slot true isnt k loads is = absurd (false≢true (sym isnt ∙ eq-eqb f n (apart n y k (same_slots x.slot y.slot is))))
+    by_slot : (b : Bool) → (f == n) ≡ false → opened n ≡ Some y → y.loads ≡ Some g → same_place x.at y.at ≡ b
+        → y.version ≡ (if b then v else version y.at)
+    by_slot true isnt k loads is = absurd (false≢true (sym isnt ∙ eq-eqb f n (apart n y k (same_places x.at y.at is))))
     by_slot false isnt k loads is = h n y g k loads
 
     by_frame : (b : Bool) → (f == n) ≡ b → (if b then None else opened n) ≡ Some y → y.loads ≡ Some g
-        → y.version ≡ (if same_slot x.slot y.slot then v else version y.slot)
+        → y.version ≡ (if same_place x.at y.at then v else version y.at)
     by_frame true is k loads = cc
-    by_frame false is k loads = by_slot (same_slot x.slot y.slot) is k loads refl
+    by_frame false is k loads = by_slot (same_place x.at y.at) is k loads refl
 
 -- ---- slots that are filled
 
 -- a page went out under a version
 filled_out : (at : Page → Place) (opened : ℕ → Option Start) (version : SlotAt → ℕ) (f : ℕ) (a : Page) (x : Start) (its : Option SlotAt)
-    (v : ℕ) → opened f ≡ Some x → its ≡ Some x.slot → 0 < v → SlotsAreFilled at version
+    (v : ℕ) → opened f ≡ Some x → its ≡ Some x.at → 0 < v → SlotsAreFilled at version
     → SlotsAreFilled (λ g. if same_page a g then gone_to (opened f) (at g) else at g) (λ s. if names_slot its s then v else version s)
-filled_out at opened version f a x its v is_open names some h g slot = rw names (by_slot (same_slot x.slot slot) (same_page a g) refl)
+filled_out at opened version f a x its v is_open names some h g slot = rw names (by_slot (same_place x.at slot) (same_page a g) refl)
   where
-    its_own : slot_outside (gone_to (opened f) (at g)) ≡ Some slot → same_slot x.slot slot ≡ true
+    its_own : slot_outside (gone_to (opened f) (at g)) ≡ Some slot → same_place x.at slot ≡ true
     its_own k = told (sym (ap (λ y. slot_outside (gone_to y (at g))) is_open) ∙ k)
       where
-        told : Some x.slot ≡ Some slot → same_slot x.slot slot ≡ true
-        told e = let same : x.slot ≡ slot = cc in subst (λ t. same_slot x.slot t ≡ true) same (same_slot-refl x.slot)
+        told : Some x.at ≡ Some slot → same_place x.at slot ≡ true
+        told e = let same : x.at ≡ slot = cc in subst (λ t. same_place x.at t ≡ true) same (same_place-refl x.at)
 
-    by_slot : (b c : Bool) → same_slot x.slot slot ≡ b → slot_outside (if c then gone_to (opened f) (at g) else at g) ≡ Some slot
+    by_slot : (b c : Bool) → same_place x.at slot ≡ b → slot_outside (if c then gone_to (opened f) (at g) else at g) ≡ Some slot
         → 0 < (if b then v else version slot)
     by_slot true c is k = some
     by_slot false true is k = absurd (false≢true (sym is ∙ its_own k))
@@ -106,12 +106,12 @@ filled_out at opened version f a x its v is_open names some h g slot = rw names 
 -- a page came back from its slot
 filled_back : (at : Page → Place) (version : SlotAt → ℕ) (f : ℕ) (a : Page) (mine : SlotAt)
     (its : Option SlotAt) → ((g : Page) (slot : SlotAt) → same_page a g ≡ false → slot_outside (at g) ≡ Some slot
-    → same_slot mine slot ≡ false) → its ≡ Some mine → SlotsAreFilled at version
+    → same_place mine slot ≡ false) → its ≡ Some mine → SlotsAreFilled at version
     → SlotsAreFilled (λ g. if same_page a g then Here f else at g) (λ s. if names_slot its s then 0 else version s)
 filled_back at version f a mine its apart names h g slot = rw names (by_page (same_page a g) refl)
   where
     by_page : (b : Bool) → same_page a g ≡ b → slot_outside (if b then Here f else at g) ≡ Some slot
-        → 0 < (if same_slot mine slot then 0 else version slot)
+        → 0 < (if same_place mine slot then 0 else version slot)
     by_page true is k = cc
     by_page false is k = rw (apart g slot is k) (h g slot k)
 
@@ -164,12 +164,14 @@ used_loading : (past : List Entry) (a : Actor) (f : Frame) (page : Page) (slot :
     → SlotsAreUsed past → SlotsAreUsed (entry_of a (Did (EldStart f page slot) answer) ∷ past)
 used_loading past a f page slot answer can told s u = record {
   filled = λ g t k. u.filled g t (outside_loading (place past) page f.0 slot can.1 g t k);
-  drawn = drawn_opened (open_start past) f.0 new (λ h. cc) u.drawn;
-  found = found_opened (open_start past) (version_in past) f.0 new (λ g h. told) u.found;
+  drawn = subst (λ o. WritesHaveDrawn (starting past a f.0 slot answer (Some page) o)) (sym can.2.1)
+      (drawn_opened (open_start past) f.0 new (λ h. cc) u.drawn);
+  found = subst (λ o. LoadsHaveFound (starting past a f.0 slot answer (Some page) o) (version_in past)) (sym can.2.1)
+      (found_opened (open_start past) (version_in past) f.0 new (λ g h. told) u.found);
 }
   where
     new : Start
-    new = record { slot = slot; version = version_told answer; loads = Some page; place = length past; actor = a }
+    new = record { at = slot; slot = can.2.0; version = version_told answer; loads = Some page; place = length past; actor = a }
 
 used_back : (past : List Entry) (a : Actor) (f : Frame) (page : Page) (version : ℕ) (tag : List ℕ)
     → CanMove past (Did (Eld f) (Moved page version tag)) → IsSound past → SlotsAreUsed past
@@ -211,11 +213,13 @@ stays_used past e s can told u = by_event e.event can told
         record { filled = λ g slot k. u.filled g slot (outside_looked past page g look slot k); drawn = u.drawn; found = u.found }
     by_event (Did (EwbStart f slot) answer) c t =
         let new : Start =
-        record { slot = slot; version = version_told answer; loads = None; place = length past; actor = e.actor } in
+        record { at = slot; slot = c.2.0; version = version_told answer; loads = None; place = length past; actor = e.actor } in
         record {
           filled = u.filled;
-          drawn = drawn_opened (open_start past) f.0 new (λ h. t.1) u.drawn;
-          found = found_opened (open_start past) (version_in past) f.0 new (λ g h. cc) u.found;
+          drawn = subst (λ o. WritesHaveDrawn (starting past e.actor f.0 slot answer None o)) (sym c.2.1)
+              (drawn_opened (open_start past) f.0 new (λ h. t.1) u.drawn);
+          found = subst (λ o. LoadsHaveFound (starting past e.actor f.0 slot answer None o) (version_in past)) (sym c.2.1)
+              (found_opened (open_start past) (version_in past) f.0 new (λ g h. cc) u.found);
         }
     by_event (Did (Ewb f) (Moved page version tag)) c t = used_out past e.actor f page version tag t s u
     by_event (Did (EldStart f page slot) answer) c t = used_loading past e.actor f page slot answer c t s u

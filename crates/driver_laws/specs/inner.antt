@@ -1,3 +1,4 @@
+pub mod ByFrame
 pub mod Sound
 pub mod Kinds
 pub mod Tracks

@@ -1,7 +1,7 @@
 //! Laws of the definitions. Each is the contract of a function without arguments, and so holds for every list of entries.
 
-ghost use Rattle.std.specs.Prelude.{ℕ, ◌≡◌, ◌≤◌, ◌<◌, ◌+◌, Bool, true, false, List, [], ◌∷◌, Option, Some};
-ghost use Rattle.std.specs.Prelude.{None, length, nat_le};
+ghost use Rattle.std.specs.Prelude.{ℕ, ◌≡◌, ◌≤◌, ◌<◌, ◌+◌, Bool, true, false, List, [], ◌∷◌, Some};
+ghost use Rattle.std.specs.Prelude.{None, is_some, length, nat_le};
 ghost use Rattle.sgx_types.specs.Making.{Making};
 ghost use Rattle.sgx_rules.specs.inner.ByEpochs.{IsTrackedBlock};
 ghost use Rattle.sgx_types.specs.declared.names.Actor.TheVariants as actors;
@@ -16,8 +16,10 @@ ghost use Rattle.sgx_rules.specs.inner.Epochs.{block_epoch};
 ghost use Rattle.sgx_rules.specs.Eviction.{is_drained};
 ghost use Rattle.sgx_rules.specs.Frames.{Free, content, is_blocked};
 ghost use Rattle.sgx_types.specs.declared.names.SlotAt.{SlotAt};
-ghost use Rattle.sgx_rules.specs.Sights.{sight_at, slot_sight_at};
-ghost use Rattle.sgx_rules.specs.Table.{DrainSight, EnclaveSight, eldstart_row, ewbstart_row, first_of_row, is_made, is_va};
+ghost use Rattle.sgx_rules.specs.Sights.{secs_sight_at, sight_at, slot_sight_at, use_sight_at};
+ghost use Rattle.sgx_rules.specs.inner.Enclaves.{created};
+ghost use Rattle.sgx_rules.specs.Table.{DrainSight, LoadSight, eldstart_row, ewbstart_row, first_of_row, is_va};
+ghost use Rattle.sgx_rules.specs.Flat.{settled};
 ghost use Rattle.version_array.specs.inner.Keeper.{AllOut, Keeper, count_all, count_out, is_ours, is_out, new_keeper};
 ghost use Rattle.job_grammar.specs.Jobs.{JobView};
 ghost use Rattle.sgx_rules.specs.Rules.{Along, EvictRule, FitsRule, RefusalRule, RisingRule};
@@ -120,19 +122,22 @@ pub fn slots_stay_used()
         → RefusalRule k past e → EvictRule past e → RisingRule k.first_version past e → StartTells past e.event }
 {}
 
-/// A load of a page that is away, by its slot into a free frame of the EPC, is not refused. A try to write out a page that was taken and
-/// blocked, into a slot that is not out, is refused only for want of a track, or of a version. Version array pages are in frames of the
-/// EPC.
+/// A load of a page that is away, by its slot into a free frame of the EPC, is not refused where its enclave's SECS stands in a frame and
+/// is not on its way out, as that of each enclave does that was created. A try to write out a page that was taken and blocked, into a
+/// slot that is not out, is refused only for want of a track, or of a version. Version array pages are in frames of the EPC.
 pub fn moves_are_lawful()
     ensures load { (frames : ℕ) (j : JobView) (keeper : Keeper) (past : List Entry) (g : Page) (slot : SlotAt) (f : ℕ)
-        (enclave : Option EnclaveSight) → IsSound past → SlotsAreUsed past → SealingAreOpen past → ShowsSlots j keeper past
+        (load : LoadSight) → IsSound past → SlotsAreUsed past → SealingAreOpen past → ShowsSlots j keeper past
         → place past g ≡ Away slot → content past f ≡ Free → nat_le frames f ≡ false → nat_le frames slot.frame.0 ≡ false
-        → is_made enclave ≡ true
-        → first_of_row (eldstart_row (sight_at frames past f) enclave true (slot_sight_at frames past slot)) ≡ None }
+        → load.is_known ≡ true → load.secs ≡ settled
+        → first_of_row (eldstart_row (sight_at frames past f) load (slot_sight_at frames past slot)) ≡ None }
+    ensures secs { (frames : ℕ) (past : List Entry) (enclave : ℕ) → IsSound past → SealingAreOpen past → Along (FitsRule frames) past
+        → is_some (created past enclave) ≡ true → secs_sight_at frames past enclave ≡ settled }
     ensures out { (frames : ℕ) (j : JobView) (keeper : Keeper) (past : List Entry) (g : Page) (slot : SlotAt) (w : IsTaken past true g)
         (drain : DrainSight) (is_spent : Bool) → IsSound past → SealingAreOpen past → ShowsSlots j keeper past
         → is_ours keeper slot ≡ true → is_out keeper slot ≡ false → nat_le frames w.frame ≡ false → nat_le frames slot.frame.0 ≡ false
-        → first_of_row (ewbstart_row (sight_at frames past w.frame) (slot_sight_at frames past slot) drain is_spent)
+        → first_of_row (ewbstart_row (sight_at frames past w.frame) (use_sight_at frames past w.frame slot)
+        (slot_sight_at frames past slot) drain is_spent)
         ≡ first_of_row (left_to_refuse drain is_spent) }
     ensures array { (frames : ℕ) (past : List Entry) (n : ℕ) → Along (FitsRule frames) past → is_va (content past n) ≡ true
         → nat_le frames n ≡ false }

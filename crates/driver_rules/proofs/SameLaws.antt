@@ -2,7 +2,7 @@
 use Rattle.std.proofs.Common.{◌≡◌, ℕ, ◌==◌, ◌&&◌, Bool, true, false, refl, sym, ap, List, [], ◌∷◌, Option, Some, None}
 use Rattle.std.proofs.lemmas.Bool.{eqb-true, eq-eqb, false≢true}
 use Rattle.sgx_types.proofs.Truths.{both_true}
-use Rattle.sgx_types.proofs.Pages.{same_pages, same_slots}
+use Rattle.sgx_types.proofs.Pages.{same_pages, same_places}
 use Rattle.sgx_rules.specs.declared.entries.AccessOp.{AccessOp}
 use Rattle.sgx_rules.specs.declared.entries.AccessOp.TheVariants as accesses
 use Rattle.sgx_rules.specs.declared.entries.Action.{Action}
@@ -21,7 +21,7 @@ use Rattle.sgx_types.specs.declared.names.Kind.TheVariants as kinds
 use Rattle.sgx_types.specs.declared.names.Perm.{Perm}
 use Rattle.sgx_types.specs.declared.names.SlotAt.{SlotAt}
 use Rattle.sgx_types.specs.Pages.{same_page}
-use Rattle.sgx_types.specs.Pages.{same_slot}
+use Rattle.sgx_types.specs.Pages.{same_place}
 use Rattle.driver_rules.specs.inner.Same.{same_access, same_action, same_bool, same_cause, same_digest, same_init, same_kind}
 use Rattle.driver_rules.specs.inner.Same.{same_numbers}
 use Rattle.driver_rules.specs.inner.Same.{same_perm}
@@ -68,7 +68,7 @@ access-refl accesses.Load = refl
 access-refl accesses.Store = refl
 access-refl accesses.Xadd = refl
 
-slot-refl : (s : SlotAt) → same_slot s s ≡ true
+slot-refl : (s : SlotAt) → same_place s s ≡ true
 slot-refl s = rw (eqb-refl s.frame.0, eqb-refl s.index) refl
 
 pub action-refl : (a : Action) → same_action a a ≡ true
@@ -204,11 +204,11 @@ action-true (OutStore e off v) (OutStore e' off' v') h =
 action-true (Block f) (Block f') h = ap Block (frame-true f f' h)
 action-true (Track e) (Track e') h = ap Track (eqb-true e e' h)
 action-true (EwbStart f slot) (EwbStart f' slot') h =
-    let k = both_true (f.0 == f'.0) (same_slot slot slot') h in λ i. EwbStart (frame-true f f' k.0 i) (same_slots slot slot' k.1 i)
+    let k = both_true (f.0 == f'.0) (same_place slot slot') h in λ i. EwbStart (frame-true f f' k.0 i) (same_places slot slot' k.1 i)
 action-true (Ewb f) (Ewb f') h = ap Ewb (frame-true f f' h)
 action-true (EldStart f page slot) (EldStart f' page' slot') h =
-    let k = both_true (f.0 == f'.0) (same_page page page' && same_slot slot slot') h in
-    let l = both_true (same_page page page') (same_slot slot slot') k.1 in
-    λ i. EldStart (frame-true f f' k.0 i) (same_pages page page' l.0 i) (same_slots slot slot' l.1 i)
+    let k = both_true (f.0 == f'.0) (same_page page page' && same_place slot slot') h in
+    let l = both_true (same_page page page') (same_place slot slot') k.1 in
+    λ i. EldStart (frame-true f f' k.0 i) (same_pages page page' l.0 i) (same_places slot slot' l.1 i)
 action-true (Eld f) (Eld f') h = ap Eld (frame-true f f' h)
 action-true _ _ h = absurd (false≢true h)

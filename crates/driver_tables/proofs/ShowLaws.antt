@@ -182,7 +182,7 @@ shows_started j old new past f slot answer page at none sound takes only t =
 
 -- a page has gone out: it is away in the slot of the start that ended, also where its put failed
 pub shows_gone : (j : JobView) (old new : Driver) (past : List Entry) (f : Frame) (page : Page) (version : ℕ) (tag : List ℕ) (x : Start)
-    (state : PageState) → CanMove past (Did (Ewb f) (Moved page version tag)) → open_start past f.0 ≡ Some x → place_in state ≡ Away x.slot
+    (state : PageState) → CanMove past (Did (Ewb f) (Moved page version tag)) → open_start past f.0 ≡ Some x → place_in state ≡ Away x.at
     → IsSound past → IsPlaced old.states.counts page → new ≡ record old { states = with_state old.states page state }
     → ShowsTables j old past
     → ShowsTables j new (entry_of actors.Reclaimer (Did (Ewb f) (Moved page version tag)) ∷ past)

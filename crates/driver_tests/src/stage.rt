@@ -2,7 +2,8 @@
 
 ghost use Rattle.std.specs.Prelude.{◌≡◌, IsTrue};
 ghost use Rattle.paging_laws.specs.inner.Notes.{IsNote};
-ghost use Rattle.paging_laws.specs.inner.Steps.{CanApply};
+ghost use Rattle.paging_laws.specs.inner.Steps.{CanApply, CanMove};
+ghost use Rattle.paging_machine.specs.inner.Parts.{state_of};
 
 use crate::calls::print_calls;
 use crate::checks::is_sealing;
@@ -97,6 +98,9 @@ impl Stage {
     // An instruction by the machine.
     fn instructs(&mut self, alloc: Global, action: Action, entry: &Entry) -> Result<bool, Memory> {
         if !can_apply(self.machine.cpus(), entry.actor, action) {
+            return Ok(false);
+        }
+        if !can_move(&self.machine, action) {
             return Ok(false);
         }
         let made = self.machine.apply(alloc, entry.actor, &action)?;
@@ -340,6 +344,16 @@ fn new_machine(alloc: Global, job: &Job) -> Result<Box<Machine>, Memory> {
         job.start_version(),
     )?;
     Ok(Box::new(alloc, machine)?)
+}
+
+fn can_move(machine: &Machine, action: Action) -> bool
+    ensures { IsTrue result → CanMove (state_of machine.now) action }
+{
+    match action {
+        Action::Epa { .. } => machine.arrays_made() < 1 << 32,
+        Action::EldStart { page, .. } => page.enclave != 0,
+        _ => true,
+    }
 }
 
 fn can_apply(cpus: u8, actor: Actor, action: Action) -> bool

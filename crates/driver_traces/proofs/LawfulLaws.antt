@@ -23,15 +23,14 @@ use Rattle.sgx_rules.specs.declared.refusals.Refusal.{Refusal}
 use Rattle.sgx_rules.specs.declared.refusals.Refusal.TheVariants as why
 use Rattle.sgx_rules.specs.Ends.{EndsIn, EndsOut, IsNotBack}
 use Rattle.sgx_rules.specs.Flat.{accepts, flat, flat_answer, is_visible}
-use Rattle.sgx_types.specs.Pages.{same_page}
-use Rattle.sgx_rules.specs.Frames.{Content, Free, Holds, IsLoading, IsVa, SecsOf, content, vas_made}
+use Rattle.sgx_rules.specs.Frames.{Content, Holds, content, is_this, page_there, stands, vas_made}
 use Rattle.sgx_rules.specs.Fresh.{FreshRule, Out, ReloadRule, last_out}
 use Rattle.sgx_types.specs.Making.{Making}
 use Rattle.sgx_rules.specs.Rules.{EndsWriteOut, EvictRule, FitsRule, FlatRule, GoesOut, HasForm, NamesFrames, RefusalRule}
 use Rattle.sgx_rules.specs.Rules.{RisingRule}
 use Rattle.sgx_rules.specs.Rules.{StaleRule, TakesFree, case_of, seen_answer}
-use Rattle.sgx_rules.specs.Slots.{version_in}
-use Rattle.sgx_rules.specs.Starts.{Start, loads_page, open_start}
+use Rattle.sgx_rules.specs.Slots.{version_at, version_in}
+use Rattle.sgx_rules.specs.Starts.{Start, open_start}
 use Rattle.sgx_types.proofs.Pages.{same_pages}
 use Rattle.sgx_types.proofs.Truths.{both_true}
 use Rattle.sgx_rules.proofs.Contents.{free_is}
@@ -83,18 +82,17 @@ same_case (Some why.EpochSpent) (Some why.EpochSpent) h = refl
 same_case (Some why.VersionSpent) (Some why.VersionSpent) h = refl
 same_case _ _ h = absurd (false≢true h)
 
-some_page : (o : Option Page) (page : Page) → loads_page o page ≡ true → o ≡ Some page
+some_page : (o : Option Page) (page : Page) → is_this o page ≡ true → o ≡ Some page
 some_page None page h = cc
 some_page (Some loaded) page h = ap Some (same_pages loaded page h)
 
-ended_out : (past : List Entry) (n : ℕ) (page : Page) (version : ℕ) (tag : List ℕ) (held : Content) (o : Option Start)
-    → content past n ≡ held → open_start past n ≡ o → is_ended_out held o page ≡ true → EndsOut past n (answers.Moved page version tag)
-ended_out past n page version tag (Holds g kind perm) (Some start) held opened h =
-    let k = both_true (same_page g page) (is_none start.loads) h in record {
+ended_out : (past : List Entry) (n : ℕ) (page : Page) (version : ℕ) (tag : List ℕ) (o : Option Start) → open_start past n ≡ o
+    → is_ended_out (content past n) o page ≡ true → EndsOut past n (answers.Moved page version tag)
+ended_out past n page version tag None opened h = absurd (false≢true h)
+ended_out past n page version tag (Some start) opened h =
+    let k = both_true (stands (content past n) page) (is_none start.loads) h in record {
       page = page;
-      kind = kind;
-      perm = perm;
-      held = subst (λ q. content past n ≡ Holds q kind perm) (same_pages g page k.0) held;
+      held = some_page (page_there (content past n)) page k.0;
       start = start;
       opened = opened;
       writes = none_of start.loads k.1;
@@ -102,7 +100,6 @@ ended_out past n page version tag (Holds g kind perm) (Some start) held opened h
       tag = tag;
       told = refl;
     }
-ended_out past n page version tag _ _ held opened h = absurd (false≢true h)
 
 ended_in : (past : List Entry) (n : ℕ) (page : Page) (o : Option Start) → open_start past n ≡ o → is_ended_in o page ≡ true
     → EndsIn past n page
@@ -132,8 +129,8 @@ formed past (Block f) answers.Plain h = refl
 formed past (Track enclave) answers.Plain h = refl
 formed past (EwbStart f slot) (answers.Version version) h = (version, refl)
 formed past (Ewb f) (answers.Moved page version tag) h =
-    ended_out past f.0 page version tag (content past f.0) (open_start past f.0) refl refl h
-formed past (EldStart f page slot) (answers.Version version) h = ap answers.Version (eqb-true version (version_in past slot) h)
+    ended_out past f.0 page version tag (open_start past f.0) refl h
+formed past (EldStart f page slot) (answers.Version version) h = ap answers.Version (eqb-true version (version_at past slot) h)
 formed past (Eld f) (answers.Moved page version tag) h =
     record { page = page; ends = ended_in past f.0 page (open_start past f.0) refl h; version = version; tag = tag; told = refl }
 formed past _ _ h = absurd (false≢true h)
@@ -267,10 +264,7 @@ stale_tells past a _ h = tt
 
 out_tells : (past : List Entry) (n : ℕ) (held : Content) → goes_out past n held ≡ true → GoesOut past n held
 out_tells past n (Holds page kind perm) h = h
-out_tells past n Free h = false≢true h
-out_tells past n (IsVa number) h = false≢true h
-out_tells past n (SecsOf enclave) h = false≢true h
-out_tells past n (IsLoading page) h = false≢true h
+out_tells past n _ h = absurd (false≢true h)
 
 written_out : (o : Option Start) (version : ℕ) → is_write_out o version ≡ true → EndsWriteOut o version
 written_out None version h = absurd (false≢true h)

@@ -14,20 +14,20 @@ use Rattle.sgx_types.specs.declared.names.Kind.{Kind}
 use Rattle.sgx_types.specs.declared.names.Page.{Page}
 use Rattle.sgx_types.specs.declared.names.Perm.{Perm}
 use Rattle.sgx_types.specs.Pages.{page_at}
-use Rattle.sgx_rules.specs.Frames.{Content, Free, Holds, Put, content, held_after, is_page, is_sealing, made_before, put_by}
+use Rattle.sgx_rules.specs.Frames.{Content, Free, Holds, Put, content, held_after, is_page, is_sealing, is_this, made_before}
+use Rattle.sgx_rules.specs.Frames.{page_there, put_by, stands}
 use Rattle.sgx_types.specs.Pages.{same_page}
 use Rattle.sgx_rules.specs.Processors.{BareTranslation, Move, Enters, Leaves, Keeps, Stay, is_by, move_by, stay, stay_after}
 use Rattle.sgx_rules.specs.Processors.{translations}
 use Rattle.sgx_rules.specs.Rules.{IsCurrent, IsStill, IsUndisturbed, NoPageTwice, NoneStale}
 use Rattle.sgx_types.proofs.Pages.{same_pages}
 use Rattle.sgx_types.proofs.Truths.{apart, both_true}
-use Rattle.sgx_rules.proofs.Contents.{held_page}
 use Rattle.job_grammar.specs.Jobs.{JobView}
 use Rattle.turn_rules.specs.Script.{frame_at}
 use Rattle.driver_rules.specs.inner.Decided.{all_along}
 use Rattle.driver_rules.specs.inner.Same.{same_kind, same_perm}
 use Rattle.driver_rules.proofs.SameLaws.{action-true}
-use Rattle.driver_traces.specs.inner.Settled.{acts_below, all_below, are_apart, are_current, holds_same, is_actor_below}
+use Rattle.driver_traces.specs.inner.Settled.{acts_below, all_below, are_apart, are_current, has_same, holds_same, is_actor_below}
 use Rattle.driver_traces.specs.inner.Settled.{is_held_still}
 use Rattle.driver_traces.specs.inner.Settled.{is_none_stale, is_page_once, is_put_below, is_settled, is_still, is_undisturbed}
 use Rattle.driver_traces.specs.inner.Settled.{puts_below}
@@ -58,8 +58,12 @@ free_beyond frames (e ∷ past) n low beyond =
     held_beyond frames n (put_by e.event (made_before past)) (content past n) k.0 beyond (free_beyond frames past n k.1 beyond)
 
 -- two contents of one page are found to hold the same
-found_same : (a b : Content) (g : Page) → is_page a g ≡ true → is_page b g ≡ true → holds_same a b ≡ true
-found_same a b g in_a in_b = ap (λ c. holds_same c b) (held_page a g in_a).holds ∙ in_b
+found_same : (a b : Content) (g : Page) → stands a g ≡ true → stands b g ≡ true → holds_same a b ≡ true
+found_same a b g in_a in_b = by_page (page_there a) in_a
+  where
+    by_page : (o : Option Page) → is_this o g ≡ true → has_same o b ≡ true
+    by_page None is = absurd (false≢true is)
+    by_page (Some page) is = ap (stands b) (same_pages page g is) ∙ in_b
 
 only_once : (same shared : Bool) → (same || not shared) ≡ true → shared ≡ true → same ≡ true
 only_once true shared h e = refl
@@ -67,10 +71,10 @@ only_once false true h e = h
 only_once false false h e = e
 
 holds_below : (frames : ℕ) (past : List Entry) (n : ℕ) (g : Page) → all_along (puts_below frames) past ≡ true
-    → is_page (content past n) g ≡ true → (n < frames) ⊎ (frames ≤ n) → n < frames
+    → stands (content past n) g ≡ true → (n < frames) ⊎ (frames ≤ n) → n < frames
 holds_below frames past n g low here (inl below) = below
 holds_below frames past n g low here (inr beyond) =
-    absurd (false≢true (subst (λ c. is_page c g ≡ true) (free_beyond frames past n low beyond) here))
+    absurd (false≢true (subst (λ c. stands c g ≡ true) (free_beyond frames past n low beyond) here))
 
 once : (frames : ℕ) (past : List Entry) → is_page_once frames past ≡ true → NoPageTwice past
 once frames past h m n g at_m at_n =

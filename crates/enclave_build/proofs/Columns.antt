@@ -1,6 +1,7 @@
 -- What ECREATE and EADD leave of every frame's entry and words.
 use Rattle.std.proofs.Common.{◌≡◌, ℕ, ◌<◌, ◌==◌, cond, List, length, ap, ◌∙◌, length-set}
 use Rattle.sgx_types.specs.declared.lawful.PageInit.{PageInit}
+use Rattle.sgx_types.specs.declared.names.TheConstants.{SECS_NUMBER}
 use Rattle.sgx_types.specs.declared.names.Page.{Page}
 use Rattle.sgx_types.specs.declared.names.Kind.{Kind}
 use Rattle.sgx_types.specs.declared.names.Kind.TheVariants as kinds
@@ -21,7 +22,7 @@ pub length-with_secs : (epc : List EpcFrame) (f enclave : ℕ) → length (with_
 length-with_secs epc f enclave = length-with_entry epc f _
 
 pub entry_at-with_secs : (epc : List EpcFrame) (f enclave n : ℕ) → f < length epc
-    → entry_at (with_secs epc f enclave) n ≡ cond (f == n) (holding (page_at enclave 0) kinds.Secs no_perm) (entry_at epc n)
+    → entry_at (with_secs epc f enclave) n ≡ cond (f == n) (holding (page_at enclave SECS_NUMBER) kinds.Secs no_perm) (entry_at epc n)
 entry_at-with_secs epc f enclave n low = entry_at-with_entry epc f n _ low
 
 pub words_at-with_secs : (epc : List EpcFrame) (f enclave n : ℕ) → words_at (with_secs epc f enclave) n ≡ words_at epc n

@@ -1,2 +1,4 @@
 mod Writes
 pub mod Columns
+pub mod SecsLaws
+pub mod CountLaws

@@ -1,6 +1,6 @@
 //! EADD: a page is added to an enclave that is being built.
 
-ghost use Rattle.std.specs.Prelude.{◌≡◌, ◌<◌, ◌*◌, false, None, Some, OnOk, OnErr, is_some, length};
+ghost use Rattle.std.specs.Prelude.{◌≡◌, ◌<◌, ◌≤◌, ◌-◌, ◌^◌, ◌*◌, false, None, Some, OnOk, OnErr, is_some, length};
 ghost use Rattle.sgx_types.specs.Pages.{page_at};
 ghost use Rattle.sgx_types.specs.Layouts.{flags_of};
 ghost use Rattle.sgx_types.specs.Lawful.{is_addable, is_lawful_perm, is_within};
@@ -12,8 +12,12 @@ ghost use Rattle.epcm_entry.specs.inner.Sights.{sight_in};
 ghost use Rattle.secs_state.specs.inner.Secs.{added_at, page_count};
 ghost use Rattle.measure_log.specs.Blocks.{eadd_block};
 ghost use Rattle.secs_state.specs.inner.Sights.{sight_of};
-ghost use Rattle.enclave_build.specs.inner.Build.{Appends, with_added, with_resident};
+ghost use Rattle.enclave_build.specs.inner.Build.{Appends, secs_sight, with_added, with_resident};
+ghost use Rattle.sgx_types.specs.declared.names.TheConstants.{MOST_FRAMES};
+ghost use Rattle.epcm_entry.specs.inner.Sights.{held_in};
+ghost use Rattle.secs_state.specs.inner.Resident.{IsCountedIn};
 
+use crate::secs::secs_refusal;
 use epcm_entry::epc::Epc;
 use measure_log::measure::Measure;
 use secs_state::secs::Secs;
@@ -25,7 +29,8 @@ use sgx_types::names::{Frame, Kind, Page, Perm};
 /// EADD (Intel SDM volume 3D): a free frame becomes page `number` of an enclave that is not initialised, with the bytes
 /// of `init`. The log gets the page's offset and SECINFO.FLAGS, and the page counts as resident.
 ///
-/// Refused, in this order, as BadRange where the frame is past the EPC's end; IsInit; BadKind where the kind is neither TCS
+/// Refused, in this order, as BadRange where the frame is past the EPC's end; Absent where no frame holds the SECS; Conflict
+/// while it is on its way out; IsInit; BadKind where the kind is neither TCS
 /// nor REG, or `init` is of the other; BadPerm for W without R, or a TCS with a permission; BadRange where the page or a
 /// TCS's state save frames are past the enclave's end, or the TCS has none; PageExists where the page was added before;
 /// Conflict where the frame is busy; and FrameBusy where it holds a page.
@@ -39,12 +44,15 @@ pub fn eadd(
     perm: Perm,
     init: PageInit,
 ) -> Result<(), Refusal>
+    requires counted { IsCountedIn (length epc.old) (held_in epc.old) secs.old.enclave secs.old }
+    requires small { length epc.old ≤ MOST_FRAMES }
     ensures row { refusal_in result
-        ≡ first_of_row (add_row number kind perm init (Some (sight_of secs.old)) (is_some (added_at secs.old number))
+        ≡ first_of_row (add_row number kind perm init (Some (sight_of secs.old)) (secs_sight epc.old secs.old.enclave) (is_some (added_at secs.old number))
         (sight_in epc.old frame.0)) }
     ensures done { OnOk result (epc.new ≡ with_added epc.old frame.0 (page_at secs.old.enclave number) kind perm init) }
     ensures secs { OnOk result (secs.new ≡ with_resident secs.old number kind perm) }
     ensures log { OnOk result (Appends log.old log.new (eadd_block (4096 * number) (flags_of kind perm))) }
+    ensures counts { OnOk result (IsCountedIn (length epc.new) (held_in epc.new) secs.new.enclave secs.new) }
     ensures refused { OnErr result ((epc.new ≡ epc.old) × (secs.new ≡ secs.old) × (log.new ≡ log.old)) }
 {
     if let Some(refusal) = add_refusal(epc, secs, number, frame, kind, perm, init) {
@@ -68,12 +76,16 @@ fn add_refusal(
     perm: Perm,
     init: PageInit,
 ) -> Option<Refusal>
+    requires { IsCountedIn (length epc.now) (held_in epc.now) secs.now.enclave secs.now }
     ensures { result
-        ≡ first_of_row (add_row number kind perm init (Some (sight_of secs.now)) (is_some (added_at secs.now number))
+        ≡ first_of_row (add_row number kind perm init (Some (sight_of secs.now)) (secs_sight epc.now secs.now.enclave) (is_some (added_at secs.now number))
         (sight_in epc.now frame.0)) }
 {
     if frame.0 >= epc.frames() {
         return Some(Refusal::BadRange);
+    }
+    if let Some(refusal) = secs_refusal(epc, secs) {
+        return Some(refusal);
     }
     if secs.is_init() {
         return Some(Refusal::IsInit);
@@ -117,15 +129,13 @@ fn put_page(epc: &mut Epc, frame: Frame, page: Page, kind: Kind, perm: Perm, ini
     }
 }
 
-// The page is added and resident. An EPC has at most 4096 frames, so the count does not come to its end; `child_added`
-// needs that.
+// The page is added and resident.
 fn note_page(secs: &mut Secs, number: u32, kind: Kind, perm: Perm)
     requires within { number < page_count secs.old.size }
     requires absent { added_at secs.old number ≡ None }
+    requires few { secs.old.children < 2 ^ 32 - 1 }
     ensures { secs.new ≡ with_resident secs.old number kind perm }
 {
     secs.note_added(number, kind, perm);
-    if secs.children() < u32::MAX {
-        secs.child_added();
-    }
+    secs.child_added();
 }

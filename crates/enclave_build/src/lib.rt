@@ -6,3 +6,4 @@ pub mod build_refusal;
 pub mod create;
 pub mod extend;
 pub mod init;
+pub mod secs;

@@ -2,3 +2,4 @@ mod Marks
 pub mod Words
 mod Frames
 pub mod Columns
+pub mod SecsFrames

@@ -2,7 +2,7 @@
 
 ghost use Rattle.std.specs.Prelude.{◌≡◌, ◌||◌, is_some};
 ghost use Rattle.sgx_types.specs.Pages.{page_at};
-ghost use Rattle.sgx_rules.specs.Frames.{is_page};
+ghost use Rattle.sgx_rules.specs.Frames.{is_page, is_secs_of};
 ghost use Rattle.sgx_rules.specs.Frames.{is_free as holds_nothing};
 ghost use Rattle.sgx_rules.specs.Table.{is_loading, is_reg, is_secs, is_tcs, is_va, perm_in};
 ghost use Rattle.sgx_rules.specs.Table.{is_valid as holds_something};
@@ -106,6 +106,20 @@ impl EntryView {
                 ..
             }
         )
+    }
+
+    /// Whether the frame holds the SECS of this enclave.
+    pub fn is_secs_of(self, enclave: u16) -> bool
+        ensures { result ≡ is_secs_of (held self) enclave }
+    {
+        match self {
+            EntryView::Valid {
+                page,
+                kind: Kind::Secs,
+                ..
+            } => page.enclave == enclave,
+            _ => false,
+        }
     }
 
     pub fn is_secs(self) -> bool

@@ -5,6 +5,9 @@ ghost use Rattle.epcm_entry.specs.inner.EntryView.{is_free, is_busy, is_valid, c
 ghost use Rattle.epcm_entry.specs.inner.Words.{words_of};
 ghost use Rattle.epcm_entry.specs.inner.Epc.{IsEpc, entry_at, word_at, words_at, bytes_at, free_frames, is_free_frame};
 ghost use Rattle.epcm_entry.specs.inner.Epc.{first_free_of, with_entry};
+ghost use Rattle.std.specs.Option.{option_map};
+ghost use Rattle.sgx_rules.specs.Frames.{secs_frame};
+ghost use Rattle.epcm_entry.specs.inner.Sights.{held_in};
 ghost use Rattle.epcm_entry.specs.inner.Epc.{with_page, with_blocked, with_sealing, with_loading, with_word, with_words, cleared};
 
 use crate::entry_view::EntryView;
@@ -79,6 +82,18 @@ impl Epc {
     {
         let number = self.free.first()?;
         Some(Frame(number))
+    }
+
+    /// The frame that holds an enclave's SECS, the least one where more do. None exactly where none does. Looks at each frame's entry.
+    pub fn secs_frame(&self, enclave: u16) -> Option<Frame>
+        ensures { option_map (λ f. f.0) result ≡ secs_frame (length self.now) (held_in self.now) enclave }
+    {
+        for (number, entry) in self.entries.iter().enumerate() {
+            if entry.is_secs_of(enclave) {
+                return Some(Frame(number as u32));
+            }
+        }
+        None
     }
 
     /// The 8 bytes of a frame from byte `8 * index` on, low byte first.

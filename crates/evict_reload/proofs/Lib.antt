@@ -3,3 +3,5 @@ mod StartLaws
 mod TrackLaws
 pub mod PageLaws
 pub mod CallLaws
+pub mod SecsLaws
+pub mod CountLaws

@@ -4,6 +4,7 @@ use Rattle.std.proofs.Common.{refl, sym, ap, ◌∙◌, ⊎_elim}
 use Rattle.std.specs.Prelude.{slice_index_or}
 use Rattle.std.proofs.lemmas.Bool.{cases_lt, cond_both, eqb-true}
 use Rattle.std.proofs.lemmas.List.{get_or-replicate, get_or_past, length-replicate}
+use Rattle.sgx_types.specs.declared.names.TheConstants.{MOST_FRAMES}
 use Rattle.sgx_types.specs.declared.names.Page.{Page}
 use Rattle.sgx_types.specs.declared.names.Perm.{Perm}
 use Rattle.sgx_types.specs.declared.names.Kind.TheVariants as kinds
@@ -15,7 +16,7 @@ use Rattle.epcm_entry.specs.inner.EntryView.{holding, with_block, outgoing}
 use Rattle.epcm_entry.specs.inner.Epc.{EpcFrame, entry_at, with_entry, with_page, with_words, cleared, free_frame, free_frames}
 use Rattle.epcm_entry.specs.inner.Sights.{held, sight_in}
 use Rattle.epcm_entry.proofs.Columns.{entry_at-with_entry, entry_at-with_words, entry_at-cleared}
-use Rattle.version_array.specs.declared.va_page.VaSlot.{VaSlot}
+use Rattle.version_array.specs.declared.va_page.SlotState.{SlotState}
 use Rattle.version_array.specs.inner.Slots.{IsSlot, with_slot}
 use Rattle.version_array.specs.inner.Slots.{with_page as with_va_page}
 use Rattle.version_array.proofs.TableLaws.{has_page-with_slot, has_page-with_page}
@@ -28,21 +29,21 @@ moved epc f n entry same =
     sym (cond_both (f == n) entry (entry_at epc n) (λ v. is_va (held v) ≡ is_va (held (entry_at epc n)))
     (λ e. same ∙ ap (λ k. is_va (held (entry_at epc k))) (eqb-true f n e)) (λ _. refl))
 
-pub pages-with_entry : (epc : List EpcFrame) (va : List (Option (List VaSlot))) (f : ℕ) (entry : EntryView) → AreVaPages epc va
+pub pages-with_entry : (epc : List EpcFrame) (va : List (Option (List SlotState))) (f : ℕ) (entry : EntryView) → AreVaPages epc va
     → f < length epc → is_va (held entry) ≡ is_va (held (entry_at epc f)) → AreVaPages (with_entry epc f entry) va
 pages-with_entry epc va f entry pages low same n =
     pages n ∙ moved epc f n entry same ∙ sym (ap (λ e. is_va (held e)) (entry_at-with_entry epc f n entry low))
 
-pub pages-cleared : (epc : List EpcFrame) (va : List (Option (List VaSlot))) (f : ℕ) → AreVaPages epc va → f < length epc
+pub pages-cleared : (epc : List EpcFrame) (va : List (Option (List SlotState))) (f : ℕ) → AreVaPages epc va → f < length epc
     → is_va (sight_in epc f).content ≡ false → AreVaPages (cleared epc f) va
 pages-cleared epc va f pages low other n =
     pages n ∙ moved epc f n views.Free (sym other) ∙ sym (ap (λ e. is_va (held e)) (entry_at-cleared epc f n low))
 
-pub pages-with_words : (epc : List EpcFrame) (va : List (Option (List VaSlot))) (f : ℕ) (words : List ℕ) → AreVaPages epc va
+pub pages-with_words : (epc : List EpcFrame) (va : List (Option (List SlotState))) (f : ℕ) (words : List ℕ) → AreVaPages epc va
     → AreVaPages (with_words epc f words) va
 pages-with_words epc va f words pages n = pages n ∙ sym (ap (λ e. is_va (held e)) (entry_at-with_words epc f n words))
 
-pub pages-with_slot : (epc : List EpcFrame) (va : List (Option (List VaSlot))) (slot : SlotAt) (content : VaSlot) → AreVaPages epc va
+pub pages-with_slot : (epc : List EpcFrame) (va : List (Option (List SlotState))) (slot : SlotAt) (content : SlotState) → AreVaPages epc va
     → IsSlot va slot → AreVaPages epc (with_slot va slot content)
 pages-with_slot epc va slot content pages at n = has_page-with_slot va slot content n at.paged ∙ pages n
 
@@ -58,10 +59,10 @@ is_va-outgoing (views.Loading page) = refl
 is_va-outgoing (views.Valid page kind perm blocked sealing) = refl
 
 -- a version array page more
-pub pages-with_va : (epc : List EpcFrame) (va : List (Option (List VaSlot))) (f : ℕ) (page : Page) (perm : Perm) → AreVaPages epc va
-    → f < length epc → AreVaPages (with_page epc f page kinds.Va perm) (with_va_page va f)
-pages-with_va epc va f page perm pages low n =
-    has_page-with_page va f n ∙ ap (λ b. (f == n) || b) (pages n) ∙ either (f == n) (entry_at epc n)
+pub pages-with_va : (epc : List EpcFrame) (va : List (Option (List SlotState))) (f : ℕ) (page : Page) (perm : Perm) → AreVaPages epc va
+    → f < length epc → f < MOST_FRAMES → AreVaPages (with_page epc f page kinds.Va perm) (with_va_page va f)
+pages-with_va epc va f page perm pages low few n =
+    has_page-with_page va f n few ∙ ap (λ b. (f == n) || b) (pages n) ∙ either (f == n) (entry_at epc n)
     ∙ sym (ap (λ e. is_va (held e)) (entry_at-with_entry epc f n (holding page kinds.Va perm) low))
   where
     either : (b : Bool) (entry : EntryView) → (b || is_va (held entry)) ≡ is_va (held (cond b (holding page kinds.Va perm) entry))

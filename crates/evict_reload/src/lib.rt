@@ -3,7 +3,9 @@
 #![tactic(auto)]
 
 pub mod block;
+mod child;
 pub mod reload;
+mod secs;
 mod slot;
 pub mod track;
 pub mod write_out;

@@ -7,12 +7,12 @@ use Rattle.sgx_rules.specs.declared.entries.Answer.{Answer}
 use Rattle.sgx_rules.specs.declared.entries.BusWhy.{BusWhy}
 use Rattle.sgx_rules.specs.declared.entries.BusWhy.TheVariants as reasons
 use Rattle.sgx_rules.specs.declared.entries.Entry.{Entry}
-use Rattle.sgx_rules.specs.declared.entries.Event.TheVariants.{Bus}
+use Rattle.sgx_rules.specs.declared.entries.Event.TheVariants.{Bus, Did}
 use Rattle.sgx_types.specs.declared.names.Cpu.{Cpu}
 use Rattle.sgx_types.specs.declared.names.Page.{Page}
 use Rattle.sgx_types.specs.declared.names.SlotAt.{SlotAt}
 use Rattle.sgx_rules.specs.declared.refusals.Refusal.{Refusal}
-use Rattle.sgx_rules.specs.Frames.{content, is_page, least_free}
+use Rattle.sgx_rules.specs.Frames.{content, least_free, stands}
 use Rattle.sgx_types.specs.Making.{Making}
 use Rattle.sgx_rules.specs.inner.Rules.{LoadsAwayRule}
 use Rattle.sgx_types.specs.Sealed.{Sealed}
@@ -39,6 +39,7 @@ use Rattle.driver_rules.specs.Turns.{fetches}
 use Rattle.driver_laws.specs.inner.Kinds.{CanMove}
 use Rattle.driver_laws.specs.inner.Sound.{IsSound, load_slot, slot_if, slot_loading, stands_in}
 use Rattle.driver_laws.proofs.HistoryLaws.{least_is_free}
+use Rattle.driver_laws.proofs.SoundLaws.{own_nowhere, there_own}
 use Rattle.driver_tables.specs.declared.driver.Driver.{Driver}
 use Rattle.driver_tables.specs.inner.Moves.{with_load}
 use Rattle.driver_tables.specs.inner.Tables.{ShowsTables, place_in}
@@ -48,13 +49,13 @@ use Rattle.fault_handler.specs.declared.answers.FaultAnswer.TheVariants as answe
 use Rattle.fault_handler.specs.inner.Due.{IsRight, WaitsBy}
 use Rattle.driver_steps.specs.inner.Agrees.{Agrees}
 use Rattle.fault_handler.specs.inner.Resolving.{IsFetch, IsGot, IsResolved, IsSaid, IsStarted}
-use Rattle.fault_handler.proofs.LoadRows.{frames_are, load_row}
+use Rattle.fault_handler.proofs.LoadRows.{frames_are, load_row, slot_stands}
 
 -- no frame holds or loads a page that is away
 away_apart : (past : List Entry) (g : Page) (slot : SlotAt) → IsSound past → place past g ≡ Away slot → (n : ℕ)
-    → (is_page (content past n) g ≡ false) × (is_load_of (open_start past n) g ≡ false)
+    → (stands (content past n) g ≡ false) × (is_load_of (open_start past n) g ≡ false)
 away_apart past g slot s at n =
-    (s.places.frames g n ∙ ap (λ p. stands_in p n) at, no_slot (open_start past n) (s.places.loads g n ∙ ap (λ p. slot_loading p n) at))
+    (own_nowhere (content past n) g (there_own past g (Away slot) s at refl) (s.places.frames g n ∙ ap (λ p. stands_in p n) at), no_slot (open_start past n) (s.places.loads g n ∙ ap (λ p. slot_loading p n) at))
   where
     by_test : (b : Bool) (x : SlotAt) → slot_if b x ≡ None → b ≡ false
     by_test true x h = cc
@@ -62,7 +63,7 @@ away_apart past g slot s at n =
 
     no_slot : (o : Option Start) → load_slot o g ≡ None → is_load_of o g ≡ false
     no_slot None h = refl
-    no_slot (Some start) h = by_test (is_load_of (Some start) g) start.slot h
+    no_slot (Some start) h = by_test (is_load_of (Some start) g) start.at h
 
 module _ (made : Making) (j : JobView) (past : List Entry) (d d' : Driver) (m m' : Parts) (r : Agrees made j past d m) (cpu : Cpu)
     (page : Page)
@@ -111,17 +112,18 @@ module _ (made : Making) (j : JobView) (past : List Entry) (d d' : Driver) (m m'
           not_refused,
         );
         kept = (
-          subst (λ (e : Entry). CanMove past e.event) (sym did) (least_is_free (content past) j.epc f least, at),
+          subst (λ (e : Entry). CanMove past e.event) (sym did) can,
           subst (λ (e : Entry). LoadsAwayRule past e) (sym did) (away_apart past page slot r.sound at),
         );
         shows = λ idle. subst (λ (e : Entry). ShowsTables j (with_load d cpu page slot (frame_at f) rec) (e ∷ past)) (sym did)
-            (shows_load_start j d past cpu (frame_at f) page slot version rec
-            (least_is_free (content past) j.epc f least, at) r.sound here room
-            r.shows);
+            (shows_load_start j d past cpu (frame_at f) page slot version rec can r.sound here room r.shows);
       }))
     where
       version : Answer
       version = answer_of (state_of m) (actors.Cpu cpu) (EldStart (frame_at f) page slot)
+
+      can : CanMove past (Did (EldStart (frame_at f) page slot) version)
+      can = (least_is_free (content past) j.epc f least, at, slot_stands made j past d m r page slot at)
 
       did : is.entry ≡ did_by (actors.Cpu cpu) (EldStart (frame_at f) page slot) version
       did = by_row (first_of_row (row_of (state_of m) (actors.Cpu cpu) (EldStart (frame_at f) page slot)))

@@ -1,5 +1,5 @@
 -- The end of a load is what is due, and what its entry keeps.
-use Rattle.std.proofs.Common.{◌≡◌, ℕ, ◌+◌, ◌<◌, not, Bool, true, false, if◌then◌else◌, List, ◌∷◌, Option, None}
+use Rattle.std.proofs.Common.{◌≡◌, ℕ, ◌<◌, not, Bool, true, false, if◌then◌else◌, List, ◌∷◌, Option, None}
 use Rattle.std.proofs.Common.{Some, MatchOption, ⊎_elim, ◌⊎◌, inl, inr, length, is_some, refl, sym, ap, subst, ◌∙◌}
 use Rattle.std.proofs.lemmas.Bool.{eq-eqb}
 use Rattle.std.specs.Str.{bytes_eq}
@@ -15,14 +15,13 @@ use Rattle.sgx_types.specs.declared.names.Page.{Page}
 use Rattle.sgx_types.specs.declared.names.SlotAt.{SlotAt}
 use Rattle.sgx_rules.specs.declared.refusals.Refusal.{Refusal}
 use Rattle.sgx_rules.specs.declared.refusals.Refusal.TheVariants as why
-use Rattle.sgx_rules.specs.Frames.{content}
+use Rattle.sgx_rules.specs.Frames.{content, reloaded}
 use Rattle.sgx_types.specs.Making.{Making}
 use Rattle.sgx_types.specs.Sealed.{Sealed}
 use Rattle.sgx_rules.specs.Starts.{Start, open_start}
 use Rattle.sgx_rules.specs.inner.Starts.{BareStart}
 use Rattle.sgx_rules.specs.Table.{first_of_row, is_loading}
 use Rattle.sgx_rules.proofs.Busy.{IsBareOf}
-use Rattle.epcm_entry.specs.inner.Words.{words_of}
 use Rattle.job_grammar.specs.Jobs.{JobView}
 use Rattle.active_list.specs.inner.Keeping.{Kept, keeping, kept_at, page_kept}
 use Rattle.active_list.specs.inner.Places.{IsPlaced}
@@ -194,9 +193,9 @@ module _ (made : Making) (j : JobView) (past : List Entry) (d d' : Driver) (m : 
   -- it is known of the entry which of the two it is
   by_entry : IsDoneEnd cpu f page is.entry ⊎ IsRefusedEnd cpu f page is.entry
   by_entry =
-      by_row (t ≡ after_eld (state_of m) f.0 is.reloaded.coming.start is.reloaded.coming.page is.reloaded.coming.kind
-      is.reloaded.coming.perm
-      (words_of (cipher (state_of m).key is.reloaded.coming.start.version rec.cipher)))
+      by_row (t ≡ after_eld (state_of m) f.0 is.reloaded.coming.start
+      (reloaded is.reloaded.coming.page ((state_of m).added is.reloaded.coming.page))
+      (cipher (state_of m).key is.reloaded.coming.start.version rec.cipher))
       (λ refusal. t ≡ after_failed_eld (state_of m) f.0 is.reloaded.coming.start)
       (first_of_row (commit_row (state_of m) f.0 is.reloaded.coming rec)) refl is.reloaded.row
     where

@@ -4,21 +4,19 @@ use Rattle.std.proofs.lemmas.Option.{same_Some}
 use Rattle.sgx_types.proofs.Pages.{same_pages}
 use Rattle.sgx_rules.specs.declared.entries.Entry.{Entry}
 use Rattle.sgx_types.specs.declared.names.Cpu.{Cpu}
-use Rattle.sgx_types.specs.declared.names.Kind.{Kind}
 use Rattle.sgx_types.specs.declared.names.Page.{Page}
-use Rattle.sgx_types.specs.declared.names.Perm.{Perm}
 use Rattle.sgx_types.specs.declared.names.SlotAt.{SlotAt}
-use Rattle.sgx_rules.specs.Flat.{FlatEnclave, FlatPage, added_as, flat, header_by}
+use Rattle.sgx_rules.specs.Frames.{is_this}
+use Rattle.sgx_rules.specs.PageBytes.{header_at}
 use Rattle.sgx_types.specs.Pages.{same_page}
 use Rattle.sgx_rules.specs.Fresh.{Out, last_out}
 use Rattle.sgx_types.specs.Making.{Making}
-use Rattle.sgx_types.specs.Sealed.{Sealed, header_of}
-use Rattle.sgx_rules.specs.Slots.{version_in}
-use Rattle.sgx_rules.specs.Starts.{Start, loads_page, open_start}
+use Rattle.sgx_types.specs.Sealed.{Sealed}
+use Rattle.driver_laws.specs.inner.ByFrame.{version_in}
+use Rattle.sgx_rules.specs.Starts.{Start, open_start}
 use Rattle.sgx_rules.specs.inner.Starts.{BareStart}
 use Rattle.seal_record.specs.Cipher.{tag}
-use Rattle.paging_laws.specs.inner.Columns.{EnclaveColumns}
-use Rattle.paging_laws.proofs.ColumnLaws.{added_is}
+use Rattle.paging_laws.proofs.MoveEnds.{headers_agree}
 use Rattle.paging_laws.specs.inner.State.{State}
 use Rattle.paging_laws.specs.inner.Steps.{IsComing}
 use Rattle.paging_laws.proofs.SlotLaws.{started_as}
@@ -48,25 +46,15 @@ out_of : (o : Option Out) (version : ℕ) → version_out o ≡ Some version →
 out_of None version h = cc
 out_of (Some x) version h = (x, refl, same_Some x.version version h)
 
--- the header that flat memory has of a page that was added so
-header_seen : (o : Option FlatEnclave) (x : Option FlatPage) (g : Page) (enclave : FlatEnclave) (kind : Kind) (perm : Perm)
-    → o ≡ Some enclave → added_as x ≡ Some (kind, perm) → header_by o g x ≡ Some (header_of enclave.base g kind perm)
-header_seen None x g enclave kind perm made kinded = cc
-header_seen (Some y) None g enclave kind perm made kinded = cc
-header_seen (Some y) (Some x) g enclave kind perm made kinded =
-    let same : y ≡ enclave = same_Some y enclave made in
-    let kinds : (x.kind, x.perm) ≡ (kind, perm) = same_Some (x.kind, x.perm) (kind, perm) kinded in
-    λ i. Some (header_of (same i).base g ((kinds i).0) ((kinds i).1))
-
 -- the page and the slot of the open start of a load
-start_of : (x : Start) (g : Page) (slot : SlotAt) → load_slot (Some x) g ≡ Some slot → (x.loads ≡ Some g) × (x.slot ≡ slot)
+start_of : (x : Start) (g : Page) (slot : SlotAt) → load_slot (Some x) g ≡ Some slot → (x.loads ≡ Some g) × (x.at ≡ slot)
 start_of x g slot h = by_loads x.loads refl h
   where
-    by_page : (page : Page) (b : Bool) → same_page page g ≡ b → slot_if b x.slot ≡ Some slot → (Some page ≡ Some g) × (x.slot ≡ slot)
-    by_page page true is k = (ap Some (same_pages page g is), same_Some x.slot slot k)
+    by_page : (page : Page) (b : Bool) → same_page page g ≡ b → slot_if b x.at ≡ Some slot → (Some page ≡ Some g) × (x.at ≡ slot)
+    by_page page true is k = (ap Some (same_pages page g is), same_Some x.at slot k)
     by_page page false is k = cc
 
-    by_loads : (l : Option Page) → x.loads ≡ l → slot_if (loads_page l g) x.slot ≡ Some slot → (l ≡ Some g) × (x.slot ≡ slot)
+    by_loads : (l : Option Page) → x.loads ≡ l → slot_if (is_this l g) x.at ≡ Some slot → (l ≡ Some g) × (x.at ≡ slot)
     by_loads None is k = cc
     by_loads (Some page) is k = by_page page (same_page page g) refl k
 
@@ -100,7 +88,7 @@ module _ (made : Making) (j : JobView) (past : List Entry) (calls : List Call) (
   opened : open_start past can.frame.0 ≡ Some its.start
   opened = its.opened
 
-  start : (its.start.loads ≡ Some page) × (its.start.slot ≡ can.slot)
+  start : (its.start.loads ≡ Some page) × (its.start.at ≡ can.slot)
   start =
       start_of its.start page can.slot
       (sym (ap (λ o. load_slot o page) opened) ∙ load_at past can.frame.0 page can.slot r.sound at)
@@ -113,21 +101,11 @@ module _ (made : Making) (j : JobView) (past : List Entry) (calls : List Call) (
       sym (ap (λ (y : BareStart). y.version) its.same) ∙ r.used.found can.frame.0 its.start page opened start.0
       ∙ ap (version_in past) start.1 ∙ sym out.2
 
-  made_flat : (flat past).enclaves page.enclave ≡ Some coming.enclave
-  made_flat =
-      sym (seen.enclaves page.enclave) ∙ sym (ap (λ (c : EnclaveColumns). c.enclaves page.enclave) r.follows.shape.columns.enclaves)
-      ∙ ap (λ (g : Page). s.enclaves g.enclave) (sym its_page) ∙ coming.made
-
-  added_flat : added_as ((flat past).pages page) ≡ Some (coming.kind, coming.perm)
-  added_flat =
-      sym (seen.pages page) ∙ sym (added_is r.follows.shape.columns page) ∙ ap s.added (sym its_page) ∙ coming.added
-
   headed : put.rec.header ≡ coming.header
   headed =
-      same_Some put.rec.header (header_of coming.enclave.base page coming.kind coming.perm)
-      (sym put.sealed.header ∙ header_seen ((flat past).enclaves page.enclave) ((flat past).pages page) page coming.enclave coming.kind
-      coming.perm made_flat added_flat)
-      ∙ ap (λ g. header_of coming.enclave.base g coming.kind coming.perm) (sym its_page) ∙ sym coming.headed
+      same_Some put.rec.header coming.header
+      (sym put.sealed.header ∙ ap (header_at past) (sym its_page)
+      ∙ sym (headers_agree s past r.follows.shape.columns seen coming.page) ∙ coming.headed)
 
   tagged : put.rec.tag ≡ tag s.key coming.start.version put.rec.header put.rec.cipher
   tagged =

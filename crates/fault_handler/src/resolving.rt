@@ -72,6 +72,7 @@ fn fetch<B: Backing>(
 ) -> Result<FaultAnswer, Memory>
     requires room { cpu.0 < length driver.old.kept }
     requires placed { IsPlaced driver.old.states.counts page }
+    requires named { 1 ≤ page.enclave }
     ensures does { IfOk result (λ answer. IsFetch cpu page slot (least_free (state_of machine.old).frames (state_of machine.old).content)
         driver.old machine.old (B.told store.old) answer driver.new machine.new (B.told store.new)) }
     ensures cpus { length machine.new.cpus ≡ length machine.old.cpus }
@@ -108,6 +109,7 @@ fn start(
 ) -> FaultAnswer
     requires room { cpu.0 < length driver.old.kept }
     requires placed { IsPlaced driver.old.states.counts page }
+    requires named { 1 ≤ page.enclave }
     ensures does { IsStarted cpu page slot frame rec driver.old machine.old result driver.new machine.new }
     ensures cpus { length machine.new.cpus ≡ length machine.old.cpus }
 {

@@ -1,6 +1,6 @@
 -- What the steps of the code do to the memory is what the rows of flat memory say.
-use Rattle.std.proofs.Common.{ℕ, ◌≡◌, ◌≤◌, ◌<◌, ◌/◌, ◌==◌, ◌||◌, not, ◌⊎◌, inl, inr, refl, sym, ap}
-use Rattle.std.proofs.Common.{◌∙◌, arith, cond, Bool, true, false, Option, Some, None, is_some, List, [], ◌∷◌, length, set}
+use Rattle.std.proofs.Common.{ℕ, ◌≡◌, ◌≤◌, ◌<◌, ◌/◌, ◌==◌, not, ◌⊎◌, inl, inr, refl, sym, ap}
+use Rattle.std.proofs.Common.{◌∙◌, arith, cond, Bool, true, false, Option, Some, None, is_some, List, [], length, set}
 use Rattle.std.proofs.Common.{get_or, replicate}
 use Rattle.std.proofs.lemmas.Bool.{cond_both, cases_lt, eqb-true, false≢true, ltb-true, leb-true}
 use Rattle.std.proofs.lemmas.List.{get_or_past, nil_from_length}
@@ -13,7 +13,7 @@ use Rattle.sgx_types.specs.Pages.{same_page, page_at}
 use Rattle.sgx_rules.specs.Table as table
 use Rattle.sgx_types.specs.Lawful as limits
 use Rattle.sgx_rules.specs.Table.{first_of_row, create_row, add_row}
-use Rattle.sgx_rules.specs.Flat.{FlatMemory, FlatPage, FlatEnclave, open_frame, enclave_sight_of, marked, initialised}
+use Rattle.sgx_rules.specs.Flat.{settled, FlatMemory, FlatPage, FlatEnclave, open_frame, enclave_sight_of, marked, initialised}
 use Rattle.sgx_rules.specs.Flat.{with_enclave}
 use Rattle.sgx_rules.specs.Flat.{with_page, with_busy, with_cpu, with_words, rewritten, left, is_inside_by}
 use Rattle.flat_machine.specs.declared.table.PlainPage.{PlainPage}
@@ -121,22 +121,22 @@ no_page None h = refl
 no_page (Some x) h = cc
 
 pub adds : (d : FlatParts) (e number : ℕ) (kind : Kind) (perm : Perm) (init : PageInit)
-    → first_of_row (add_row number kind perm init (enclave_sight_of (enclave_of (get_or d.enclaves e None)))
+    → first_of_row (add_row number kind perm init (enclave_sight_of (enclave_of (get_or d.enclaves e None))) settled
     (is_some (page_of (look d.tables (page_at e number)))) open_frame) ≡ None → Adds d e number
 adds d e number kind perm init allowed = by_enclave (get_or d.enclaves e None) refl allowed
   where
     by_enclave : (o : Option Enclave) → get_or d.enclaves e None ≡ o
-        → first_of_row (add_row number kind perm init (enclave_sight_of (enclave_of o))
+        → first_of_row (add_row number kind perm init (enclave_sight_of (enclave_of o)) settled
         (is_some (page_of (look d.tables (page_at e number)))) open_frame) ≡ None → Adds d e number
     by_enclave None is k = absurd (false≢true (sym
-        (none_holds (add_row number kind perm init None (is_some (page_of (look d.tables (page_at e number)))) open_frame) k).1.0))
+        (none_holds (add_row number kind perm init None settled (is_some (page_of (look d.tables (page_at e number)))) open_frame) k).1.0))
     by_enclave (Some x) is k =
-        let none = none_holds (add_row number kind perm init (Some (record { size = x.size; is_init = x.is_init }))
+        let none = none_holds (add_row number kind perm init (Some (record { size = x.size; is_init = x.is_init })) settled
         (is_some (page_of (look d.tables (page_at e number)))) open_frame) k in
         record {
           place = place_of d.enclaves e _ (ap enclave_of is);
-          within = rw is (is_within_below x.size number init (not_false _ none.1.1.1.1.0));
-          new = no_page (look d.tables (page_at e number)) none.1.1.1.1.1.0;
+          within = rw is (is_within_below x.size number init (not_false _ none.1.1.1.1.1.1.0));
+          new = no_page (look d.tables (page_at e number)) none.1.1.1.1.1.1.1.0;
         }
 
 -- a page that is put where nothing was

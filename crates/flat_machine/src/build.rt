@@ -4,7 +4,7 @@ ghost use Rattle.std.specs.Prelude.{◌≡◌, ◌<◌, false, is_some, IfOk, On
 ghost use Rattle.sgx_rules.specs.declared.entries.Answer.TheVariants as answers;
 ghost use Rattle.sgx_types.specs.Pages.{page_at};
 ghost use Rattle.sgx_rules.specs.Table.{first_of_row, create_row, add_row, extend_row, init_row};
-ghost use Rattle.sgx_rules.specs.Flat.{open_frame, some_page, enclave_sight, first_words, with_enclave, with_page, initialised};
+ghost use Rattle.sgx_rules.specs.Flat.{open_frame, settled, some_page, enclave_sight, first_words, with_enclave, with_page, initialised};
 ghost use Rattle.flat_machine.specs.inner.Parts.{memory_of};
 ghost use Rattle.flat_machine.specs.inner.Step.{replied, taken};
 
@@ -52,10 +52,10 @@ impl Flat {
         init: PageInit,
     ) -> Result<FlatReply, Memory>
         ensures reply { IfOk result (λ reply. reply ≡ replied
-            (first_of_row (add_row number kind perm init (enclave_sight (memory_of self.old) enclave)
+            (first_of_row (add_row number kind perm init (enclave_sight (memory_of self.old) enclave) settled
             (is_some ((memory_of self.old).pages (page_at enclave number))) open_frame)) answers.Plain) }
         ensures memory { OnOk result (memory_of self.new ≡ taken
-            (first_of_row (add_row number kind perm init (enclave_sight (memory_of self.old) enclave)
+            (first_of_row (add_row number kind perm init (enclave_sight (memory_of self.old) enclave) settled
             (is_some ((memory_of self.old).pages (page_at enclave number))) open_frame))
             (with_page (memory_of self.old) (page_at enclave number) (record { kind = kind; perm = perm; words = first_words init }))
             (memory_of self.old)) }
@@ -70,8 +70,8 @@ impl Flat {
 
     /// An enclave is initialised (EINIT). Its measurement is not counted.
     pub(crate) fn init(&mut self, enclave: u16) -> FlatReply
-        ensures reply { result ≡ replied (first_of_row (init_row (enclave_sight (memory_of self.old) enclave))) answers.Plain }
-        ensures memory { memory_of self.new ≡ taken (first_of_row (init_row (enclave_sight (memory_of self.old) enclave)))
+        ensures reply { result ≡ replied (first_of_row (init_row (enclave_sight (memory_of self.old) enclave) settled)) answers.Plain }
+        ensures memory { memory_of self.new ≡ taken (first_of_row (init_row (enclave_sight (memory_of self.old) enclave) settled))
             (initialised (memory_of self.old) enclave) (memory_of self.old) }
     {
         if let Some(refusal) = self.init_refusal(enclave) {
@@ -101,7 +101,7 @@ impl Flat {
         perm: Perm,
         init: PageInit,
     ) -> Option<Refusal>
-        ensures { result ≡ first_of_row (add_row number kind perm init (enclave_sight (memory_of self.now) enclave)
+        ensures { result ≡ first_of_row (add_row number kind perm init (enclave_sight (memory_of self.now) enclave) settled
             (is_some ((memory_of self.now).pages (page_at enclave number))) open_frame) }
     {
         let Some(found) = self.enclave(enclave) else {
@@ -126,7 +126,7 @@ impl Flat {
     }
 
     fn init_refusal(&self, enclave: u16) -> Option<Refusal>
-        ensures { result ≡ first_of_row (init_row (enclave_sight (memory_of self.now) enclave)) }
+        ensures { result ≡ first_of_row (init_row (enclave_sight (memory_of self.now) enclave) settled) }
     {
         match self.enclave(enclave) {
             None => Some(Refusal::Absent),
@@ -169,7 +169,7 @@ impl Flat {
         perm: Perm,
         init: PageInit,
     ) -> Result<(), Memory>
-        requires { first_of_row (add_row number kind perm init (enclave_sight (memory_of self.old) enclave)
+        requires { first_of_row (add_row number kind perm init (enclave_sight (memory_of self.old) enclave) settled
             (is_some ((memory_of self.old).pages (page_at enclave number))) open_frame) ≡ None }
         ensures done { OnOk result (memory_of self.new ≡ with_page (memory_of self.old) (page_at enclave number)
             (record { kind = kind; perm = perm; words = first_words init })) }
@@ -188,7 +188,7 @@ impl Flat {
     }
 
     fn set_init(&mut self, enclave: u16)
-        requires { first_of_row (init_row (enclave_sight (memory_of self.old) enclave)) ≡ None }
+        requires { first_of_row (init_row (enclave_sight (memory_of self.old) enclave) settled) ≡ None }
         ensures { memory_of self.new ≡ initialised (memory_of self.old) enclave }
     {
         let found = self.enclave(enclave).unwrap();

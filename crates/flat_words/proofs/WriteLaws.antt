@@ -23,7 +23,7 @@ use Rattle.sgx_rules.specs.declared.refusals.Refusal.{Refusal}
 use Rattle.sgx_rules.specs.Table.{EnclaveSight, first_of_row, add_row}
 use Rattle.sgx_rules.proofs.Rows.{none_holds}
 use Rattle.sgx_rules.specs.Flat.{FlatMemory, FlatPage, Inside, accepts, memory_after, event_after, cpu_after, with_words, rewritten}
-use Rattle.sgx_rules.specs.Flat.{word_index, fields_in, stored, saved, first_words, open_frame, enclave_sight}
+use Rattle.sgx_rules.specs.Flat.{word_index, fields_in, stored, saved, first_words, open_frame, settled, enclave_sight}
 use Rattle.flat_words.specs.declared.writes.NewPage.{NewPage}
 use Rattle.flat_words.specs.Words.{word_of, word_in}
 use Rattle.flat_words.specs.Writes.{is_touched, writes_of, cpu_writes, touched, new_page, added_by, word_with, save_words, word_at_offset}
@@ -123,11 +123,11 @@ free (Some why) h = cc
 
 -- the row of `add` refuses a page that is there
 new_by : (number : ℕ) (kind : Kind) (perm : Perm) (init : PageInit) (enclave : Option EnclaveSight) (page : Option FlatPage)
-    → first_of_row (add_row number kind perm init enclave (is_some page) open_frame) ≡ None → page ≡ None
+    → first_of_row (add_row number kind perm init enclave settled (is_some page) open_frame) ≡ None → page ≡ None
 new_by number kind perm init None page taken =
-    absurd (false≢true (sym (none_holds (add_row number kind perm init None (is_some page) open_frame) taken).1.0))
+    absurd (false≢true (sym (none_holds (add_row number kind perm init None settled (is_some page) open_frame) taken).1.0))
 new_by number kind perm init (Some x) page taken =
-    no_page page (none_holds (add_row number kind perm init (Some x) (is_some page) open_frame) taken).1.1.1.1.1.0
+    no_page page (none_holds (add_row number kind perm init (Some x) settled (is_some page) open_frame) taken).1.1.1.1.1.1.1.0
 
 taken_new : (m : FlatMemory) (actor : Actor) (action : Action) (x : NewPage) → accepts m actor action ≡ true
     → new_page action ≡ Some x → m.pages (page_at x.enclave x.number) ≡ None

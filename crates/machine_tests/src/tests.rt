@@ -3,6 +3,7 @@
 mod building;
 mod digests;
 mod instructions;
+mod leaving;
 mod paging;
 mod rows;
 mod running;

@@ -15,7 +15,7 @@ use Rattle.sgx_types.specs.declared.names.Frame.{Frame}
 use Rattle.sgx_types.specs.declared.names.Page.{Page}
 use Rattle.sgx_types.specs.declared.names.Kind.TheVariants.{Reg}
 use Rattle.sgx_types.specs.declared.names.Perm.{Perm}
-use Rattle.sgx_rules.specs.Flat.{bytes_at, flat, words_of}
+use Rattle.sgx_rules.specs.Flat.{flat_bytes, flat, words_of}
 use Rattle.measure_log.specs.Blocks.{ecreate_block, eadd_block, eextend_block, chunk_of}
 use Rattle.measure_log.specs.Log.{log_of}
 use Rattle.measure_log.specs.Rule.{log, measurement, MeasureRule}
@@ -77,7 +77,7 @@ words_worked : words_of (flat built) page_two ≡ replicate 512 7
 unfolding lib.Count.ones
 words_worked = refl
 
-bytes_worked : bytes_at built page_two ≡ page_bytes
+bytes_worked : flat_bytes built page_two ≡ page_bytes
 bytes_worked = ap (flat_map (to_le_bytes w64)) words_worked
 
 first_bytes : take 9 page_bytes ≡ 7 ∷ 0 ∷ 0 ∷ 0 ∷ 0 ∷ 0 ∷ 0 ∷ 0 ∷ 7 ∷ []

@@ -8,7 +8,7 @@ use Rattle.sgx_rules.specs.declared.entries.Answer.TheVariants.{Hash}
 use Rattle.sgx_rules.specs.declared.refusals.Refusal.TheVariants.{BadMeasure}
 use Rattle.sgx_types.specs.declared.names.Page.{Page}
 use Rattle.sgx_rules.specs.Frames.{content, page_of}
-use Rattle.sgx_rules.specs.Flat.{bytes_at}
+use Rattle.sgx_rules.specs.Flat.{flat_bytes}
 use Rattle.measure_log.specs.Log.{log_of}
 use Rattle.measure_log.specs.Measure.{measurement_of}
 
@@ -18,7 +18,7 @@ page_in past frame = page_of (content past frame)
 
 -- the measurement log of an enclave
 abbrev pub log : List Entry → ℕ → List ℕ
-log = log_of page_in bytes_at
+log = log_of page_in flat_bytes
 
 -- the SHA-256 of that log
 abbrev pub measurement : List Entry → ℕ → List ℕ

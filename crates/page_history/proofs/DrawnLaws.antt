@@ -12,12 +12,14 @@ use Rattle.sgx_rules.specs.declared.entries.Event.TheVariants.{Did, Refused}
 use Rattle.sgx_types.specs.declared.names.Frame.{Frame}
 use Rattle.sgx_types.specs.declared.names.Page.{Page}
 use Rattle.sgx_types.specs.declared.names.SlotAt.{SlotAt}
+use Rattle.sgx_types.specs.declared.names.VaSlot.{VaSlot}
 use Rattle.sgx_rules.specs.Rules.{EndsWriteOut, EvictRule, RisingRule}
 use Rattle.sgx_rules.specs.Slots.{is_draw, next_version}
-use Rattle.sgx_rules.specs.Starts.{Start, open_start, version_told}
+use Rattle.sgx_rules.specs.Starts.{Start, open_start, slot_found, started, version_told}
+use Rattle.sgx_rules.specs.Frames.{content}
 use Rattle.sgx_types.specs.Making.{Making}
 use Rattle.page_history.specs.inner.Once.{DrawnOnce, Gone, IsGone, KeepsMoves, gone}
-use Rattle.page_history.proofs.OpenStarts.{any_cases, apart_frames, ended_cases, entry_of, opened_cases}
+use Rattle.page_history.proofs.OpenStarts.{any_cases, apart_frames, ended_cases, entry_of}
 
 -- the next version is not below the first
 pub first_below : (first : ℕ) (past : List Entry) → first ≤ next_version first past
@@ -43,28 +45,31 @@ fewer_drawn first past e opens goes next h = record {
 }
 
 -- a load that starts ends the start of a write-out, if any
-load_opened : (b : Bool) (new : Start) (page : Page) (old : Option Start) (x : Start) → new.loads ≡ Some page
-    → cond b (Some new) old ≡ Some x → x.loads ≡ None → old ≡ Some x
-load_opened true new page old x loads is writes = cc
-load_opened false new page old x loads is writes = is
+load_opened : (b : Bool) (actor : Actor) (place : ℕ) (at : SlotAt) (answer : Answer) (page : Page) (o : Option VaSlot) (old : Option Start)
+    (x : Start)
+    → cond b (started actor place at answer (Some page) o) old ≡ Some x → x.loads ≡ None → old ≡ Some x
+load_opened true actor place at answer page None old x is writes = cc is
+load_opened true actor place at answer page (Some slot) old x is writes = cc (is, writes)
+load_opened false actor place at answer page o old x is writes = is
 
 -- a write-out starts with the next version
 module _ (first : ℕ) (past : List Entry) (actor : Actor) (f : Frame) (slot : SlotAt) (answer : Answer)
     (told : answer ≡ Version (next_version first past)) (h : DrawnOnce first past) where
-  abbrev drawn : Start
-  drawn = record { slot = slot; version = version_told answer; loads = None; place = length past; actor = actor }
-
   abbrev later : List Entry
   later = entry_of actor (Did (EwbStart f slot) answer) ∷ past
 
   -- an open start of a write-out is this one, with the next version, or one from before
   new_or_old : (n : ℕ) (x : Start) → open_start later n ≡ Some x
       → ((f.0 ≡ n) × (x.version ≡ next_version first past)) ⊎ (open_start past n ≡ Some x)
-  new_or_old n x is = elim (opened_cases (f.0 == n) drawn x (open_start past n) is)
-      as (λ _. ((f.0 ≡ n) × (x.version ≡ next_version first past)) ⊎ (open_start past n ≡ Some x)) [
-        | inl k ↦ inl (eqb-true f.0 n k.0, sym (ap (λ (y : Start). y.version) k.1) ∙ ap version_told told)
-        | inr k ↦ inr k.1
-      ]
+  new_or_old n x is = by_slot (slot_found (content past) slot) (f.0 == n) refl is
+    where
+      by_slot : (o : Option VaSlot) (b : Bool) → (f.0 == n) ≡ b
+          → cond b (started actor (length past) slot answer None o) (open_start past n) ≡ Some x
+          → ((f.0 ≡ n) × (x.version ≡ next_version first past)) ⊎ (open_start past n ≡ Some x)
+      by_slot None true e k = cc k
+      by_slot (Some s) true e k =
+          let version : version_told answer ≡ x.version = cc k in inl (eqb-true f.0 n e, sym version ∙ ap version_told told)
+      by_slot o false e k = inr k
 
   -- no two open starts have one version
   apart_still : (m n : ℕ) (x y : Start) → open_start later m ≡ Some x → open_start later n ≡ Some y → x.loads ≡ None → y.loads ≡ None
@@ -164,9 +169,8 @@ drawn_still first past actor (Did (Ewb f) answer) rising evict h =
     (λ x is. is) refl h
 drawn_still first past actor (Did (EldStart f page slot) answer) rising evict h =
     fewer_drawn first past (entry_of actor (Did (EldStart f page slot) answer))
-    (λ n x is writes. load_opened (f.0 == n)
-    (record { slot = slot; version = version_told answer; loads = Some page; place = length past; actor = actor }) page
-    (open_start past n) x refl is writes) (λ x is. is) refl h
+    (λ n x is writes. load_opened (f.0 == n) actor (length past) slot answer page (slot_found (content past) slot) (open_start past n) x is
+    writes) (λ x is. is) refl h
 drawn_still first past actor (Did (Eld f) answer) rising evict h =
     fewer_drawn first past (entry_of actor (Did (Eld f) answer)) (λ n x is writes. (ended_cases (f.0 == n) x (open_start past n) is).1)
     (λ x is. is) refl h

@@ -18,13 +18,15 @@ use Rattle.sgx_types.specs.declared.record.Header.{Header}
 use Rattle.sgx_rules.specs.Flat.{FlatEnclave, FlatMemory, FlatPage, Inside, accepts, added_as, at_offset, build_after, cpu_after}
 use Rattle.sgx_rules.specs.Flat.{enclave_sight, event_after, fields_in, first_words, flat, flat_build_row, header_by, header_in}
 use Rattle.sgx_rules.specs.Flat.{marked}
-use Rattle.sgx_rules.specs.Flat.{memory_after, open_frame, rewritten, saved, stored, sum_of, with_cssa, with_words, word_index}
-use Rattle.sgx_rules.specs.Flat.{word_seen}
-use Rattle.sgx_types.specs.Pages.{page_at, same_page}
+use Rattle.sgx_rules.specs.Flat.{memory_after, open_frame, rewritten, saved, settled, stored, sum_of, with_cssa, with_words}
+use Rattle.sgx_rules.specs.Flat.{word_index, word_seen}
+use Rattle.sgx_rules.specs.inner.Enclaves.{created}
+use Rattle.sgx_types.specs.Pages.{is_secs_page, is_va_page, page_at, same_page}
 use Rattle.sgx_rules.specs.Frames.{added}
+use Rattle.sgx_rules.specs.PageBytes.{header_at, secs_header, va_header}
 use Rattle.sgx_rules.specs.Rules.{Along, FlatRule}
 use Rattle.sgx_types.specs.Sealed.{header_of}
-use Rattle.sgx_rules.specs.Table.{EnclaveSight, FrameSight, add_row, first_of_row}
+use Rattle.sgx_rules.specs.Table.{EnclaveSight, FrameSight, SecsSight, add_row, first_of_row}
 use Rattle.sgx_types.proofs.Pages.{same_page-swap, same_pages}
 use Rattle.sgx_rules.proofs.Rows.{NoneHolds, none_holds}
 use Rattle.page_history.proofs.OpenStarts.{entry_of}
@@ -85,13 +87,15 @@ added_one : (b : Bool) (x : FlatPage) (o : Option FlatPage) → cond b (Some (x.
 added_one true x o = refl
 added_one false x o = refl
 
--- flat memory takes an event that adds a page
-abbrev pub TakesAdds : FlatMemory → Actor → Event → Type 0
-TakesAdds m actor (Did (Add enclave number f kind perm init) answer) = accepts m actor (Add enclave number f kind perm init) ≡ true
-TakesAdds m actor event = Unit {0}
+-- flat memory takes an event that builds: one that creates an enclave, initialises it or adds a page
+abbrev pub TakesBuilds : FlatMemory → Actor → Event → Type 0
+TakesBuilds m actor (Did (Create enclave f base size) answer) = accepts m actor (Create enclave f base size) ≡ true
+TakesBuilds m actor (Did (Add enclave number f kind perm init) answer) = accepts m actor (Add enclave number f kind perm init) ≡ true
+TakesBuilds m actor (Did (Init enclave expect) answer) = accepts m actor (Init enclave expect) ≡ true
+TakesBuilds m actor event = Unit {0}
 
 -- a done `add` adds the page, and no other entry does
-pub added_next : (past : List Entry) (actor : Actor) (event : Event) (g : Page) → TakesAdds (flat past) actor event
+pub added_next : (past : List Entry) (actor : Actor) (event : Event) (g : Page) → TakesBuilds (flat past) actor event
     → added past g ≡ added_as ((flat past).pages g)
     → added (entry_of actor event ∷ past) g ≡ added_as ((flat (entry_of actor event ∷ past)).pages g)
 added_next past actor (Did (Add enclave number f kind perm init) answer) g taken h =
@@ -101,16 +105,72 @@ added_next past actor (Did (Add enclave number f kind perm init) answer) g taken
 added_next past actor (Did action answer) g taken h = h ∙ sym (event_kinds actor action answer (flat past) g refl)
 added_next past actor event g taken h = h
 
--- where flat memory answers, it takes each `add`
-answered_adds : (past : List Entry) (actor : Actor) (event : Event) → FlatRule past (entry_of actor event)
-    → TakesAdds (flat past) actor event
-answered_adds past actor (Did (Add enclave number f kind perm init) answer) rule = (rule refl).taken
-answered_adds past actor event rule = tt
+-- where flat memory answers, it takes each event that builds
+answered_builds : (past : List Entry) (actor : Actor) (event : Event) → FlatRule past (entry_of actor event)
+    → TakesBuilds (flat past) actor event
+answered_builds past actor (Did (Create enclave f base size) answer) rule = (rule refl).taken
+answered_builds past actor (Did (Add enclave number f kind perm init) answer) rule = (rule refl).taken
+answered_builds past actor (Did (Init enclave expect) answer) rule = (rule refl).taken
+answered_builds past actor event rule = tt
 
 -- .. and so a page was added as flat memory has it
 pub added_flat : (past : List Entry) → Along FlatRule past → (g : Page) → added past g ≡ added_as ((flat past).pages g)
 added_flat [] h g = refl
-added_flat (e ∷ past) h g = added_next past e.actor e.event g (answered_adds past e.actor e.event h.0) (added_flat past h.1 g)
+added_flat (e ∷ past) h g = added_next past e.actor e.event g (answered_builds past e.actor e.event h.0) (added_flat past h.1 g)
+
+-- ---- enclaves
+
+-- an instruction that makes an enclave or marks it
+abbrev is_of_enclave : Action → Bool
+is_of_enclave (Create enclave f base size) = true
+is_of_enclave (Init enclave expect) = true
+is_of_enclave _ = false
+
+-- a store leaves each enclave
+after_stored : (m : FlatMemory) (inside : Option Inside) (off value : ℕ) → (stored m inside off value).enclaves ≡ m.enclaves
+after_stored m None off value = refl
+after_stored m (Some i) off value = refl
+
+-- .. and each instruction of a processor
+cpu_enclaves : (p : ℕ) (action : Action) (m : FlatMemory) → (cpu_after p action m).enclaves ≡ m.enclaves
+cpu_enclaves p (Aex cause) m = after_saved (m.cpus p).acc (m.cpus p).inside
+  where
+    after_saved : (acc : ℕ) (inside : Option Inside) → (saved m acc inside).enclaves ≡ m.enclaves
+    after_saved acc None = refl
+    after_saved acc (Some i) = refl
+cpu_enclaves p (Store off value) m = after_stored m (m.cpus p).inside off value
+cpu_enclaves p (Xadd off value) m = after_stored m (m.cpus p).inside off (sum_of (word_seen m (m.cpus p).inside off) value)
+cpu_enclaves p _ m = refl
+
+-- .. and each that neither makes an enclave nor marks it
+memory_enclaves : (actor : Actor) (action : Action) (m : FlatMemory) → is_of_enclave action ≡ false
+    → (memory_after actor action m).enclaves ≡ m.enclaves
+memory_enclaves actor (Create enclave f base size) m h = cc h
+memory_enclaves actor (Init enclave expect) m h = cc h
+memory_enclaves (actors.Cpu p) action m h = cpu_enclaves p.0 action m
+memory_enclaves actors.Builder action m h = refl
+memory_enclaves actors.Reclaimer action m h = refl
+
+event_enclaves : (actor : Actor) (action : Action) (answer : Answer) (m : FlatMemory) (n : ℕ) → is_of_enclave action ≡ false
+    → (event_after actor (Did action answer) m).enclaves n ≡ m.enclaves n
+event_enclaves actor action answer m n h = cond_both (accepts m actor action) (memory_after actor action m) m
+    (λ (now : FlatMemory). now.enclaves n ≡ m.enclaves n)
+    (λ _. ap (λ (enclaves : ℕ → Option FlatEnclave). enclaves n) (memory_enclaves actor action m h)) (λ _. refl)
+
+-- a done `create` makes the enclave, a done `init` marks it, and no other entry does either
+pub created_next : (past : List Entry) (actor : Actor) (event : Event) (n : ℕ) → TakesBuilds (flat past) actor event
+    → created past n ≡ (flat past).enclaves n
+    → created (entry_of actor event ∷ past) n ≡ (flat (entry_of actor event ∷ past)).enclaves n
+created_next past actor (Did (Create enclave f base size) answer) n taken h = rw (taken, h) refl
+created_next past actor (Did (Init enclave expect) answer) n taken h = rw (taken, h) refl
+created_next past actor (Did action answer) n taken h = h ∙ sym (event_enclaves actor action answer (flat past) n refl)
+created_next past actor event n taken h = h
+
+-- .. and so flat memory has each enclave as it was made
+pub created_flat : (past : List Entry) → Along FlatRule past → (n : ℕ) → created past n ≡ (flat past).enclaves n
+created_flat [] h n = refl
+created_flat (e ∷ past) h n =
+    created_next past e.actor e.event n (answered_builds past e.actor e.event h.0) (created_flat past h.1 n)
 
 -- ---- headers
 
@@ -125,10 +185,11 @@ is_none-None None h = refl
 is_none-None (Some x) h = cc
 
 -- a page is added that was not added before
-fresh_page : (number : ℕ) (kind : Kind) (perm : Perm) (init : PageInit) (o : Option EnclaveSight) (is_added : Bool) (s : FrameSight)
-    → NoneHolds (add_row number kind perm init o is_added s) → is_added ≡ false
-fresh_page number kind perm init None is_added s row = let no : true ≡ false = row.1.0 in cc
-fresh_page number kind perm init (Some enclave) is_added s row = row.1.1.1.1.1.0
+fresh_page : (number : ℕ) (kind : Kind) (perm : Perm) (init : PageInit) (o : Option EnclaveSight) (secs : SecsSight) (is_added : Bool)
+    (s : FrameSight)
+    → NoneHolds (add_row number kind perm init o secs is_added s) → is_added ≡ false
+fresh_page number kind perm init None secs is_added s row = let no : true ≡ false = row.1.0 in cc
+fresh_page number kind perm init (Some enclave) secs is_added s row = row.1.1.1.1.1.1.1.0
 
 -- an enclave that was created keeps its base at an instruction that flat memory takes
 build_bases : (action : Action) (m : FlatMemory) (n : ℕ) → first_of_row (flat_build_row m action) ≡ None → is_some (m.enclaves n) ≡ true
@@ -152,28 +213,13 @@ build_kinds : (action : Action) (m : FlatMemory) (g : Page) → first_of_row (fl
     → added_as ((build_after action m).pages g) ≡ added_as (m.pages g)
 build_kinds (Add enclave number f kind perm init) m g row there =
     let k = none_holds (flat_build_row m (Add enclave number f kind perm init)) row in
-    let is_fresh = fresh_page number kind perm init (enclave_sight m enclave) (is_some (m.pages (page_at enclave number))) open_frame k in
+    let is_fresh = fresh_page number kind perm init (enclave_sight m enclave) settled (is_some (m.pages (page_at enclave number))) open_frame k
+    in
     cond_both (same_page g (page_at enclave number)) (Some (record { kind = kind; perm = perm; words = first_words init })) (m.pages g)
     (λ v. added_as v ≡ added_as (m.pages g))
     (λ same. absurd (false≢true (sym is_fresh ∙ ap (λ q. is_some (m.pages q)) (sym (same_pages g (page_at enclave number) same)) ∙ there)))
     (λ _. refl)
 build_kinds _ m g row there = refl
-
--- a store leaves each enclave
-after_stored : (m : FlatMemory) (inside : Option Inside) (off value : ℕ) → (stored m inside off value).enclaves ≡ m.enclaves
-after_stored m None off value = refl
-after_stored m (Some i) off value = refl
-
--- .. and each instruction of a processor
-cpu_enclaves : (p : ℕ) (action : Action) (m : FlatMemory) → (cpu_after p action m).enclaves ≡ m.enclaves
-cpu_enclaves p (Aex cause) m = after_saved (m.cpus p).acc (m.cpus p).inside
-  where
-    after_saved : (acc : ℕ) (inside : Option Inside) → (saved m acc inside).enclaves ≡ m.enclaves
-    after_saved acc None = refl
-    after_saved acc (Some i) = refl
-cpu_enclaves p (Store off value) m = after_stored m (m.cpus p).inside off value
-cpu_enclaves p (Xadd off value) m = after_stored m (m.cpus p).inside off (sum_of (word_seen m (m.cpus p).inside off) value)
-cpu_enclaves p _ m = refl
 
 -- what flat memory takes leaves the base of an enclave that was created
 memory_bases : (actor : Actor) (action : Action) (m : FlatMemory) (n : ℕ) → accepts m actor action ≡ true → is_some (m.enclaves n) ≡ true
@@ -228,3 +274,16 @@ header_still actor (Did action answer) m g header is =
     (memory_bases actor action m g.enclave taken there.0) (memory_pages actor action m g taken there.1) ∙ is)
     (λ _. is)
 header_still actor event m g header is = is
+
+-- .. also a SECS and a version array page
+pub header_kept : (past : List Entry) (actor : Actor) (event : Event) (g : Page) (header : Header) → header_at past g ≡ Some header
+    → header_at (entry_of actor event ∷ past) g ≡ Some header
+header_kept past actor event g header = by_name (is_va_page g) (is_secs_page g)
+  where
+    by_name : (va secs : Bool)
+        → cond va (Some (va_header g.number)) (cond secs (Some (secs_header g.enclave)) (header_in (flat past) g)) ≡ Some header
+        → cond va (Some (va_header g.number)) (cond secs (Some (secs_header g.enclave)) (header_in (event_after actor event (flat past)) g))
+        ≡ Some header
+    by_name true secs is = is
+    by_name false true is = is
+    by_name false false is = header_still actor event (flat past) g header is

@@ -1,8 +1,13 @@
 pub mod OpenStarts
 pub mod DrawnLaws
 pub mod FlatLaws
+pub mod ThereLaws
 pub mod StartLaws
 pub mod RecordLaws
 pub mod CopyLaws
 pub mod ApartLaws
 pub mod RefusalFits
+pub mod SecsLaws
+pub mod RestLaws
+pub mod ArrayLaws
+pub mod PigeonLaws

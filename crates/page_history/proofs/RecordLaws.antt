@@ -10,10 +10,9 @@ use Rattle.sgx_rules.specs.declared.entries.Event.{Event}
 use Rattle.sgx_rules.specs.declared.entries.Event.TheVariants.{Did}
 use Rattle.sgx_types.specs.declared.names.Frame.{Frame}
 use Rattle.sgx_types.specs.declared.names.Page.{Page}
-use Rattle.sgx_rules.specs.Flat.{FlatMemory, flat, header_in, words_of}
+use Rattle.sgx_rules.specs.PageBytes.{bytes_at, header_at}
 use Rattle.sgx_types.specs.Pages.{same_page}
 use Rattle.sgx_rules.specs.Rules.{Along, EndsWriteOut, EvictRule}
-use Rattle.sgx_types.specs.Layouts.{bytes_of}
 use Rattle.sgx_types.specs.declared.record.Header.{Header}
 use Rattle.sgx_types.specs.Sealed.{Sealed}
 use Rattle.sgx_rules.specs.Starts.{open_start}
@@ -22,10 +21,10 @@ use Rattle.seal_record.specs.Records.{Made}
 use Rattle.sgx_rules.specs.Fresh.{Out, last_out}
 use Rattle.sgx_types.specs.Making.{Making}
 use Rattle.page_history.specs.inner.Once.{DrawnOnce, Gone, IsGone, IsLastMade, IsMade, IsOfPage, KeepsMoves, MadeOnce, gone}
-use Rattle.seal_record.specs.Sealing.{IsSealed, SealedRule, made_with, record_in}
+use Rattle.seal_record.specs.Sealing.{IsSealed, SealedRule, made_with, record_at}
 use Rattle.seal_record.specs.inner.Sealing.{made_by, more_made}
 use Rattle.page_history.proofs.DrawnLaws.{drawn_once, keeps_before}
-use Rattle.page_history.proofs.FlatLaws.{header_still}
+use Rattle.page_history.proofs.FlatLaws.{header_kept}
 use Rattle.page_history.proofs.OpenStarts.{any_front, any_head, any_last, any_rest, ended_cases, entry_of, opened_cases}
 
 -- a record of a page stays one, whatever is done
@@ -35,7 +34,7 @@ still_of_page : (key : List ℕ) (past : List Entry) (actor : Actor) (event : Ev
 still_of_page key past actor event goes one is = record {
   page = is.page;
   gone = goes (record { page = is.page; version = one.version }) is.gone;
-  header = header_still actor event (flat past) is.page one.header is.header;
+  header = header_kept past actor event is.page one.header is.header;
   tagged = is.tagged;
 }
 
@@ -54,27 +53,27 @@ kept_records key past actor event goes before after lasts h = record {
 }
 
 -- what a sealed record of a page is
-record IsSealedOf (key : List ℕ) (version : ℕ) (m : FlatMemory) (g : Page) (rec : Sealed) : Type 0 where
-  pub header : header_in m g ≡ Some rec.header
+record IsSealedOf (key : List ℕ) (version : ℕ) (past : List Entry) (g : Page) (rec : Sealed) : Type 0 where
+  pub header : header_at past g ≡ Some rec.header
   pub tagged : rec.tag ≡ tag key version rec.header rec.cipher
 
 -- the sealed record of a page has the page's header and its own tag
-sealed_of : (key : List ℕ) (version : ℕ) (m : FlatMemory) (g : Page) (rec : Sealed) → record_in key version m g ≡ Some rec
-    → IsSealedOf key version m g rec
-sealed_of key version m g rec = by_header (header_in m g) refl
+sealed_of : (key : List ℕ) (version : ℕ) (past : List Entry) (g : Page) (rec : Sealed) → record_at key version past g ≡ Some rec
+    → IsSealedOf key version past g rec
+sealed_of key version past g rec = by_header (header_at past g) refl
   where
-    by_header : (o : Option Header) → header_in m g ≡ o
-        → option_map (λ header. sealed key version header (bytes_of (words_of m g))) o ≡ Some rec → IsSealedOf key version m g rec
+    by_header : (o : Option Header) → header_at past g ≡ o → option_map (λ header. sealed key version header (bytes_at past g)) o ≡ Some rec
+        → IsSealedOf key version past g rec
     by_header None headed is = cc
     by_header (Some header) headed is =
-        let its : Sealed = sealed key version header (bytes_of (words_of m g)) in
+        let its : Sealed = sealed key version header (bytes_at past g) in
         let same : its ≡ rec = cc in
-        subst (IsSealedOf key version m g) same (record { header = headed; tagged = refl })
+        subst (IsSealedOf key version past g) same (record { header = headed; tagged = refl })
 
 -- a page is out, and its record is made
 module _ (first : ℕ) (key : List ℕ) (past : List Entry) (actor : Actor) (f : Frame) (page : Page) (version : ℕ) (digest : List ℕ)
     (ends : EndsWriteOut (open_start past f.0) version) (drawn : DrawnOnce first past)
-    (its : IsSealed key (flat past) page version digest) (h : MadeOnce key past) where
+    (its : IsSealed key past page version digest) (h : MadeOnce key past) where
   abbrev event_out : Event
   event_out = Did (Ewb f) (Moved page version digest)
 
@@ -107,12 +106,12 @@ module _ (first : ℕ) (key : List ℕ) (past : List Entry) (actor : Actor) (f :
   -- the new record is of the page that went out
   new_of_page : IsOfPage key after new
   new_of_page =
-      let k = sealed_of key version (flat past) page its.rec its.made in
+      let k = sealed_of key version past page its.rec its.made in
       record {
         page = page;
         gone = any_head (λ one. one ≡ record { page = page; version = version }) (record { page = page; version = version }) (gone past)
             refl;
-        header = header_still actor event_out (flat past) page its.rec.header k.header;
+        header = header_kept past actor event_out page its.rec.header k.header;
         tagged = k.tagged;
       }
 

@@ -15,11 +15,11 @@ use Rattle.sgx_types.specs.declared.names.Perm.{Perm}
 use Rattle.sgx_types.specs.Pages.{page_at, same_page}
 use Rattle.sgx_rules.specs.Frames.{Content, Free, IsVa, SecsOf, Holds, content}
 use Rattle.sgx_types.specs.Lawful.{is_enclave, is_lawful}
-use Rattle.sgx_rules.specs.Table.{FrameSight, is_busy, is_valid, epa_row, create_row, add_row, EnclaveSight}
-use Rattle.sgx_rules.specs.Table.{first_of_row}
+use Rattle.sgx_rules.specs.Table.{FrameSight, is_busy, is_valid, epa_row, create_row, add_row, EnclaveSight, SecsSight}
+use Rattle.sgx_rules.specs.Table.{first_of_row, init_row}
 use Rattle.sgx_rules.specs.Flat.{FlatEnclave, FlatPage, FlatMemory, added_as, flat, open_frame, enclave_sight_of, first_words}
 use Rattle.sgx_rules.specs.Flat.{with_page}
-use Rattle.sgx_rules.specs.Flat.{marked}
+use Rattle.sgx_rules.specs.Flat.{marked, settled}
 use Rattle.sgx_types.specs.Layouts.{flags_of}
 use Rattle.sgx_rules.proofs.Contents.{free_there}
 use Rattle.sgx_rules.proofs.Rows.{none_holds, none_refused}
@@ -29,7 +29,7 @@ use Rattle.measure_log.specs.declared.measure.Measure.{Measure}
 use Rattle.measure_log.specs.Blocks.{ecreate_block, eadd_block}
 use Rattle.measure_log.specs.inner.Measure.{HoldsLog, TakesIn}
 use Rattle.measure_log.specs.Rule.{log, MeasureRule}
-use Rattle.paging_laws.specs.inner.State.{State, sight, row_of, after_epa, after_create, after_add, after_init}
+use Rattle.paging_laws.specs.inner.State.{State, secs_sight, sight, row_of, after_epa, after_create, after_add, after_init}
 use Rattle.paging_laws.specs.inner.Stands.{Stands, IsSound, EnclavesSeen, HasWords, enclaves_flat, enclaves_seen}
 use Rattle.paging_laws.proofs.TestLaws.{both_false, is_none-None, none_there}
 use Rattle.paging_laws.proofs.MeasureLaws.{begins, goes_on, stays}
@@ -114,32 +114,46 @@ create_brings s past a enclave f base size begun allowed holds stands =
 
 -- ---- add
 
--- the row of `add`, whatever frame is given
-pub add_open : (number : ℕ) (kind : Kind) (perm : Perm) (init : PageInit) (o : Option EnclaveSight) (is_added : Bool) (v : FrameSight)
-    → first_of_row (add_row number kind perm init o is_added v) ≡ None
-    → first_of_row (add_row number kind perm init o is_added open_frame) ≡ None
-add_open number kind perm init None is_added v allowed =
-    absurd (false≢true (sym (none_holds (add_row number kind perm init None is_added v) allowed).1.0))
-add_open number kind perm init (Some enclave) is_added v allowed =
-    let none = none_holds (add_row number kind perm init (Some enclave) is_added v) allowed in
-    none_refused (add_row number kind perm init (Some enclave) is_added open_frame)
-    (refl, (none.1.0, (none.1.1.0, (none.1.1.1.0, (none.1.1.1.1.0, (none.1.1.1.1.1.0, (refl, (refl, tt))))))))
+-- the row of `add`, whatever frame is given, and with a SECS that is in
+pub add_open : (number : ℕ) (kind : Kind) (perm : Perm) (init : PageInit) (o : Option EnclaveSight) (secs : SecsSight) (is_added : Bool)
+    (v : FrameSight)
+    → first_of_row (add_row number kind perm init o secs is_added v) ≡ None
+    → first_of_row (add_row number kind perm init o settled is_added open_frame) ≡ None
+add_open number kind perm init None secs is_added v allowed =
+    absurd (false≢true (sym (none_holds (add_row number kind perm init None secs is_added v) allowed).1.0))
+add_open number kind perm init (Some enclave) secs is_added v allowed =
+    let none = none_holds (add_row number kind perm init (Some enclave) secs is_added v) allowed in
+    let more = none.1.1.1 in
+    none_refused (add_row number kind perm init (Some enclave) settled is_added open_frame)
+    (refl, (refl, (refl, (more.0, (more.1.0, (more.1.1.0, (more.1.1.1.0, (more.1.1.1.1.0, (refl, (refl, tt))))))))))
 
--- what the row of `add` says of its enclave, frame and page
-pub record Adds (o : Option EnclaveSight) (is_added : Bool) (v : FrameSight) : Type 0 where
+-- what the row of `add` says of its enclave, its SECS, its frame and its page
+pub record Adds (o : Option EnclaveSight) (secs : SecsSight) (is_added : Bool) (v : FrameSight) : Type 0 where
   pub made : is_some o ≡ true
   pub within : v.is_beyond ≡ false
+  pub secs_in : secs.is_away ≡ false
+  pub secs_stays : secs.is_sealing ≡ false
   pub new : is_added ≡ false
   pub idle : is_busy v ≡ false
   pub empty : is_valid v.content ≡ false
 
-pub adds : (number : ℕ) (kind : Kind) (perm : Perm) (init : PageInit) (o : Option EnclaveSight) (is_added : Bool) (v : FrameSight)
-    → first_of_row (add_row number kind perm init o is_added v) ≡ None → Adds o is_added v
-adds number kind perm init None is_added v allowed =
-    absurd (false≢true (sym (none_holds (add_row number kind perm init None is_added v) allowed).1.0))
-adds number kind perm init (Some enclave) is_added v allowed =
-    let none = none_holds (add_row number kind perm init (Some enclave) is_added v) allowed in
-    record { made = refl; within = none.0; new = none.1.1.1.1.1.0; idle = none.1.1.1.1.1.1.0; empty = none.1.1.1.1.1.1.1.0 }
+pub adds : (number : ℕ) (kind : Kind) (perm : Perm) (init : PageInit) (o : Option EnclaveSight) (secs : SecsSight) (is_added : Bool)
+    (v : FrameSight)
+    → first_of_row (add_row number kind perm init o secs is_added v) ≡ None → Adds o secs is_added v
+adds number kind perm init None secs is_added v allowed =
+    absurd (false≢true (sym (none_holds (add_row number kind perm init None secs is_added v) allowed).1.0))
+adds number kind perm init (Some enclave) secs is_added v allowed =
+    let none = none_holds (add_row number kind perm init (Some enclave) secs is_added v) allowed in
+    let more = none.1.1.1.1.1.1.1 in
+    record {
+      made = refl;
+      within = none.0;
+      secs_in = none.1.0;
+      secs_stays = none.1.1.0;
+      new = more.0;
+      idle = more.1.0;
+      empty = more.1.1.0;
+    }
 
 -- an enclave that a row sees was created
 pub is_some-sight : (o : Option FlatEnclave) → is_some (enclave_sight_of o) ≡ true → is_some o ≡ true
@@ -203,7 +217,8 @@ pub add_brings : (s : State) (past : List Entry) (a : Actor) (enclave number : �
     → BringsDone s (after_add s (page_at enclave number) f.0 kind perm init longer) past a (Add enclave number f kind perm init) Plain
 add_brings s past a enclave number f kind perm init longer allowed takes stands =
     let g = page_at enclave number in
-    let k = adds number kind perm init (enclave_sight_of (s.enclaves enclave)) (is_some (s.added g)) (sight s f.0) allowed in
+    let k = adds number kind perm init (enclave_sight_of (s.enclaves enclave)) (secs_sight s enclave) (is_some (s.added g)) (sight s f.0)
+    allowed in
     let free = free_there (s.content f.0) (s.is_sealing f.0) k.idle k.empty in
     let same_added : is_some (s.added g) ≡ is_some ((flat past).pages g) = ap is_some (added_flat stands g)
     ∙ is_some-added_as ((flat past).pages g) in
@@ -211,7 +226,8 @@ add_brings s past a enclave number f kind perm init longer allowed takes stands 
     record {
       form = refl;
       taken = is_none-None _ (rw (enclave_flat stands enclave, same_added) at
-          (add_open number kind perm init (enclave_sight_of (s.enclaves enclave)) (is_some (s.added g)) (sight s f.0) allowed));
+          (add_open number kind perm init (enclave_sight_of (s.enclaves enclave)) (secs_sight s enclave) (is_some (s.added g)) (sight s f.0)
+          allowed));
       same = λ seen. refl;
       measure = tt;
       memory = record {
@@ -226,6 +242,13 @@ add_brings s past a enclave number f kind perm init longer allowed takes stands 
 
 -- ---- init
 
+-- the row of `init`, with a SECS that is in
+pub init_open : (o : Option EnclaveSight) (secs : SecsSight) → first_of_row (init_row o secs) ≡ None → first_of_row (init_row o settled) ≡ None
+init_open None secs allowed = cc allowed
+init_open (Some enclave) secs allowed =
+    let none = none_holds (init_row (Some enclave) secs) allowed in
+    none_refused (init_row (Some enclave) settled) (refl, (refl, (none.1.1.0, tt)))
+
 pub init_brings : (s : State) (past : List Entry) (a : Actor) (enclave : ℕ) (expect : Option (List ℕ)) (digest : List ℕ)
     → first_of_row (row_of s a (Init enclave expect)) ≡ None → MeasureRule past (did_by a (Init enclave expect) (Hash digest))
     → Stands s past
@@ -234,7 +257,8 @@ init_brings s past a enclave expect digest allowed measured stands =
     let k = stands.memory in
     record {
       form = (digest, refl);
-      taken = is_none-None _ (rw (enclave_flat stands enclave) at allowed);
+      taken = is_none-None _ (rw (enclave_flat stands enclave) at
+          (init_open (enclave_sight_of (s.enclaves enclave)) (secs_sight s enclave) allowed));
       same = λ seen. refl;
       measure = measured;
       memory = record {

@@ -3,15 +3,14 @@ use Rattle.std.proofs.Common.{◌≡◌, ℕ, ◌||◌, ◌&&◌, not, Bool, tru
 use Rattle.std.proofs.Common.{[], ◌∷◌, map, is_some}
 use Rattle.sgx_rules.specs.declared.entries.Entry.{Entry}
 use Rattle.sgx_types.specs.declared.names.Page.{Page}
-use Rattle.sgx_types.specs.declared.names.SlotAt.{SlotAt}
 use Rattle.sgx_rules.specs.inner.Enclaves.{EnclavesAreFlat, created}
 use Rattle.sgx_rules.specs.Epochs.{epoch, epoch_in}
 use Rattle.sgx_rules.specs.inner.Epochs.{block_epoch, noted}
 use Rattle.sgx_rules.specs.Flat.{added_as, flat}
-use Rattle.sgx_rules.specs.Frames.{added, content, is_block, is_blocked, is_put, is_sealing, made_before, put_by}
+use Rattle.sgx_rules.specs.Frames.{added, content, is_block, is_blocked, is_put, is_sealing, made_before, put_by, vas_made}
 use Rattle.sgx_rules.specs.Processors.{stay, translations}
 use Rattle.sgx_rules.specs.Sights.{sight_at}
-use Rattle.sgx_rules.specs.Slots.{next_version, version_in}
+use Rattle.sgx_rules.specs.Slots.{next_version}
 use Rattle.sgx_rules.specs.Starts.{open_start}
 use Rattle.sgx_rules.specs.inner.Starts.{bare_start}
 use Rattle.paging_laws.specs.inner.Columns.{HasColumns, noted_inside, without_perm, seat_of_stay}
@@ -42,11 +41,11 @@ noted_is h p i = (h.cpus i).noted p
 pub translations_are : {s : State} {past : List Entry} → HasColumns s past → (p : ℕ) → map without_perm (s.cache p) ≡ translations past p
 translations_are h p i = (h.cpus i).translations p
 
-pub version_is : {s : State} {past : List Entry} → HasColumns s past → (slot : SlotAt) → s.version_in slot ≡ version_in past slot
-version_is h slot i = (h.slots i).version_in slot
-
 pub next_version_is : {s : State} {past : List Entry} → HasColumns s past → s.next_version ≡ next_version s.first_version past
-next_version_is h i = (h.slots i).next_version
+next_version_is h = h.next_version
+
+pub vas_is : {s : State} {past : List Entry} → HasColumns s past → s.vas_made ≡ vas_made past
+vas_is h i = (h.enclaves i).vas_made
 
 pub epoch_is : {s : State} {past : List Entry} → HasColumns s past → (e : ℕ) → s.epoch e ≡ epoch s.first_epoch past e
 epoch_is h e i = (h.enclaves i).epoch e

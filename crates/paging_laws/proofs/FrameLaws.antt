@@ -11,12 +11,12 @@ use Rattle.sgx_rules.specs.declared.entries.Action.TheVariants.{EwbStart, Ewb, E
 use Rattle.sgx_rules.specs.declared.entries.Answer.TheVariants as answers
 use Rattle.sgx_types.specs.declared.names.Frame.{Frame}
 use Rattle.sgx_rules.specs.declared.refusals.Refusal.{Refusal}
+use Rattle.sgx_rules.specs.Frames.{content, reloaded}
 use Rattle.sgx_rules.specs.Rules.{Along, FitsRule}
 use Rattle.sgx_types.specs.Sealed.{Sealed}
 use Rattle.sgx_rules.specs.Starts.{Start, open_start, opened_by}
 use Rattle.sgx_rules.specs.inner.Starts.{BareStart}
 use Rattle.sgx_rules.specs.Table.{first_of_row}
-use Rattle.epcm_entry.specs.inner.Words.{words_of}
 use Rattle.seal_record.specs.Cipher.{cipher}
 use Rattle.paging_laws.specs.inner.Columns.{HasColumns}
 use Rattle.paging_laws.specs.inner.State.{State, row_of, after_eld, after_failed_eld}
@@ -51,7 +51,7 @@ open_below frames (e ∷ past) n rules is = by_event e.event rules.0 (open_below
         (λ here is. rw (← eqb-true f n here) below) (λ _ is. before is)
 
     by_event : (v : Event) → FitsRule frames past (record { actor = e.actor; event = v })
-        → (is_some (open_start past n) ≡ true → n < frames) → is_some (opened_by e.actor (length past) v n (open_start past n)) ≡ true
+        → (is_some (open_start past n) ≡ true → n < frames) → is_some (opened_by e.actor (length past) (content past) v n (open_start past n)) ≡ true
         → n < frames
     by_event (Did (EwbStart f slot) answer) rule before is = by_start f.0 _ rule.0.0 before is
     by_event (Did (EldStart f page slot) answer) rule before is = by_start f.0 _ rule.0.0 before is
@@ -82,8 +82,8 @@ reloaded_frames s t past a f e rec rules columns back = by_row (first_of_row (co
     by_row : (o : Option Refusal)
         → MatchOption o
         ((e ≡ did_by a (Eld f) (answers.Moved back.coming.page back.coming.start.version rec.tag))
-        × (t ≡ after_eld s f.0 back.coming.start back.coming.page back.coming.kind back.coming.perm
-        (words_of (cipher s.key back.coming.start.version rec.cipher))))
+        × (t ≡ after_eld s f.0 back.coming.start (reloaded back.coming.page (s.added back.coming.page))
+        (cipher s.key back.coming.start.version rec.cipher)))
         (λ r. (e ≡ refused_by a (Eld f) r) × (t ≡ after_failed_eld s f.0 back.coming.start))
         → FitsRule s.frames past e
     by_row None done = rw done.0 (below s past f.0 back.coming.start rules columns back.coming.opened, tt)

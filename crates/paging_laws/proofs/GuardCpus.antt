@@ -23,7 +23,7 @@ use Rattle.paging_laws.proofs.TestLaws.{equal, none_there, there_then}
 use Rattle.paging_laws.proofs.EntryLaws.{enters, enter_saves, enter_saved, resume_saves, resume_saved}
 use Rattle.paging_laws.proofs.AccessLaws.{outside_refused}
 use Rattle.paging_laws.proofs.TranslationLaws.{All-with_translation}
-use Rattle.paging_laws.proofs.GuardLaws.{guarded_words}
+use Rattle.paging_laws.proofs.GuardLaws.{guarded_words, opened_still}
 
 -- ---- processors
 
@@ -56,8 +56,8 @@ guarded_inside s p seat acc words h low outside tcs ssa = record {
         | false ↦ h.noted q
       ];
   blocks = h.blocks;
-  sealing = λ n is.
-      there_then (s.blocked n) (h.sealing n is)
+  sealing = λ n is own.
+      there_then (s.blocked n) (h.sealing n is own)
       (λ b k. record {
         tracked = k.tracked;
         left = λ q.
@@ -72,13 +72,14 @@ guarded_inside s p seat acc words h low outside tcs ssa = record {
       (λ b. b ≡ true → IsTakenIn (record (with_inside s p seat acc) { words = words }) g)
       (λ here _. record { cpu = p; by = rw (equal p p refl) (sym (same_pages g (page_at seat.enclave seat.tcs) here)) })
       (λ _ busy. let k = h.taken g busy in record { cpu = k.cpu; by = still g k.cpu k.by });
-  opened = h.opened;
+  opened = opened_still s (record (with_inside s p seat acc) { words = words }) refl refl refl (λ g is. is) h;
   written = h.written;
   loaded = h.loaded;
   held = h.held;
   apart = h.apart;
   kinds = h.kinds;
   goes_out = h.goes_out;
+  kept = h.kept;
 }
   where
     still : (g : Page) (q : ℕ) → IsBy g (s.inside q) → IsBy g (cond (p == q) (Some seat) (s.inside q))
@@ -114,8 +115,8 @@ guarded_left s p words h = record {
         | false ↦ h.noted q
       ];
   blocks = h.blocks;
-  sealing = λ n is.
-      there_then (s.blocked n) (h.sealing n is)
+  sealing = λ n is own.
+      there_then (s.blocked n) (h.sealing n is own)
       (λ b k. record {
         tracked = k.tracked;
         left = λ q.
@@ -129,13 +130,14 @@ guarded_left s p words h = record {
       cond_both (is_seated_by (s.inside p) g) false (s.is_busy g) (λ b. b ≡ true → IsTakenIn (record (after_exit s p) { words = words }) g)
       (λ _ is. absurd (false≢true is))
       (λ other busy. let k = h.taken g busy in record { cpu = k.cpu; by = still g k.cpu other k.by });
-  opened = h.opened;
+  opened = opened_still s (record (after_exit s p) { words = words }) refl refl refl (λ g is. is) h;
   written = h.written;
   loaded = h.loaded;
   held = h.held;
   apart = h.apart;
   kinds = h.kinds;
   goes_out = h.goes_out;
+  kept = h.kept;
 }
   where
     own : (g : Page) (o : Option Seat) → is_seated_by o g ≡ false → IsBy g o → ⊥
@@ -192,11 +194,12 @@ guarded_fill s p t allowed h = record {
   blocks = h.blocks;
   sealing = h.sealing;
   taken = λ g busy. let k = h.taken g busy in record { cpu = k.cpu; by = k.by };
-  opened = h.opened;
+  opened = opened_still s (after_fill s p t) refl refl refl (λ g is. is) h;
   written = h.written;
   loaded = h.loaded;
   held = h.held;
   apart = h.apart;
   kinds = h.kinds;
   goes_out = h.goes_out;
+  kept = h.kept;
 }

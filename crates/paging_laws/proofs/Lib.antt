@@ -37,3 +37,4 @@ pub mod NoteLaws
 pub mod WholeLaws
 pub mod RunLaws
 pub mod MakingLaws
+pub mod DigestLaws

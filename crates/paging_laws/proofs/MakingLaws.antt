@@ -13,8 +13,8 @@ use Rattle.sgx_rules.specs.declared.refusals.Refusal.{Refusal}
 use Rattle.sgx_rules.specs.declared.refusals.Refusal.TheVariants as why
 use Rattle.sgx_rules.specs.Processors.{Seat}
 use Rattle.sgx_types.specs.Sealed.{Sealed}
+use Rattle.sgx_rules.specs.Frames.{reloaded}
 use Rattle.sgx_rules.specs.Table.{first_of_row}
-use Rattle.epcm_entry.specs.inner.Words.{words_of}
 use Rattle.measure_log.specs.Rule.{IsExpected, IsOther}
 use Rattle.seal_record.specs.Cipher.{cipher}
 use Rattle.paging_laws.specs.inner.State.{State, after_eld, after_failed_eld, after_init, making_of, row_of, with_saved}
@@ -77,8 +77,8 @@ reloaded_making s t a f e rec back = by_row (first_of_row (commit_row s f.0 back
     by_row : (o : Option Refusal)
         → MatchOption o
         ((e ≡ did_by a (Eld f) (answers.Moved back.coming.page back.coming.start.version rec.tag))
-        × (t ≡ after_eld s f.0 back.coming.start back.coming.page back.coming.kind back.coming.perm
-        (words_of (cipher s.key back.coming.start.version rec.cipher))))
+        × (t ≡ after_eld s f.0 back.coming.start (reloaded back.coming.page (s.added back.coming.page))
+        (cipher s.key back.coming.start.version rec.cipher)))
         (λ r. (e ≡ refused_by a (Eld f) r) × (t ≡ after_failed_eld s f.0 back.coming.start))
         → making_of t ≡ making_of s
     by_row None done = ap making_of done.1

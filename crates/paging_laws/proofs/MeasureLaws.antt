@@ -7,7 +7,7 @@ use Rattle.sgx_types.specs.declared.names.Actor.{Actor}
 use Rattle.sgx_rules.specs.declared.entries.Action.TheVariants.{Init}
 use Rattle.sgx_rules.specs.declared.refusals.Refusal.{Refusal}
 use Rattle.sgx_rules.specs.declared.refusals.Refusal.TheVariants as why
-use Rattle.sgx_rules.specs.Table.{EnclaveSight, init_row, first_of_row}
+use Rattle.sgx_rules.specs.Table.{EnclaveSight, SecsSight, first_of_row, init_row}
 use Rattle.sgx_rules.specs.Flat.{FlatEnclave, marked}
 use Rattle.sgx_types.proofs.Truths.{eqb-swap}
 use Rattle.measure_log.specs.declared.measure.Measure.{Measure}
@@ -58,11 +58,15 @@ finished_as (Some x) None digest l made h finished = absurd h
 finished_as (Some x) (Some y) digest l made h finished = finished l h
 
 -- an `init` that its row refuses says nothing of the measurement
-pub quiet : (o : Option EnclaveSight) (past : List Entry) (a : Actor) (enclave : ℕ) (expect : Option (List ℕ)) (r : Refusal)
-    → first_of_row (init_row o) ≡ Some r → MeasureRule past (refused_by a (Init enclave expect) r)
-quiet None past a enclave expect r is = let e : why.Absent ≡ r = cc in rw (← e) tt
-quiet (Some x) past a enclave expect r is = by_test x.is_init is
+pub quiet : (o : Option EnclaveSight) (secs : SecsSight) (past : List Entry) (a : Actor) (enclave : ℕ) (expect : Option (List ℕ))
+    (r : Refusal)
+    → first_of_row (init_row o secs) ≡ Some r → MeasureRule past (refused_by a (Init enclave expect) r)
+quiet None secs past a enclave expect r is = let e : why.Absent ≡ r = cc in rw (← e) tt
+quiet (Some x) secs past a enclave expect r is = by_tests secs.is_away secs.is_sealing x.is_init is
   where
-    by_test : (b : Bool) → cond b (Some why.IsInit) None ≡ Some r → MeasureRule past (refused_by a (Init enclave expect) r)
-    by_test true k = let e : why.IsInit ≡ r = cc in rw (← e) tt
-    by_test false k = cc
+    by_tests : (b c d : Bool) → cond b (Some why.Absent) (cond c (Some why.Conflict) (cond d (Some why.IsInit) None)) ≡ Some r
+        → MeasureRule past (refused_by a (Init enclave expect) r)
+    by_tests true c d k = let e : why.Absent ≡ r = cc in rw (← e) tt
+    by_tests false true d k = let e : why.Conflict ≡ r = cc in rw (← e) tt
+    by_tests false false true k = let e : why.IsInit ≡ r = cc in rw (← e) tt
+    by_tests false false false k = cc

@@ -11,26 +11,29 @@ use Rattle.sgx_rules.specs.declared.entries.Action.{Action}
 use Rattle.sgx_rules.specs.declared.entries.Action.TheVariants.{Ewb, Eld}
 use Rattle.sgx_rules.specs.declared.entries.Answer.TheVariants as answers
 use Rattle.sgx_types.specs.declared.names.Frame.{Frame}
-use Rattle.sgx_types.specs.declared.names.Kind.{Kind}
 use Rattle.sgx_types.specs.declared.names.Page.{Page}
-use Rattle.sgx_types.specs.declared.names.Perm.{Perm}
 use Rattle.sgx_types.specs.declared.record.Header.{Header}
 use Rattle.sgx_rules.specs.declared.refusals.Refusal.{Refusal}
 use Rattle.sgx_rules.specs.declared.refusals.Refusal.TheVariants as why
+use Rattle.sgx_rules.specs.inner.Enclaves.{EnclavesAreFlat}
 use Rattle.sgx_rules.specs.Ends.{DoesNotFit, EndsIn, EndsOut, IsBack, IsNotBack}
-use Rattle.sgx_rules.specs.Flat.{FlatEnclave, FlatPage, added_as, flat, header_at, header_by}
-use Rattle.sgx_types.specs.Sealed.{Sealed, header_of}
+use Rattle.sgx_rules.specs.Flat as flats
+use Rattle.sgx_rules.specs.Flat.{FlatEnclave, FlatPage, added_as, flat}
+use Rattle.sgx_rules.specs.Frames.{page_there, reloaded}
+use Rattle.sgx_rules.specs.PageBytes.{header_at, secs_header, va_header}
+use Rattle.sgx_types.specs.Pages.{is_secs_page, is_va_page}
+use Rattle.sgx_types.specs.Sealed.{Sealed}
 use Rattle.sgx_rules.specs.Table.{first_of_row}
 use Rattle.sgx_rules.specs.inner.Starts.{BareStart}
-use Rattle.epcm_entry.specs.inner.Words.{words_of}
 use Rattle.seal_record.specs.Cipher.{cipher, tag}
 use Rattle.seal_record.specs.inner.Row.{same_header}
 use Rattle.paging_laws.specs.inner.Columns.{HasColumns}
 use Rattle.paging_laws.specs.inner.Guarded.{IsGuarded, WritesOut}
 use Rattle.paging_laws.specs.inner.Stands.{Stands}
 use Rattle.paging_laws.specs.inner.State.{State, after_eld, after_failed_eld}
-use Rattle.paging_laws.specs.inner.Steps.{CanApply, IsComing, IsWrittenOut, commit_row, did_by, refused_by}
-use Rattle.paging_laws.proofs.ColumnLaws.{added_flat, content_is, enclave_flat}
+use Rattle.paging_laws.specs.inner.Steps as steps
+use Rattle.paging_laws.specs.inner.Steps.{header_in, CanApply, IsComing, IsWrittenOut, commit_row, did_by, refused_by}
+use Rattle.paging_laws.proofs.ColumnLaws.{content_is, enclave_seen, enclaves_are_flat, page_seen}
 use Rattle.paging_laws.proofs.SlotLaws.{started_as}
 
 -- the ends of starts
@@ -52,15 +55,13 @@ no_end cpus a _ can = refl
 -- a page that went out ends the start of its write-out
 pub ends_out : (s t : State) (past : List Entry) (a : Actor) (f : Frame) (e : Entry) (rec : Sealed) → IsGuarded s → s.is_sealing f.0 ≡ true
     → HasColumns s past
-    → (out : IsWrittenOut s a f e rec t) → EndsOut past f.0 (answers.Moved out.leaving.page.page out.leaving.start.version rec.tag)
+    → (out : IsWrittenOut s a f e rec t) → EndsOut past f.0 (answers.Moved out.leaving.page out.leaving.start.version rec.tag)
 ends_out s t past a f e rec guarded sealing h out =
     let writes : WritesOut out.leaving.start = rw out.leaving.opened at (guarded.written f.0 sealing) in
     let x = started_as s past h f.0 out.leaving.start out.leaving.opened in
     record {
-      page = out.leaving.page.page;
-      kind = out.leaving.page.kind;
-      perm = out.leaving.page.perm;
-      held = sym (content_is h f.0) ∙ out.leaving.page.held;
+      page = out.leaving.page;
+      held = ap page_there (sym (content_is h f.0)) ∙ out.leaving.held;
       start = x.start;
       opened = x.opened;
       writes = ap (λ (y : BareStart). y.loads) x.same ∙ writes;
@@ -89,25 +90,25 @@ one_header a b is = rw is (itself b)
     itself x = rw (eq-eqb x.enclave x.enclave refl, eq-eqb x.address x.address refl, eq-eqb x.flags x.flags refl) refl
 
 -- a page's header is made of its enclave's base and of what it was added as
-header_told : (g : Page) (o : Option FlatEnclave) (x : Option FlatPage) (enclave : FlatEnclave) (kind : Kind) (perm : Perm)
-    → o ≡ Some enclave → added_as x ≡ Some (kind, perm) → header_by o g x ≡ Some (header_of enclave.base g kind perm)
-header_told g None x enclave kind perm made added = cc
-header_told g (Some y) None enclave kind perm made added = cc
-header_told g (Some y) (Some x) enclave kind perm made added =
-    let one : y ≡ enclave = same_Some y enclave made in
-    let was : Kind × Perm = (x.kind, x.perm) in
-    let now : Kind × Perm = (kind, perm) in
-    let alike : was ≡ now = same_Some was now added in
-    λ i. Some (header_of (one i).base g (alike i).0 (alike i).1)
+header_same : (g : Page) (o : Option FlatEnclave) (x : Option FlatPage) → steps.header_by o (added_as x) g ≡ flats.header_by o g x
+header_same g None x = refl
+header_same g (Some y) None = refl
+header_same g (Some y) (Some x) = refl
 
--- the page that a frame waits for has its header in flat memory
+-- a page has its header in flat memory
+pub headers_agree : (s : State) (past : List Entry) → HasColumns s past → EnclavesAreFlat past → (g : Page)
+    → header_in s g ≡ header_at past g
+headers_agree s past h seen g =
+    ap (λ own. cond (is_va_page g) (Some (va_header g.number)) (cond (is_secs_page g) (Some (secs_header g.enclave)) own)) same
+  where
+    same : steps.header_by (s.enclaves g.enclave) (s.added g) g ≡ flats.header_by ((flat past).enclaves g.enclave) g ((flat past).pages g)
+    same = (λ i. steps.header_by (enclave_seen h seen g.enclave i) (page_seen h seen g i) g)
+        ∙ header_same g ((flat past).enclaves g.enclave) ((flat past).pages g)
+
+-- .. so the page that a frame waits for
 pub coming_header : (s : State) (past : List Entry) (f : ℕ) → Stands s past → (coming : IsComing s f)
     → header_at past coming.page ≡ Some coming.header
-coming_header s past f stands coming =
-    header_told coming.page ((flat past).enclaves coming.page.enclave)
-    ((flat past).pages coming.page) coming.enclave coming.kind coming.perm
-    (sym (enclave_flat stands coming.page.enclave) ∙ coming.made) (sym (added_flat stands coming.page) ∙ coming.added)
-    ∙ ap Some (sym coming.headed)
+coming_header s past f stands coming = sym (headers_agree s past stands.columns (enclaves_are_flat stands) coming.page) ∙ coming.headed
 
 -- a load that is refused ends its start, and its record does not fit
 pub ends_refused : (s : State) (past : List Entry) (f : ℕ) (coming : IsComing s f) (rec : Sealed) (r : Refusal)
@@ -146,7 +147,7 @@ ends_refused s past f coming rec r h stands refused = record {
 abbrev pub IsDoneBack : (s : State) (a : Actor) (f : Frame) (rec : Sealed) (e : Entry) (t : State) → IsComing s f.0 → Type 0
 IsDoneBack s a f rec e t coming =
     (e ≡ did_by a (Eld f) (answers.Moved coming.page coming.start.version rec.tag))
-    × (t ≡ after_eld s f.0 coming.start coming.page coming.kind coming.perm (words_of (cipher s.key coming.start.version rec.cipher)))
+    × (t ≡ after_eld s f.0 coming.start (reloaded coming.page (s.added coming.page)) (cipher s.key coming.start.version rec.cipher))
 
 -- .. and where it is refused
 abbrev pub IsRefusedBack : (s : State) (a : Actor) (f : Frame) (e : Entry) (t : State) → IsComing s f.0 → Refusal → Type 0

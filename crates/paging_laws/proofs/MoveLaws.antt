@@ -1,5 +1,5 @@
 -- The instructions that move pages: what each brings where it is done, and each commit.
-use Rattle.std.proofs.Common.{◌≡◌, ℕ, ◌<◌, ◌==◌, true, false, cond, refl, sym, ap, ◌∙◌, Option, Some, None}
+use Rattle.std.proofs.Common.{◌≡◌, ℕ, ◌<◌, ◌==◌, ◌&&◌, not, Bool, true, false, cond, refl, sym, ap, ◌∙◌, Option, Some, None}
 use Rattle.std.proofs.Common.{MatchOption, is_some, List}
 use Rattle.std.proofs.lemmas.Option.{same_Some}
 use Rattle.sgx_rules.specs.declared.entries.Entry.{Entry}
@@ -13,22 +13,27 @@ use Rattle.sgx_types.specs.declared.names.Perm.{Perm}
 use Rattle.sgx_rules.specs.declared.refusals.Refusal.{Refusal}
 use Rattle.sgx_rules.specs.Flat.{FlatMemory, FlatPage, added_as, flat, page_words}
 use Rattle.sgx_rules.specs.Flat as flats
-use Rattle.sgx_rules.specs.Frames.{Content, Free, Holds, IsLoading}
+use Rattle.sgx_types.specs.declared.names.TheConstants.{SECS_NUMBER}
+use Rattle.sgx_types.specs.Pages.{is_own_page}
+use Rattle.sgx_rules.specs.Frames.{Content, Free, Holds, IsLoading, IsVa, SecsOf, reloaded, reloaded_as}
 use Rattle.sgx_types.specs.Sealed.{Sealed}
 use Rattle.sgx_rules.specs.inner.Starts.{BareStart}
-use Rattle.sgx_rules.specs.Table.{first_of_row}
+use Rattle.sgx_rules.specs.Table.{SlotSight, first_of_row, is_own}
 use Rattle.epcm_entry.specs.inner.Words.{words_of, zero_words}
 use Rattle.seal_record.specs.Cipher.{cipher}
 use Rattle.paging_laws.specs.inner.Stands.{Stands, StandsWithRules, HasWords}
 use Rattle.paging_laws.specs.inner.State.{State, row_of, after_block, after_eldstart, after_ewb, after_ewbstart, after_track}
+use Rattle.paging_laws.specs.inner.State.{version_at}
 use Rattle.paging_laws.specs.inner.Steps.{IsComing, IsReloaded, IsWrittenOut, commit_row}
 use Rattle.paging_laws.proofs.FrameLaws.{open_below}
 use Rattle.paging_laws.specs.inner.Guarded.{IsGuarded}
 use Rattle.paging_laws.proofs.MoveEnds.{IsDoneBack, IsRefusedBack, ends_back, ends_out, ends_refused}
 use Rattle.paging_laws.proofs.BuildLaws.{words_put}
 use Rattle.paging_laws.proofs.NextEntry.{Brings, BringsDone, done_brings, brings_as}
-use Rattle.paging_laws.proofs.ColumnLaws.{added_flat, version_is}
-use Rattle.paging_laws.proofs.SlotLaws.{started_as}
+use Rattle.paging_laws.proofs.ColumnLaws.{added_flat}
+use Rattle.paging_laws.proofs.GuardMoves.{starts_in}
+use Rattle.paging_laws.proofs.MoveSights.{slot_sees}
+use Rattle.paging_laws.proofs.SlotLaws.{busy_is, started_as}
 use Rattle.sgx_types.specs.declared.names.SlotAt.{SlotAt}
 
 -- ---- what flat memory does not see
@@ -84,10 +89,11 @@ ewbstart_brings s past a f slot allowed stands = record {
 
 -- a page starts to come back: its frame holds none yet
 pub eldstart_brings : (s : State) (past : List Entry) (a : Actor) (f : Frame) (page : Page) (slot : SlotAt)
-    → first_of_row (row_of s a (EldStart f page slot)) ≡ None → Stands s past
-    → BringsDone s (after_eldstart s f.0 page slot) past a (EldStart f page slot) (answers.Version (s.version_in slot))
-eldstart_brings s past a f page slot allowed stands = record {
-  form = ap answers.Version (version_is stands.columns slot);
+    → first_of_row (row_of s a (EldStart f page slot)) ≡ None → IsGuarded s → Stands s past
+    → BringsDone s (after_eldstart s f.0 page slot) past a (EldStart f page slot) (answers.Version (version_at s slot))
+eldstart_brings s past a f page slot allowed guarded stands = record {
+  form = ap (λ (x : SlotSight). answers.Version x.version)
+      (slot_sees s past stands.columns stands.versions (busy_is s past stands.columns guarded) slot (starts_in s f.0 page slot allowed).within);
   taken = refl;
   same = λ seen. cc seen;
   measure = tt;
@@ -101,16 +107,41 @@ eldstart_brings s past a f page slot allowed stands = record {
 
 -- ---- the words of frames
 
--- one frame comes to hold this, with these words
+-- one frame comes to hold this, a TCS or REG page with these words
 put_words : (content : ℕ → Content) (words : ℕ → List ℕ) (m : FlatMemory) (f : ℕ) (c : Content) (put : List ℕ)
     → ((g : Page) (kind : Kind) (perm : Perm) → c ≡ Holds g kind perm → m.pages g ≡ Some (record { kind = kind; perm = perm; words = put }))
-    → HasWords content words m → HasWords (λ n. cond (f == n) c (content n)) (λ n. cond (f == n) put (words n)) m
-put_words content words m f c put new h n g kind perm =
-    elim (f == n) as (λ b. cond b c (content n) ≡ Holds g kind perm
-    → m.pages g ≡ Some (record { kind = kind; perm = perm; words = cond b put (words n) })) [
-      | true ↦ new g kind perm
-      | false ↦ h n g kind perm
-    ]
+    → HasWords content words m
+    → HasWords (λ n. cond (f == n) c (content n)) (λ n. cond (is_own c && (f == n)) put (words n)) m
+put_words content words m f c put new h n g kind perm = by_test (f == n)
+  where
+    other : (b : Bool) → cond (b && false) put (words n) ≡ words n
+    other true = refl
+    other false = refl
+
+    by_test : (b : Bool) → cond b c (content n) ≡ Holds g kind perm
+        → m.pages g ≡ Some (record { kind = kind; perm = perm; words = cond (is_own c && b) put (words n) })
+    by_test true held =
+        new g kind perm held
+        ∙ ap (λ x. Some (record { kind = kind; perm = perm; words = cond (is_own x && true) put (words n) })) (sym held)
+    by_test false held =
+        h n g kind perm held ∙ ap (λ ws. Some (record { kind = kind; perm = perm; words = ws })) (sym (other (is_own c)))
+
+-- a page that is back as a TCS or REG page is one that was added so
+pub back_own : (page : Page) (o : Option (Kind × Perm)) (g : Page) (kind : Kind) (perm : Perm) → reloaded page o ≡ Holds g kind perm
+    → (is_own_page page ≡ true) × (o ≡ Some (kind, perm)) × (page ≡ g)
+back_own page o g kind perm is = by_name (page.enclave == 0) refl (page.number == SECS_NUMBER) refl o is
+  where
+    by_name : (va : Bool) → (page.enclave == 0) ≡ va → (last : Bool) → (page.number == SECS_NUMBER) ≡ last → (o : Option (Kind × Perm))
+        → cond va (IsVa page.number) (cond (not va && last) (SecsOf page.enclave) (reloaded_as page o)) ≡ Holds g kind perm
+        → (is_own_page page ≡ true) × (o ≡ Some (kind, perm)) × (page ≡ g)
+    by_name true e last d o is = cc is
+    by_name false e true d o is = cc is
+    by_name false e false d None is = cc is
+    by_name false e false d (Some x) is =
+        let one : page ≡ g = cc is in
+        let alike : x.0 ≡ kind = cc is in
+        let allowed : x.1 ≡ perm = cc is in
+        (rw (e, d) refl, λ i. Some (alike i, allowed i), one)
 
 -- a page that is back has the words with which flat memory has it
 back_words : (pages : Page → Option FlatPage) (page : Page) (kind : Kind) (perm : Perm) (words : List ℕ)
@@ -139,7 +170,12 @@ back_words pages page kind perm words added same g kind' perm' e = as_held (by_p
 -- .. and a frame that is free has no page
 freed_words : (s : State) (past : List Entry) (f : ℕ) → Stands s past
     → HasWords (λ n. cond (f == n) Free (s.content n)) (λ n. cond (f == n) zero_words (s.words n)) (flat past)
-freed_words s past f stands = put_words s.content s.words (flat past) f Free zero_words (λ g kind perm held. cc held) stands.memory.words
+freed_words s past f stands n g kind perm =
+    elim (f == n) as (λ b. cond b Free (s.content n) ≡ Holds g kind perm
+    → (flat past).pages g ≡ Some (record { kind = kind; perm = perm; words = cond b zero_words (s.words n) })) [
+      | true ↦ λ held. cc held
+      | false ↦ stands.memory.words n g kind perm
+    ]
 
 -- ---- the commits
 
@@ -155,7 +191,7 @@ written_brings s t past a f e rec guarded sealing out h =
     let stands = h.stands in
     brings_as s t _ past e _ out.entry out.state
     (done_brings s (after_ewb s f.0 out.leaving.start) past a (Ewb f)
-    (answers.Moved out.leaving.page.page out.leaving.start.version rec.tag) refl
+    (answers.Moved out.leaving.page out.leaving.start.version rec.tag) refl
     (below s past f.0 out.leaving.start h out.leaving.opened, tt)
     (record {
       form = ends_out s t past a f e rec guarded sealing stands.columns out;
@@ -172,7 +208,7 @@ written_brings s t past a f e rec guarded sealing out h =
 
 -- a page is back, with its flat words, or its load is refused
 pub reloaded_brings : (s t : State) (past : List Entry) (a : Actor) (f : Frame) (rec : Sealed) (e : Entry) (back : IsReloaded s a f rec e t)
-    → (first_of_row (commit_row s f.0 back.coming rec) ≡ None
+    → (first_of_row (commit_row s f.0 back.coming rec) ≡ None → is_own_page back.coming.page ≡ true
     → words_of (cipher s.key back.coming.start.version rec.cipher) ≡ flats.words_of (flat past) back.coming.page)
     → StandsWithRules s past → Brings s t past e
 reloaded_brings s t past a f rec e back same h = by_row (first_of_row (commit_row s f.0 back.coming rec)) refl back.row
@@ -198,9 +234,12 @@ reloaded_brings s t past a f rec e back same h = by_row (first_of_row (commit_ro
             enclaves = stands.memory.enclaves;
             cpus = stands.memory.cpus;
             words =
-                put_words s.content s.words (flat past) f.0 (Holds coming.page coming.kind coming.perm) _
-                (back_words (flat past).pages coming.page coming.kind coming.perm _ (sym (added_flat stands coming.page) ∙ coming.added)
-                (same allowed)) stands.memory.words;
+                put_words s.content s.words (flat past) f.0 (reloaded coming.page (s.added coming.page))
+                (words_of (cipher s.key coming.start.version rec.cipher))
+                (λ g kind perm held.
+                let k = back_own coming.page (s.added coming.page) g kind perm held in
+                back_words (flat past).pages coming.page kind perm _ (sym (added_flat stands coming.page) ∙ k.1) (same allowed k.0) g kind
+                perm (ap (λ q. Holds q kind perm) k.2)) stands.memory.words;
             measure = stands.memory.measure;
           };
         }))

@@ -13,6 +13,7 @@ use Rattle.sgx_rules.specs.Sights.{row_at}
 use Rattle.sgx_rules.specs.Table.{first_of_row}
 use Rattle.sgx_types.specs.Making.{Making}
 use Rattle.measure_log.specs.Rule.{MeasureRule}
+use Rattle.paging_laws.specs.inner.Columns.{HasAllVersions}
 use Rattle.paging_laws.specs.inner.Shape.{ShapeWithRules}
 use Rattle.paging_laws.specs.inner.Stands.{Shows, Stands, StandsWithRules}
 use Rattle.paging_laws.specs.inner.State.{State, making_of}
@@ -33,9 +34,10 @@ brings_as s t t' past e e' same alike k = rw (same, alike) k
 
 -- a state that has the shape of one entry more, and by whose entries no page stands in two frames
 pub stands_more : (s t : State) (made : Making) (past : List Entry) (e : Entry) → ShapeWithRules made s past
-    → ShapeWithRules made t (e ∷ past) → NoPageTwice (e ∷ past) → StandsWithRules s past → Brings s t past e → StandsWithRules t (e ∷ past)
-stands_more s t made past e before after once h k = record {
-  stands = record { columns = after.shape.columns; memory = k.memory };
+    → ShapeWithRules made t (e ∷ past) → NoPageTwice (e ∷ past) → HasAllVersions t (e ∷ past) → StandsWithRules s past
+    → Brings s t past e → StandsWithRules t (e ∷ past)
+stands_more s t made past e before after once versions h k = record {
+  stands = record { columns = after.shape.columns; versions = versions; memory = k.memory };
   rules = subst (λ k. KeepsRules k (e ∷ past)) (before.shape.making ∙ sym after.shape.making) rules;
   measure = (k.measure, h.measure);
 }

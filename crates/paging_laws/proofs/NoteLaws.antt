@@ -1,5 +1,5 @@
 -- An entry of no instruction leaves a state what it was, and keeps each rule.
-use Rattle.std.proofs.Common.{◌≡◌, ℕ, refl, List, ◌∷◌}
+use Rattle.std.proofs.Common.{◌≡◌, ℕ, refl, List, ◌∷◌, ◌∙◌, sym}
 use Rattle.sgx_types.specs.declared.names.Actor.{Actor}
 use Rattle.sgx_rules.specs.declared.entries.Entry.{Entry}
 use Rattle.sgx_rules.specs.declared.entries.Event.{Event}
@@ -11,8 +11,10 @@ use Rattle.sgx_rules.specs.Starts.{open_start}
 use Rattle.seal_record.specs.Sealing.{SealedRule}
 use Rattle.seal_record.specs.inner.Sealing.{made_by}
 use Rattle.paging_laws.specs.inner.Guarded.{IsGuarded}
-use Rattle.paging_laws.specs.inner.Histories.{OutsideBytes}
+use Rattle.paging_laws.proofs.OutsideLaws.{KeepsOutside}
 use Rattle.paging_laws.specs.inner.Notes.{IsNote}
+use Rattle.page_history.specs.inner.Away.{EndsRight}
+use Rattle.paging_laws.specs.inner.Columns.{HasAllVersions, slot_of}
 use Rattle.paging_laws.specs.inner.Shape.{FitsApart, ShapeWithRules}
 use Rattle.paging_laws.specs.inner.Stands.{IsSound, Stands}
 use Rattle.paging_laws.specs.inner.State.{State}
@@ -32,7 +34,15 @@ noted_quiet : (first_epoch first_version : ℕ) (past : List Entry) (a : Actor) 
 noted_quiet first_epoch first_version past a (Did action answer) note = absurd note
 noted_quiet first_epoch first_version past a (Refused action why) note = absurd note
 noted_quiet first_epoch first_version past a _ note =
-    record { frames = refl; cpus = refl; slots = refl; enclaves = refl; stays = λ p. refl }
+    record {
+      frames = refl;
+      cpus = refl;
+      draws = refl;
+      versions = λ slot. refl;
+      back = λ number. refl;
+      enclaves = refl;
+      stays = λ p. refl;
+    }
 
 -- nor any start
 noted_opens : (past : List Entry) (a : Actor) (event : Event) → IsNote event → (n : ℕ)
@@ -47,19 +57,25 @@ record SaysNothing (past : List Entry) (e : Entry) : Type 0 where
   access : StaleRule past e
   evict : EvictRule past e
   rising : (first : ℕ) → RisingRule first past e
+  right : EndsRight past e.event
 
 noted_nothing : (past : List Entry) (a : Actor) (event : Event) → IsNote event → SaysNothing past (entry_of a event)
 noted_nothing past a (Did action answer) note = absurd note
 noted_nothing past a (Refused action why) note = absurd note
-noted_nothing past a _ note = record { frames = λ frames. tt; access = tt; evict = tt; rising = λ first. tt }
+noted_nothing past a _ note = record { frames = λ frames. tt; access = tt; evict = tt; rising = λ first. tt; right = tt }
 
 pub noted_shaped : (s : State) (made : Making) (past : List Entry) (e : Entry) → IsNote e.event → IsSound s → IsGuarded s
     → ShapeWithRules made s past → ShapeWithRules made s (e ∷ past)
 noted_shaped s made past e note sound guarded h =
     let none = noted_nothing past e.actor e.event note in
-    shaped_more made s s past e sound guarded h (none.frames s.frames)
+    shaped_more made s s past e guarded sound guarded h (none.frames s.frames)
     (quiet_next s s past e (noted_quiet s.first_epoch s.first_version past e.actor e.event note) refl h.shape.columns
-    (held_by made s past h) none.access none.evict (none.rising s.first_version))
+    (held_by made s past h) none.access none.evict (none.rising s.first_version) none.right (λ all. all))
+
+pub noted_arrays : (s : State) (past : List Entry) (e : Entry) → IsNote e.event → HasAllVersions s past → HasAllVersions s (e ∷ past)
+noted_arrays s past e note all n number held index low =
+    all n number held index low
+    ∙ sym ((noted_quiet 0 0 past e.actor e.event note).versions (slot_of number index))
 
 pub noted_fits : (frames : ℕ) (past : List Entry) (e : Entry) → IsNote e.event → FitsApart frames past → FitsApart frames (e ∷ past)
 noted_fits frames past e note h =
@@ -91,15 +107,14 @@ noted_made key past e note = by_event e.event note
     by_event (Refused action why) k = absurd k
     by_event _ k = refl
 
-pub noted_outside : (key : List ℕ) (past : List Entry) (e : Entry) → IsNote e.event → OutsideBytes key past → OutsideBytes key (e ∷ past)
-noted_outside key past e note h = by_event e.event note
+-- the pages outside have their bytes still
+pub noted_keeps : (past : List Entry) (e : Entry) → IsNote e.event → KeepsOutside past e
+noted_keeps past e note = by_event e.event note
   where
-    by_event : (event : Event) → IsNote event → OutsideBytes key (entry_of e.actor event ∷ past)
+    by_event : (event : Event) → IsNote event → KeepsOutside past (entry_of e.actor event)
     by_event (Did action answer) k = absurd k
     by_event (Refused action why) k = absurd k
-    by_event _ k = λ g slot v there.
-        let was = h g slot v there in
-        (was.0, record { made = was.1.made; version = was.1.version; cipher = was.1.cipher; size = was.1.size; back = was.1.back })
+    by_event _ k = record { made = λ key. refl; stays = λ g slot v there. there; words = λ g slot v there. refl }
 
 pub noted_brings : (s : State) (past : List Entry) (e : Entry) → IsNote e.event → Stands s past → Brings s s past e
 noted_brings s past e note h = by_event e.event note

@@ -1,8 +1,8 @@
 -- What each instruction leaves of the pages that are outside.
-use Rattle.std.proofs.Common.{◌≡◌, ℕ, ◌+◌, ◌-◌, ◌/◌, ◌⊎◌, length, inl, inr, Bool, true, false, cond, refl, sym}
+use Rattle.std.proofs.Common.{◌≡◌, ℕ, ◌+◌, ◌-◌, ◌/◌, ◌==◌, ◌⊎◌, length, inl, inr, Bool, true, false, cond, refl, sym}
 use Rattle.std.proofs.Common.{ap, subst, ◌∙◌, Option, Some, None, MatchOption, List, ◌∷◌, set}
 use Rattle.std.specs.List.{Any}
-use Rattle.std.proofs.lemmas.Bool.{cond_both}
+use Rattle.std.proofs.lemmas.Bool.{cond_both, eqb-true}
 use Rattle.sgx_rules.specs.declared.entries.Entry.{Entry}
 use Rattle.sgx_types.specs.declared.names.Actor.{Actor}
 use Rattle.sgx_types.specs.declared.names.Actor.TheVariants as actors
@@ -21,11 +21,13 @@ use Rattle.sgx_types.specs.declared.names.Kind.{Kind}
 use Rattle.sgx_types.specs.declared.names.Kind.TheVariants as kinds
 use Rattle.sgx_types.specs.declared.names.Page.{Page}
 use Rattle.sgx_types.specs.declared.names.Perm.{Perm}
-use Rattle.sgx_types.specs.declared.names.SlotAt.{SlotAt}
+use Rattle.sgx_types.specs.declared.names.VaSlot.{VaSlot}
 use Rattle.sgx_rules.specs.declared.refusals.Refusal.{Refusal}
 use Rattle.sgx_rules.specs.declared.refusals.Refusal.TheVariants as why
-use Rattle.sgx_types.specs.Pages.{page_at, same_page}
-use Rattle.sgx_rules.specs.Frames.{Holds, content, is_page}
+use Rattle.sgx_types.specs.declared.names.TheConstants.{SECS_NUMBER}
+use Rattle.sgx_types.specs.Pages.{is_own_page, is_va_page, page_at, same_page, secs_page, va_page}
+use Rattle.sgx_rules.specs.Frames.{Holds, content, is_page, vas_made}
+use Rattle.sgx_rules.specs.PageBytes.{bytes_at, va_words}
 use Rattle.sgx_rules.specs.Processors.{Stay, stay}
 use Rattle.sgx_rules.specs.Table.{TcsSight, first_of_row, allows_update, allows_write}
 use Rattle.sgx_rules.specs.Flat.{FlatMemory, accepts, fields_in, flat, memory_after, page_words, saved, stored, sum_of}
@@ -38,6 +40,7 @@ use Rattle.sgx_types.specs.Layouts.{bytes_of}
 use Rattle.seal_record.specs.Cipher.{cipher}
 use Rattle.seal_record.specs.Records.{Made}
 use Rattle.epcm_entry.specs.inner.Words.{words_of as words_in}
+use Rattle.page_history.specs.inner.Away.{BytesRest}
 use Rattle.page_history.specs.inner.Copies.{Copy, InFrame, InSlot, OneLiveCopy, copy}
 use Rattle.seal_record.specs.Sealing.{SealedRule}
 use Rattle.seal_record.specs.inner.Sealing.{made_by}
@@ -52,6 +55,8 @@ use Rattle.paging_laws.proofs.EntryLaws.{enters, resume_saved, resume_saves}
 use Rattle.paging_laws.specs.inner.Columns.{seat_of_stay}
 use Rattle.paging_laws.proofs.ColumnLaws.{content_is, inside_flat, inside_is}
 use Rattle.paging_laws.proofs.SoundLaws.{seat_at}
+use Rattle.paging_laws.proofs.WordLaws.{page_stands}
+use Rattle.paging_laws.proofs.FitLaws.{own_names}
 
 -- ---- entries that make no record
 
@@ -63,17 +68,37 @@ is_ewb _ = false
 -- an entry makes no record, brings no page outside, and leaves the words of those that are there
 pub record KeepsOutside (past : List Entry) (e : Entry) : Type 0 where
   pub made : (key : List ℕ) → made_by key (e ∷ past) ≡ made_by key past
-  pub stays : (g : Page) (slot : SlotAt) (v : ℕ) → copy (e ∷ past) g ≡ Some (InSlot slot v) → copy past g ≡ Some (InSlot slot v)
-  pub words : (g : Page) (slot : SlotAt) (v : ℕ) → copy (e ∷ past) g ≡ Some (InSlot slot v)
+  pub stays : (g : Page) (slot : VaSlot) (v : ℕ) → copy (e ∷ past) g ≡ Some (InSlot slot v) → copy past g ≡ Some (InSlot slot v)
+  pub words : (g : Page) (slot : VaSlot) (v : ℕ) → copy (e ∷ past) g ≡ Some (InSlot slot v)
       → words_of (flat (e ∷ past)) g ≡ words_of (flat past) g
 
--- .. so that each record outside goes on to have its page's flat bytes
-pub outside_more : (key : List ℕ) (past : List Entry) (e : Entry) → KeepsOutside past e → OutsideBytes key past
+-- a TCS or REG page's bytes are those of its flat words
+pub own_bytes : (past : List Entry) (g : Page) → is_own_page g ≡ true → bytes_at past g ≡ bytes_of (words_of (flat past) g)
+own_bytes past g own =
+    let names = own_names (g.enclave == 0) (g.number == SECS_NUMBER) own in
+    rw (names.0, names.1) refl
+
+-- a version array page that is out has its slots still
+pub array_rests : (past : List Entry) (e : Entry) → BytesRest past e → (g : Page) (slot : VaSlot) (v : ℕ)
+    → copy (e ∷ past) g ≡ Some (InSlot slot v) → is_va_page g ≡ true → va_words (e ∷ past) g.number ≡ va_words past g.number
+array_rests past e rests g slot v there va =
+    let name : va_page g.number ≡ g = λ i. record { enclave = sym (eqb-true g.enclave 0 va) i; number = g.number } in
+    rests.slots g.number slot v (ap (copy (e ∷ past)) name ∙ there)
+
+-- .. so that each record outside goes on to have its page's bytes, where the other pages' bytes rest
+pub outside_more : (key : List ℕ) (past : List Entry) (e : Entry) → KeepsOutside past e → BytesRest past e → OutsideBytes key past
     → OutsideBytes key (e ∷ past)
-outside_more key past e keeps outside g slot v there = still (outside g slot v (keeps.stays g slot v there))
+outside_more key past e keeps rests outside g slot v there = still (outside g slot v (keeps.stays g slot v there))
   where
-    same : words_of (flat past) g ≡ words_of (flat (e ∷ past)) g
-    same = sym (keeps.words g slot v there)
+    flat_same : words_of (flat past) g ≡ words_of (flat (e ∷ past)) g
+    flat_same = sym (keeps.words g slot v there)
+
+    same : bytes_at past g ≡ bytes_at (e ∷ past) g
+    same = by_kind (is_own_page g) refl
+      where
+        by_kind : (b : Bool) → is_own_page g ≡ b → bytes_at past g ≡ bytes_at (e ∷ past) g
+        by_kind true own = own_bytes past g own ∙ ap bytes_of flat_same ∙ sym (own_bytes (e ∷ past) g own)
+        by_kind false other = sym (rests.bytes g slot v other there)
 
     still : (one : Made) × HasBytes key past g v one → (one : Made) × HasBytes key (e ∷ past) g v one
     still (one, has) = (
@@ -81,9 +106,12 @@ outside_more key past e keeps outside g slot v there = still (outside g slot v (
       record {
         made = subst (λ all. Any (λ other. other ≡ one) all) (sym (keeps.made key)) has.made;
         version = has.version;
-        cipher = has.cipher ∙ ap (λ words. cipher key v (bytes_of words)) same;
-        size = ap (λ words. length (bytes_of words)) (sym same) ∙ has.size;
-        back = ap (λ words. words_in (bytes_of words)) (sym same) ∙ has.back ∙ same;
+        cipher = has.cipher ∙ ap (cipher key v) same;
+        size = ap (λ (bytes : List ℕ). length bytes) (sym same) ∙ has.size;
+        back = record {
+          array = λ va. ap words_in (sym same) ∙ has.back.array va ∙ sym (array_rests past e rests g slot v there va);
+          own = λ own. ap words_in (sym same) ∙ has.back.own own ∙ flat_same;
+        };
       },
     )
 
@@ -92,16 +120,19 @@ pub refused_keeps : (past : List Entry) (a : Actor) (action : Action) (r : Refus
 refused_keeps past a action r = record { made = λ key. refl; stays = λ g slot v there. there; words = λ g slot v there. refl }
 
 -- a page that was put into a frame is not outside
-pub not_framed : (b : Bool) (n : ℕ) (o : Option Copy) (slot : SlotAt) (v : ℕ) → cond b (Some (InFrame n)) o ≡ Some (InSlot slot v)
+pub not_framed : (b : Bool) (n : ℕ) (o : Option Copy) (slot : VaSlot) (v : ℕ) → cond b (Some (InFrame n)) o ≡ Some (InSlot slot v)
     → o ≡ Some (InSlot slot v)
 not_framed true n o slot v there = cc
 not_framed false n o slot v there = there
 
 -- a done instruction, but for an `ewb`, brings no page outside
 pub did_stays : (past : List Entry) (a : Actor) (action : Action) (answer : Answer) → is_ewb action ≡ false
-    → (g : Page) (slot : SlotAt) (v : ℕ) → copy (did_by a action answer ∷ past) g ≡ Some (InSlot slot v)
+    → (g : Page) (slot : VaSlot) (v : ℕ) → copy (did_by a action answer ∷ past) g ≡ Some (InSlot slot v)
     → copy past g ≡ Some (InSlot slot v)
 did_stays past a (Ewb f) answer other g slot v there = cc
+did_stays past a (Epa f) answer other g slot v there = not_framed (same_page (va_page (vas_made past)) g) f.0 (copy past g) slot v there
+did_stays past a (Create enclave f base size) answer other g slot v there =
+    not_framed (same_page (secs_page enclave) g) f.0 (copy past g) slot v there
 did_stays past a (Add enclave number f kind perm init) answer other g slot v there =
     not_framed (same_page (page_at enclave number) g) f.0 (copy past g) slot v there
 did_stays past a (Eld f) (answers.Moved page version tag) other g slot v there =
@@ -122,7 +153,7 @@ did_sealed key past a action answer other = tt
 
 -- a done instruction that leaves the words of the pages outside
 pub did_keeps : (past : List Entry) (a : Actor) (action : Action) (answer : Answer) → is_ewb action ≡ false
-    → ((g : Page) (slot : SlotAt) (v : ℕ) → copy (did_by a action answer ∷ past) g ≡ Some (InSlot slot v)
+    → ((g : Page) (slot : VaSlot) (v : ℕ) → copy (did_by a action answer ∷ past) g ≡ Some (InSlot slot v)
     → words_of (memory_after a action (flat past)) g ≡ words_of (flat past) g)
     → KeepsOutside past (did_by a action answer)
 did_keeps past a action answer other words = record {
@@ -136,7 +167,7 @@ did_keeps past a action answer other words = record {
 -- ---- pages in frames
 
 -- a page in a frame is none that is outside
-pub framed_apart : (past : List Entry) → OneLiveCopy past → (n : ℕ) (q g : Page) (slot : SlotAt) (v : ℕ) → is_page (content past n) q ≡ true
+pub framed_apart : (past : List Entry) → OneLiveCopy past → (n : ℕ) (q g : Page) (slot : VaSlot) (v : ℕ) → is_page (content past n) q ≡ true
     → copy past g ≡ Some (InSlot slot v) → same_page g q ≡ false
 framed_apart past one n q g slot v framed there = by_test (same_page g q) refl
   where
@@ -144,7 +175,7 @@ framed_apart past one n q g slot v framed there = by_test (same_page g q) refl
     by_test false e = refl
     by_test true e =
         let same : g ≡ q = same_pages g q e in
-        let here : copy past q ≡ Some (InFrame n) = one.framed n q framed in
+        let here : copy past q ≡ Some (InFrame n) = one.framed n q (page_stands (content past n) q framed) in
         let outside : copy past q ≡ Some (InSlot slot v) = ap (copy past) (sym same) ∙ there in
         absurd (cc (here, outside))
 
@@ -157,7 +188,7 @@ other_words m q g change other = rw other refl
 
 -- a page that is added is in its frame
 add_words : (past : List Entry) (a : Actor) (enclave number : ℕ) (f : Frame) (kind : Kind) (perm : Perm) (init : PageInit) (answer : Answer)
-    (g : Page) (slot : SlotAt) (v : ℕ)
+    (g : Page) (slot : VaSlot) (v : ℕ)
     → copy (did_by a (Add enclave number f kind perm init) answer ∷ past) g ≡ Some (InSlot slot v)
     → words_of (memory_after a (Add enclave number f kind perm init) (flat past)) g ≡ words_of (flat past) g
 add_words past a enclave number f kind perm init answer g slot v there = by_test (same_page g (page_at enclave number)) refl
@@ -175,7 +206,7 @@ add_words past a enclave number f kind perm init answer g slot v there = by_test
 
 -- a word is written into the page of a translation, which is in a frame
 stored_words : (s : State) (past : List Entry) (p off value : ℕ) → Stands s past → Reads s past p off → OneLiveCopy past
-    → (g : Page) (slot : SlotAt) (v : ℕ) → copy past g ≡ Some (InSlot slot v)
+    → (g : Page) (slot : VaSlot) (v : ℕ) → copy past g ≡ Some (InSlot slot v)
     → words_of (stored (flat past) ((flat past).cpus p).inside off value) g ≡ words_of (flat past) g
 stored_words s past p off value stands k one g slot v there =
     let m = flat past in
@@ -189,7 +220,7 @@ stored_words s past p off value stands k one g slot v there =
 -- a resumption counts in the TCS page, which is in a frame
 resume_words : (s : State) (past : List Entry) (p : Cpu) (enclave tcs : ℕ) (tf sf : Frame) → Stands s past
     → first_of_row (row_of s (actors.Cpu p) (Resume enclave tcs tf sf)) ≡ None → OneLiveCopy past
-    → (g : Page) (slot : SlotAt) (v : ℕ) → copy past g ≡ Some (InSlot slot v)
+    → (g : Page) (slot : VaSlot) (v : ℕ) → copy past g ≡ Some (InSlot slot v)
     → words_of (memory_after (actors.Cpu p) (Resume enclave tcs tf sf) (flat past)) g ≡ words_of (flat past) g
 resume_words s past p enclave tcs tf sf stands allowed one g slot v there =
     let f = tcs_fields (s.words tf.0) in
@@ -200,7 +231,7 @@ resume_words s past p enclave tcs tf sf stands allowed one g slot v there =
     (framed_apart past one tf.0 (page_at enclave tcs) g slot v framed there)
 
 -- an asynchronous exit writes the state save page and the TCS page, which are in the processor's frames
-aex_words : (s : State) (past : List Entry) (p acc : ℕ) → IsSound s → Stands s past → OneLiveCopy past → (g : Page) (slot : SlotAt) (v : ℕ)
+aex_words : (s : State) (past : List Entry) (p acc : ℕ) → IsSound s → Stands s past → OneLiveCopy past → (g : Page) (slot : VaSlot) (v : ℕ)
     → copy past g ≡ Some (InSlot slot v)
     → words_of (saved (flat past) acc ((flat past).cpus p).inside) g ≡ words_of (flat past) g
 aex_words s past p acc sound stands one g slot v there = by_stay (stay past p) refl
@@ -346,10 +377,3 @@ step_keeps s t past cpus (actors.Cpu p) (OutStore enclave off value) e can sound
     (λ allowed done. keeps_as past e _ done.0 (did_keeps past (actors.Cpu p) (OutStore enclave off value) _ refl (λ g slot v there. refl)))
     k
 step_keeps s t past cpus a action e can sound k stands one = absurd can
-
--- a step leaves what is outside
-pub outside_step : (key : List ℕ) (s t : State) (past : List Entry) (cpus : ℕ) (a : Actor) (action : Action) (e : Entry)
-    → CanApply cpus a action → IsSound s → IsStep s a action e t → Stands s past → OneLiveCopy past
-    → OutsideBytes key past → OutsideBytes key (e ∷ past)
-outside_step key s t past cpus a action e can sound k stands one outside =
-    outside_more key past e (step_keeps s t past cpus a action e can sound k stands one) outside

@@ -1,57 +1,54 @@
 -- What blocks, tracks, write-out and reload leave of a sound state is sound: each touches at most one frame, which no
 -- processor inside uses.
-use Rattle.std.proofs.Common.{◌≡◌, ℕ, ◌<◌, ◌≤◌, ◌==◌, Bool, true, false, refl, sym, ap, ◌∙◌, arith, Option}
+use Rattle.std.proofs.Common.{◌≡◌, ℕ, ◌<◌, ◌≤◌, ◌==◌, ◌&&◌, Bool, true, false, cond, refl, sym, ap, ◌∙◌, arith, Option}
 use Rattle.std.proofs.Common.{Some, None, List, length, is_some}
 use Rattle.std.specs.List.{All}
 use Rattle.std.proofs.lemmas.Bool.{cond_both, false≢true}
 use Rattle.std.proofs.lemmas.List.{length-replicate}
 use Rattle.std.proofs.lemmas.List.Elements.{All-weaker}
-use Rattle.sgx_rules.specs.Flat.{enclave_sight_of}
-use Rattle.sgx_types.specs.declared.names.Kind.{Kind}
 use Rattle.sgx_types.specs.declared.names.Page.{Page}
-use Rattle.sgx_types.specs.declared.names.Perm.{Perm}
 use Rattle.sgx_types.specs.declared.names.SlotAt.{SlotAt}
-use Rattle.sgx_rules.specs.Frames.{Content, IsLoading, enclave_in}
+use Rattle.sgx_rules.specs.Frames.{Content, Free, Holds, IsLoading, IsVa, SecsOf, enclave_in}
 use Rattle.sgx_rules.specs.Processors.{Seat}
 use Rattle.sgx_rules.specs.inner.Starts.{BareStart}
-use Rattle.sgx_rules.specs.Table.{ewbstart_row, eldstart_row, first_of_row}
+use Rattle.sgx_rules.specs.Table.{ewbstart_row, eldstart_row, first_of_row, is_own}
 use Rattle.sgx_types.proofs.Truths.{apart}
-use Rattle.epcm_entry.specs.inner.Words.{zero_words}
+use Rattle.epcm_entry.specs.inner.Words.{words_of, zero_words}
 use Rattle.cached_translations.specs.declared.cache.Translation.{Translation}
 use Rattle.paging_laws.specs.inner.State.{State, sight, epoch_in, slot_sight, drain_sight, is_version_spent, after_block}
-use Rattle.paging_laws.specs.inner.State.{after_track}
+use Rattle.paging_laws.specs.inner.State.{after_track, load_sight, use_sight}
 use Rattle.paging_laws.specs.inner.State.{after_ewbstart, after_eldstart, after_ewb, after_eld, after_failed_eld}
 use Rattle.paging_laws.specs.inner.Stands.{IsUsable, IsTranslation, IsSeated, IsSound}
 use Rattle.paging_laws.specs.inner.Guarded.{IsNoEarlier, IsDrainedAt, IsGuarded}
 use Rattle.paging_laws.proofs.TestLaws.{each_there}
 use Rattle.paging_laws.proofs.SoundLaws.{seat_at, unused}
-use Rattle.paging_laws.proofs.GuardMoves.{starts_in, starts_out, tracked_drained, all_both}
+use Rattle.paging_laws.proofs.GuardMoves.{StartsOut, starts_in, starts_out, tracked_drained, all_both}
 use Rattle.paging_laws.proofs.GuardCpus.{noted_at}
 
 -- ---- the columns on which no seat depends
 
 -- any change of the blocks, the epochs, the starts, the slots and the next version
 sound_beside : (s : State) (blocked : ℕ → Option ℕ) (epoch : ℕ → ℕ) (start : ℕ → Option BareStart) (version_in : SlotAt → ℕ)
-    (is_slot_busy : SlotAt → Bool) (next_version : ℕ) → IsSound s
+    (is_slot_named : SlotAt → Bool) (next_version : ℕ) → IsSound s
     → IsSound (record s {
       blocked = blocked;
       epoch = epoch;
       start = start;
       version_in = version_in;
-      is_slot_busy = is_slot_busy;
+      is_slot_named = is_slot_named;
       next_version = next_version;
     })
-sound_beside s blocked epoch start version_in is_slot_busy next_version sound =
+sound_beside s blocked epoch start version_in is_slot_named next_version sound =
     record { seated = sound.seated; busy = sound.busy; apart = sound.apart; sized = sound.sized }
 
 -- a block
 pub sound_block : (s : State) (f : ℕ) → IsSound s → IsSound (after_block s f)
-sound_block s f sound = sound_beside s (after_block s f).blocked s.epoch s.start s.version_in s.is_slot_busy s.next_version sound
+sound_block s f sound = sound_beside s (after_block s f).blocked s.epoch s.start s.version_in s.is_slot_named s.next_version sound
 
 -- .. and a track
 pub sound_track : (s : State) (enclave : ℕ) → IsSound s → IsSound (after_track s enclave)
 sound_track s enclave sound =
-    sound_beside s s.blocked (after_track s enclave).epoch s.start s.version_in s.is_slot_busy s.next_version sound
+    sound_beside s s.blocked (after_track s enclave).epoch s.start s.version_in s.is_slot_named s.next_version sound
 
 -- ---- a frame that no processor uses
 
@@ -136,29 +133,43 @@ sound_apart s f content is_sealing words sound unused same sized = record {
 
 -- ---- write-out and reload
 
--- a drained page starts to go out
+-- a frame that holds no TCS or REG page holds no page of an enclave's own memory
+not_own : (c : Content) → is_own c ≡ false → enclave_in c ≡ None
+not_own Free is = refl
+not_own (IsVa number) is = refl
+not_own (SecsOf enclave) is = refl
+not_own (Holds page kind perm) is = cc is
+not_own (IsLoading page) is = refl
+
+-- what starts to go out is drained, or is no page that a processor uses
 pub sound_ewbstart : (s : State) (f : ℕ) (slot : SlotAt)
-    → first_of_row (ewbstart_row (sight s f) (slot_sight s slot) (drain_sight s f) (is_version_spent s)) ≡ None → IsGuarded s → IsSound s
+    → first_of_row (ewbstart_row (sight s f) (use_sight s f slot) (slot_sight s slot) (drain_sight s f) (is_version_spent s)) ≡ None
+    → IsGuarded s → IsSound s
     → IsSound (after_ewbstart s f slot)
-sound_ewbstart s f slot allowed h sound = by_block (s.blocked f) refl (starts_out s f slot allowed).blocked
+sound_ewbstart s f slot allowed h sound =
+    let t = after_ewbstart s f slot in
+    sound_beside (record s { is_sealing = t.is_sealing }) s.blocked s.epoch t.start s.version_in t.is_slot_named t.next_version
+    (sound_apart s f s.content t.is_sealing s.words sound (by_kind (is_own (s.content f)) refl) (λ n e. (refl, rw e refl, refl)) sound.sized)
   where
-    by_block : (o : Option ℕ) → s.blocked f ≡ o → is_some o ≡ true → IsSound (after_ewbstart s f slot)
-    by_block None is there = cc there
-    by_block (Some b) is there =
-        let t = after_ewbstart s f slot in
-        let unused = drained_unused s f b sound h is (tracked_drained s f b h is (starts_out s f slot allowed).drained) in
-        sound_beside (record s { is_sealing = t.is_sealing }) s.blocked s.epoch t.start s.version_in t.is_slot_busy t.next_version
-        (sound_apart s f s.content t.is_sealing s.words sound unused (λ n e. (refl, rw e refl, refl)) sound.sized)
+    k : StartsOut s f slot
+    k = starts_out s f slot allowed
+
+    by_block : (o : Option ℕ) → s.blocked f ≡ o → is_some o ≡ true → is_own (s.content f) ≡ true → NobodyUses s f
+    by_block None is there own = cc there
+    by_block (Some b) is there own = drained_unused s f b sound h is (tracked_drained s f b h is (k.drained own))
+
+    by_kind : (b : Bool) → is_own (s.content f) ≡ b → NobodyUses s f
+    by_kind true own = by_block (s.blocked f) refl (k.blocked own) own
+    by_kind false other = unusable_empty s f sound (not_own (s.content f) other)
 
 -- a free frame starts to wait for a page
 pub sound_eldstart : (s : State) (f : ℕ) (page : Page) (slot : SlotAt)
-    → first_of_row (eldstart_row (sight s f) (enclave_sight_of (s.enclaves page.enclave)) (is_some (s.added page)) (slot_sight s slot))
-    ≡ None → IsSound s
+    → first_of_row (eldstart_row (sight s f) (load_sight s page) (slot_sight s slot)) ≡ None → IsSound s
     → IsSound (after_eldstart s f page slot)
 sound_eldstart s f page slot allowed sound =
     let t = after_eldstart s f page slot in
     let k = starts_in s f page slot allowed in
-    sound_beside (record s { content = t.content }) t.blocked s.epoch t.start s.version_in t.is_slot_busy s.next_version
+    sound_beside (record s { content = t.content }) t.blocked s.epoch t.start s.version_in t.is_slot_named s.next_version
     (sound_apart s f t.content s.is_sealing s.words sound (unusable_empty s f sound (rw k.free refl)) (λ n e. (rw e refl, refl, refl))
     sound.sized)
 
@@ -172,7 +183,7 @@ freed : (s : State) (f : ℕ) (start : BareStart) → NobodyUses s f → IsSound
 freed s f start unused sound =
     let t = after_failed_eld s f start in
     sound_beside (record s { content = t.content; is_sealing = t.is_sealing; words = t.words }) t.blocked s.epoch t.start s.version_in
-    t.is_slot_busy s.next_version
+    t.is_slot_named s.next_version
     (sound_apart s f t.content t.is_sealing t.words sound unused (λ n e. (rw e refl, rw e refl, rw e refl))
     (λ n. cond_both (f == n) zero_words (s.words n) (λ ws. length ws ≡ 512) (λ _. zero_sized) (λ _. sound.sized n)))
 
@@ -180,7 +191,7 @@ freed s f start unused sound =
 pub sound_ewb : (s : State) (f : ℕ) (start : BareStart) → s.is_sealing f ≡ true → IsSound s → IsSound (after_ewb s f start)
 sound_ewb s f start leaving sound =
     let t = after_failed_eld s f start in
-    sound_beside t t.blocked t.epoch t.start (after_ewb s f start).version_in t.is_slot_busy t.next_version
+    sound_beside t t.blocked t.epoch t.start (after_ewb s f start).version_in t.is_slot_named t.next_version
     (freed s f start (unusable s f sound (λ enclave u. false≢true (sym u.settled ∙ leaving))) sound)
 
 -- a load is refused
@@ -189,11 +200,16 @@ pub sound_failed_eld : (s : State) (f : ℕ) (start : BareStart) (g : Page) → 
 sound_failed_eld s f start g waits sound = freed s f start (unusable_empty s f sound (rw waits refl)) sound
 
 -- a page is back, with its words
-pub sound_eld : (s : State) (f : ℕ) (start : BareStart) (page : Page) (kind : Kind) (perm : Perm) (words : List ℕ) (g : Page)
+pub sound_eld : (s : State) (f : ℕ) (start : BareStart) (back : Content) (plain : List ℕ) (g : Page)
     → s.content f ≡ IsLoading g
-    → length words ≡ 512 → IsSound s → IsSound (after_eld s f start page kind perm words)
-sound_eld s f start page kind perm words g waits long sound =
-    let t = after_eld s f start page kind perm words in
-    sound_beside (record s { content = t.content; words = t.words }) t.blocked s.epoch t.start t.version_in t.is_slot_busy s.next_version
-    (sound_apart s f t.content s.is_sealing t.words sound (unusable_empty s f sound (rw waits refl)) (λ n e. (rw e refl, refl, rw e refl))
-    (λ n. cond_both (f == n) words (s.words n) (λ ws. length ws ≡ 512) (λ _. long) (λ _. sound.sized n)))
+    → length (words_of plain) ≡ 512 → IsSound s → IsSound (after_eld s f start back plain)
+sound_eld s f start back plain g waits long sound =
+    let t = after_eld s f start back plain in
+    sound_beside (record s { content = t.content; words = t.words }) t.blocked s.epoch t.start t.version_in t.is_slot_named s.next_version
+    (sound_apart s f t.content s.is_sealing t.words sound (unusable_empty s f sound (rw waits refl))
+    (λ n e. (rw e refl, refl, rw e (elsewhere (is_own back) n)))
+    (λ n. cond_both (is_own back && (f == n)) (words_of plain) (s.words n) (λ ws. length ws ≡ 512) (λ _. long) (λ _. sound.sized n)))
+  where
+    elsewhere : (b : Bool) (n : ℕ) → cond (b && false) (words_of plain) (s.words n) ≡ s.words n
+    elsewhere true n = refl
+    elsewhere false n = refl

@@ -28,7 +28,7 @@ use Rattle.sgx_rules.specs.Table.{extend_row}
 use Rattle.sgx_rules.specs.Table.{init_row, inside_row, outside_row, fill_row, access_row, allows_read, allows_write}
 use Rattle.sgx_rules.specs.Table.{allows_update, pf_row}
 use Rattle.sgx_types.specs.Lawful.{is_enclave, is_lawful}
-use Rattle.sgx_rules.specs.Table.{first_of_row, EnclaveSight, is_loading, is_valid, entry_row}
+use Rattle.sgx_rules.specs.Table.{first_of_row, EnclaveSight, SecsSight, is_loading, is_valid, entry_row}
 use Rattle.sgx_rules.specs.Flat.{FlatEnclave, flat, enclave_sight_of, tcs_fields, words_of, page_words}
 use Rattle.sgx_rules.specs.Sights.{row_at, seat_of, translation_at}
 use Rattle.sgx_rules.specs.Sights as sights
@@ -38,7 +38,7 @@ use Rattle.measure_log.specs.Rule.{MeasureRule}
 use Rattle.sgx_rules.specs.declared.entries.AccessOp.{AccessOp}
 use Rattle.sgx_rules.specs.declared.entries.Answer.TheVariants as answers
 use Rattle.paging_laws.specs.inner.State.{State, making_of, enter_sight, seat_enclave, is_closed, row_of, row_outside}
-use Rattle.paging_laws.specs.inner.State.{translation, sight}
+use Rattle.paging_laws.specs.inner.State.{is_busy_at, secs_sight, translation, sight}
 use Rattle.paging_laws.specs.inner.Stands.{Stands, IsSound}
 use Rattle.paging_laws.proofs.BuildLaws.{is_some-added_as, adds}
 use Rattle.paging_laws.proofs.Contents.{tcs_there}
@@ -46,13 +46,13 @@ use Rattle.paging_laws.proofs.ProcessorLaws.{mode_by_entries, enclave_by_entries
 use Rattle.paging_laws.proofs.EntryLaws.{by_fields, enter_saves, enter_saved, resume_saves, resume_saved, enter_sight_of, enters}
 use Rattle.paging_laws.proofs.AccessLaws.{found_translation, fill_within}
 use Rattle.paging_laws.proofs.RegisterLaws.{added_by_entries}
-use Rattle.paging_laws.proofs.MoveSights.{block_agrees, eldstart_agrees, ewbstart_agrees, track_agrees}
+use Rattle.paging_laws.proofs.MoveSights.{block_agrees, eldstart_agrees, ewbstart_agrees, secs_sees, track_agrees}
 use Rattle.paging_laws.specs.inner.Steps.{CanApply, is_of_cpus, refused_by, IsStep, IsDone, did_by, answer_of}
 use Rattle.paging_laws.proofs.MeasureLaws.{quiet}
 use Rattle.paging_laws.proofs.ColumnLaws.{busy_flat, content_is, enclave_flat, enclave_seen, enclaves_are_flat, inside_is}
 use Rattle.paging_laws.proofs.ColumnLaws.{page_seen}
 use Rattle.paging_laws.proofs.ColumnLaws.{sight_is}
-use Rattle.paging_laws.specs.inner.Columns.{HasColumns}
+use Rattle.paging_laws.specs.inner.Columns.{HasAllVersions, HasColumns}
 use Rattle.paging_laws.specs.inner.Guarded.{IsGuarded}
 use Rattle.std.proofs.lemmas.Bool.{leb-false}
 use Rattle.sgx_rules.specs.declared.entries.Answer.{Answer}
@@ -76,18 +76,20 @@ create_agrees : (s : State) (past : List Entry) (a : Actor) (enclave : ℕ) (f :
 create_agrees s past a enclave f base size h seen =
     create_row_same enclave base size _ _ _ _ (enclave_seen h seen enclave) (sight_is h f.0)
 
-add_row_same : (number : ℕ) (kind : Kind) (perm : Perm) (init : PageInit) (o o' : Option FlatEnclave) (b b' : Bool) (v v' : FrameSight)
-    → o ≡ o' → b ≡ b' → v ≡ v'
-    → first_of_row (add_row number kind perm init (enclave_sight_of o) b v) ≡ first_of_row
-    (add_row number kind perm init (enclave_sight_of o') b' v')
-add_row_same number kind perm init o o' b b' v v' e1 e2 e3 = rw (e1, e2, e3) refl
+add_row_same : (number : ℕ) (kind : Kind) (perm : Perm) (init : PageInit) (o o' : Option FlatEnclave) (secs secs' : SecsSight) (b b' : Bool)
+    (v v' : FrameSight)
+    → o ≡ o' → secs ≡ secs' → b ≡ b' → v ≡ v'
+    → first_of_row (add_row number kind perm init (enclave_sight_of o) secs b v) ≡ first_of_row
+    (add_row number kind perm init (enclave_sight_of o') secs' b' v')
+add_row_same number kind perm init o o' secs secs' b b' v v' e1 e2 e3 e4 i =
+    first_of_row (add_row number kind perm init (enclave_sight_of (e1 i)) (e2 i) (e3 i) (e4 i))
 
 add_agrees : (s : State) (past : List Entry) (a : Actor) (enclave number : ℕ) (f : Frame) (kind : Kind) (perm : Perm) (init : PageInit)
     → HasColumns s past → EnclavesAreFlat past
     → first_of_row (row_of s a (Add enclave number f kind perm init)) ≡ first_of_row
     (row_at (making_of s) past a (Add enclave number f kind perm init))
 add_agrees s past a enclave number f kind perm init h seen =
-    add_row_same number kind perm init _ _ _ _ _ _ (enclave_seen h seen enclave)
+    add_row_same number kind perm init _ _ _ _ _ _ _ _ (enclave_seen h seen enclave) (secs_sees s past h enclave)
     (ap is_some (page_seen h seen (page_at enclave number)) ∙ is_some-added_as ((flat past).pages (page_at enclave number)))
     (sight_is h f.0)
 
@@ -110,7 +112,8 @@ extend_agrees s past a f chunk h seen =
 init_agrees : (s : State) (past : List Entry) (a : Actor) (enclave : ℕ) (expect : Option (List ℕ)) → HasColumns s past
     → EnclavesAreFlat past
     → first_of_row (row_of s a (Init enclave expect)) ≡ first_of_row (row_at (making_of s) past a (Init enclave expect))
-init_agrees s past a enclave expect h seen = ap (λ o. first_of_row (init_row (enclave_sight_of o))) (enclave_seen h seen enclave)
+init_agrees s past a enclave expect h seen i =
+    first_of_row (init_row (enclave_sight_of (enclave_seen h seen enclave i)) (secs_sees s past h enclave i))
 
 fill_row_same : (number : ℕ) (o o' : Option ℕ) (v v' : FrameSight) → o ≡ o' → v ≡ v'
     → first_of_row (fill_row number o v) ≡ first_of_row (fill_row number o' v')
@@ -225,28 +228,29 @@ row_outside_agrees s past action own stands = cc
 
 -- the row of an instruction that builds an enclave or moves a page, which sees columns alone
 pub columns_agree : (s : State) (past : List Entry) (a : Actor) (action : Action) → is_of_cpus action ≡ false → HasColumns s past
-    → IsGuarded s → EnclavesAreFlat past
+    → HasAllVersions s past → IsGuarded s → EnclavesAreFlat past
     → first_of_row (row_of s a action) ≡ first_of_row (row_at (making_of s) past a action)
-columns_agree s past a (Epa f) other h guarded seen = epa_agrees s past a f h
-columns_agree s past a (Create enclave f base size) other h guarded seen = create_agrees s past a enclave f base size h seen
-columns_agree s past a (Add enclave number f kind perm init) other h guarded seen =
+columns_agree s past a (Epa f) other h versions guarded seen = epa_agrees s past a f h
+columns_agree s past a (Create enclave f base size) other h versions guarded seen = create_agrees s past a enclave f base size h seen
+columns_agree s past a (Add enclave number f kind perm init) other h versions guarded seen =
     add_agrees s past a enclave number f kind perm init h seen
-columns_agree s past a (Extend f chunk) other h guarded seen = extend_agrees s past a f chunk h seen
-columns_agree s past a (Init enclave expect) other h guarded seen = init_agrees s past a enclave expect h seen
-columns_agree s past a (Block f) other h guarded seen = block_agrees s past a f h
-columns_agree s past a (Track enclave) other h guarded seen = track_agrees s past a enclave h seen
-columns_agree s past a (EwbStart f slot) other h guarded seen = ewbstart_agrees s past a f slot h guarded
-columns_agree s past a (EldStart f page slot) other h guarded seen = eldstart_agrees s past a f page slot h guarded seen
-columns_agree s past (actors.Cpu p) (Ewb f) other h guarded seen = refl
-columns_agree s past (actors.Cpu p) (Eld f) other h guarded seen = refl
-columns_agree s past a (Ewb f) other h guarded seen = refl
-columns_agree s past a (Eld f) other h guarded seen = refl
-columns_agree s past a _ other h guarded seen = cc other
+columns_agree s past a (Extend f chunk) other h versions guarded seen = extend_agrees s past a f chunk h seen
+columns_agree s past a (Init enclave expect) other h versions guarded seen = init_agrees s past a enclave expect h seen
+columns_agree s past a (Block f) other h versions guarded seen = block_agrees s past a f h
+columns_agree s past a (Track enclave) other h versions guarded seen = track_agrees s past a enclave h seen
+columns_agree s past a (EwbStart f slot) other h versions guarded seen = ewbstart_agrees s past a f slot h versions guarded
+columns_agree s past a (EldStart f page slot) other h versions guarded seen = eldstart_agrees s past a f page slot h versions guarded seen
+columns_agree s past (actors.Cpu p) (Ewb f) other h versions guarded seen = refl
+columns_agree s past (actors.Cpu p) (Eld f) other h versions guarded seen = refl
+columns_agree s past a (Ewb f) other h versions guarded seen = refl
+columns_agree s past a (Eld f) other h versions guarded seen = refl
+columns_agree s past a _ other h versions guarded seen = cc other
 
 -- .. in a state that stands for its entries
 seen_agrees : (s : State) (past : List Entry) (a : Actor) (action : Action) → is_of_cpus action ≡ false → IsGuarded s → Stands s past
     → first_of_row (row_of s a action) ≡ first_of_row (row_at (making_of s) past a action)
-seen_agrees s past a action other guarded stands = columns_agree s past a action other stands.columns guarded (enclaves_are_flat stands)
+seen_agrees s past a action other guarded stands = columns_agree s past a action other stands.columns stands.versions guarded
+    (enclaves_are_flat stands)
 
 -- the row of an instruction, by the state and by the entries
 row_agrees : (s : State) (past : List Entry) (cpus : ℕ) (a : Actor) (action : Action) → CanApply cpus a action
@@ -287,14 +291,17 @@ pub row_told : (s : State) (past : List Entry) (cpus : ℕ) (a : Actor) (action 
 row_told s past cpus a action can sound guarded stands allowed = sym (row_agrees s past cpus a action can sound guarded stands) ∙ allowed
 
 -- the row of `init` knows nothing of the measurement
-init_case : (o : Option EnclaveSight) (enclave : ℕ) (expect : Option (List ℕ)) (r : Refusal) → first_of_row (init_row o) ≡ Some r
-    → case_of (Init enclave expect) r ≡ Some r
-init_case None enclave expect r is = cc
-init_case (Some x) enclave expect r is = by_test x.is_init is
+init_case : (o : Option EnclaveSight) (secs : SecsSight) (enclave : ℕ) (expect : Option (List ℕ)) (r : Refusal)
+    → first_of_row (init_row o secs) ≡ Some r → case_of (Init enclave expect) r ≡ Some r
+init_case None secs enclave expect r is = cc
+init_case (Some x) secs enclave expect r is = by_tests secs.is_away secs.is_sealing x.is_init is
   where
-    by_test : (b : Bool) → cond b (Some why.IsInit) None ≡ Some r → case_of (Init enclave expect) r ≡ Some r
-    by_test true k = cc
-    by_test false k = cc
+    by_tests : (b c d : Bool) → cond b (Some why.Absent) (cond c (Some why.Conflict) (cond d (Some why.IsInit) None)) ≡ Some r
+        → case_of (Init enclave expect) r ≡ Some r
+    by_tests true c d k = cc
+    by_tests false true d k = cc
+    by_tests false false true k = cc
+    by_tests false false false k = cc
 
 -- .. and the case for which the state refuses one
 pub refusal_told : (s : State) (past : List Entry) (cpus : ℕ) (a : Actor) (action : Action) (r : Refusal) → CanApply cpus a action
@@ -306,14 +313,15 @@ refusal_told s past cpus a (Ewb f) r can sound guarded stands refused = absurd c
 refusal_told s past cpus a (Eld f) r can sound guarded stands refused = absurd can
 refusal_told s past cpus a (Init enclave expect) r can sound guarded stands refused =
     sym (init_agrees s past a enclave expect stands.columns (enclaves_are_flat stands)) ∙ refused
-    ∙ sym (init_case (enclave_sight_of (s.enclaves enclave)) enclave expect r refused)
+    ∙ sym (init_case (enclave_sight_of (s.enclaves enclave)) (secs_sight s enclave) enclave expect r refused)
 refusal_told s past cpus a action r can sound guarded stands refused =
     sym (row_agrees s past cpus a action can sound guarded stands) ∙ refused
 
 -- a refusal by the row says nothing of a measurement
 pub measure_told : (s : State) (past : List Entry) (a : Actor) (action : Action) (r : Refusal) → first_of_row (row_of s a action) ≡ Some r
     → MeasureRule past (refused_by a action r)
-measure_told s past a (Init enclave expect) r refused = quiet (enclave_sight_of (s.enclaves enclave)) past a enclave expect r refused
+measure_told s past a (Init enclave expect) r refused =
+    quiet (enclave_sight_of (s.enclaves enclave)) (secs_sight s enclave) past a enclave expect r refused
 measure_told s past a _ r refused = tt
 
 -- ---- the frames that rows name
@@ -347,8 +355,8 @@ row_fits s past cpus a (Create enclave f base size) can columns allowed =
     (neither (leb s.frames f.0 || not (is_enclave enclave)) (not (is_lawful base size)) none.0).0 in
     (leb-false _ _ range.0, free_in s past columns f.0 none.1.1.0 none.1.1.1.0)
 row_fits s past cpus a (Add enclave number f kind perm init) can columns allowed =
-    let k = adds number kind perm init (enclave_sight_of (s.enclaves enclave)) (is_some (s.added (page_at enclave number))) (sight s f.0)
-    allowed in
+    let k = adds number kind perm init (enclave_sight_of (s.enclaves enclave)) (secs_sight s enclave)
+    (is_some (s.added (page_at enclave number))) (sight s f.0) allowed in
     (leb-false _ _ k.within, free_in s past columns f.0 k.idle k.empty)
 row_fits s past cpus a (Extend f chunk) can columns allowed =
     (leb-false _ _ (neither (leb s.frames f.0) (ltb 15 chunk) (none_holds (row_of s a (Extend f chunk)) allowed).0).0, tt)
@@ -359,8 +367,8 @@ row_fits s past cpus a (EwbStart f slot) can columns allowed =
     (start_names s.frames f.0 slot.frame.0 (ltb 511 slot.index) (none_holds (row_of s a (EwbStart f slot)) allowed).0, tt)
 row_fits s past cpus a (EldStart f page slot) can columns allowed =
     let none = none_holds (row_of s a (EldStart f page slot)) allowed in
-    let idle = neither (s.is_sealing f.0 || is_loading (s.content f.0)) (s.is_slot_busy slot) none.1.1.1.0 in
-    (start_names s.frames f.0 slot.frame.0 (ltb 511 slot.index) none.0, free_in s past columns f.0 idle.0 none.1.1.1.1.0)
+    let idle = neither (s.is_sealing f.0 || is_loading (s.content f.0)) (is_busy_at s slot) none.1.1.1.1.0 in
+    (start_names s.frames f.0 slot.frame.0 (ltb 511 slot.index) none.0, free_in s past columns f.0 idle.0 none.1.1.1.1.1.0)
 row_fits s past cpus (actors.Cpu p) (Enter enclave tcs tf sf) can columns allowed =
     (seat_names s p.0 (seat_of enclave tcs tf.0 sf.0) _ _ allowed, tt)
 row_fits s past cpus (actors.Cpu p) (Resume enclave tcs tf sf) can columns allowed =

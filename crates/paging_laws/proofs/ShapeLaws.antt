@@ -23,7 +23,7 @@ use Rattle.sgx_rules.proofs.Keystone.{epochs_tell}
 use Rattle.sgx_types.proofs.Pages.{same_page-at}
 use Rattle.sgx_types.specs.Making.{Making}
 use Rattle.cached_translations.specs.declared.cache.Translation.{Translation}
-use Rattle.paging_laws.specs.inner.Columns.{HasColumns, noted_inside, without_perm, seat_of_stay}
+use Rattle.paging_laws.specs.inner.Columns.{HasAllVersions, HasBack, HasColumns, noted_inside, without_perm, seat_of_stay}
 use Rattle.paging_laws.specs.inner.Guarded.{IsGuarded, IsTakenIn}
 use Rattle.paging_laws.specs.inner.Shape.{IsShaped, ShapeWithRules}
 use Rattle.paging_laws.specs.inner.Stands.{IsTranslation, IsSound}
@@ -31,7 +31,9 @@ use Rattle.paging_laws.specs.inner.State.{State, is_noting, number_noting, has_p
 use Rattle.paging_laws.proofs.TestLaws.{last_place}
 use Rattle.paging_laws.proofs.ColumnLaws.{content_is, blocked_is, sealing_is, inside_is, noted_is, translations_are, epoch_is}
 use Rattle.paging_laws.proofs.SoundLaws.{seat_at}
-use Rattle.paging_laws.proofs.SlotLaws.{slot_busy_is}
+use Rattle.paging_laws.proofs.SlotLaws.{arrays_as, busy_is, found_as}
+use Rattle.page_history.specs.inner.Away.{EndsRight}
+use Rattle.page_history.proofs.ArrayLaws.{rests_next}
 
 -- ---- how many processors inside are older, and how many newer
 
@@ -114,7 +116,7 @@ shaped_by s past h sound guarded = record {
   older = older_agrees s past h;
   newer = newer_agrees s past h;
   busy = λ g. record { taken = λ is. taken_by s past g h (guarded.taken g is); busy = busy_by s past g h sound };
-  slot_busy = slot_busy_is s past h guarded;
+  slots_busy = busy_is s past h guarded;
 }
 
 -- ---- no translation is stale
@@ -177,15 +179,17 @@ pub record IsNextTo (s t : State) (past : List Entry) (e : Entry) : Type 0 where
   pub access : StaleRule past e
   pub evict : EvictRule past e
   pub rising : RisingRule s.first_version past e
+  pub right : EndsRight past e.event
+  pub arrays : HasAllVersions s past → HasBack t past e → HasAllVersions t (e ∷ past)
 
 -- the frames that processors use hold what they held at their entries
 pub held_by : (made : Making) (s : State) (past : List Entry) → ShapeWithRules made s past → IsHeld past
 held_by made s past h p = IfSome_then (stay past p) (last_place NoneStale past h.stale.places p) (λ t k. (k.tcs.held, k.ssa.held))
 
 -- a machine that has the shape of its entries comes to that of one more
-pub shaped_more : (made : Making) (s t : State) (past : List Entry) (e : Entry) → IsSound t → IsGuarded t → ShapeWithRules made s past
-    → FitsRule s.frames past e → IsNextTo s t past e → ShapeWithRules made t (e ∷ past)
-shaped_more made s t past e sound guarded h fits next =
+pub shaped_more : (made : Making) (s t : State) (past : List Entry) (e : Entry) → IsGuarded s → IsSound t → IsGuarded t
+    → ShapeWithRules made s past → FitsRule s.frames past e → IsNextTo s t past e → ShapeWithRules made t (e ∷ past)
+shaped_more made s t past e before sound guarded h fits next =
     let shape = shaped_by t (e ∷ past) next.columns sound guarded in
     record {
       shape = record {
@@ -194,7 +198,7 @@ shaped_more made s t past e sound guarded h fits next =
         older = shape.older;
         newer = shape.newer;
         busy = shape.busy;
-        slot_busy = shape.slot_busy;
+        slots_busy = shape.slots_busy;
       };
       frames = (subst (λ (n : ℕ). FitsRule n past e) (ap (λ (m : Making). m.frames) h.shape.making) fits, h.frames);
       stale = record {
@@ -203,4 +207,6 @@ shaped_more made s t past e sound guarded h fits next =
       };
       evict = (next.evict, h.evict);
       rising = (subst (λ (n : ℕ). RisingRule n past e) (ap (λ (m : Making). m.first_version) h.shape.making) next.rising, h.rising);
+      rest = rests_next past e.actor e.event (arrays_as s past h.shape.columns before) (found_as s past h.shape.columns before) next.right
+          h.rest;
     }

@@ -12,7 +12,7 @@ use Rattle.sgx_rules.specs.declared.entries.Action.TheVariants.{EldStart}
 use Rattle.sgx_rules.specs.declared.entries.Answer.TheVariants as answers
 use Rattle.sgx_rules.specs.declared.refusals.Refusal.{Refusal}
 use Rattle.sgx_rules.specs.declared.refusals.Refusal.TheVariants as why
-use Rattle.sgx_rules.specs.Table.{EnclaveSight, init_row, first_of_row, perm_in}
+use Rattle.sgx_rules.specs.Table.{EnclaveSight, init_row, first_of_row, perm_in, SecsSight}
 use Rattle.sgx_rules.specs.Rules.{NoPageTwice}
 use Rattle.paging_laws.specs.inner.State.{State, row_of, after_init}
 use Rattle.paging_laws.specs.inner.Stands.{HasEnclaves, IsSound, Stands}
@@ -33,9 +33,9 @@ use Rattle.sgx_rules.specs.declared.entries.Answer.{Answer}
 use Rattle.sgx_types.specs.Pages.{no_perm}
 
 -- the row of `init` finds a created enclave
-init_made : (o : Option EnclaveSight) → first_of_row (init_row o) ≡ None → is_some o ≡ true
-init_made None allowed = cc
-init_made (Some x) allowed = refl
+init_made : (o : Option EnclaveSight) (secs : SecsSight) → first_of_row (init_row o secs) ≡ None → is_some o ≡ true
+init_made None secs allowed = cc
+init_made (Some x) secs allowed = refl
 
 -- what each instruction brings that can be applied
 module _ (s t : State) (past : List Entry) (cpus : ℕ) (few : cpus ≤ 16) (sound : IsSound s) (guarded : IsGuarded s)
@@ -68,7 +68,7 @@ module _ (s t : State) (past : List Entry) (cpus : ℕ) (few : cpus ≤ 16) (sou
     where
       is : done.digest ≡ measurement past enclave
       is = finished_as (s.enclaves enclave) (s.measure enclave) done.digest (log past enclave)
-          (is_some-sight (s.enclaves enclave) (init_made _ allowed)) (stands.memory.measure enclave) done.finished
+          (is_some-sight (s.enclaves enclave) (init_made _ _ allowed)) (stands.memory.measure enclave) done.finished
 
       by_judgement : (IsExpected expect done.digest × (e ≡ did_by a (Init enclave expect) (answers.Hash done.digest))
           × (t ≡ after_init s enclave))
@@ -96,7 +96,7 @@ module _ (s t : State) (past : List Entry) (cpus : ℕ) (few : cpus ≤ 16) (sou
   step_brings a (Extend f chunk) e can k =
       by_row a (Extend f chunk) e can k
       (λ allowed done. done_as a (Extend f chunk) _ e _ can allowed done.0 done.1.state
-      (extend_brings s past a f chunk done.1.page done.1.longer allowed done.1.held done.1.log made stands))
+      (extend_brings s past a f chunk done.1.page done.1.longer allowed done.1.held done.1.log (guarded.kept.named f.0) made stands))
   step_brings a (Init enclave expect) e can k =
       by_row a (Init enclave expect) e can k (λ allowed done. judged a enclave expect e allowed done)
   step_brings a (Block f) e can k = by_row a (Block f) e can k
@@ -107,7 +107,7 @@ module _ (s t : State) (past : List Entry) (cpus : ℕ) (few : cpus ≤ 16) (sou
       (λ allowed done. done_as a (EwbStart f slot) _ e _ can allowed done.0 done.1 (ewbstart_brings s past a f slot allowed stands))
   step_brings a (EldStart f page slot) e can k = by_row a (EldStart f page slot) e can k
       (λ allowed done. done_as a (EldStart f page slot) _ e _ can allowed done.0 done.1
-      (eldstart_brings s past a f page slot allowed stands))
+      (eldstart_brings s past a f page slot allowed guarded stands))
   step_brings (actors.Cpu p) (Enter enclave tcs tf sf) e can k =
       by_row (actors.Cpu p) (Enter enclave tcs tf sf) e can k
       (λ allowed done. done_as (actors.Cpu p) (Enter enclave tcs tf sf) _ e _ can allowed done.0 done.1

@@ -21,23 +21,26 @@ use Rattle.seal_record.specs.Sealing.{SealedRule}
 use Rattle.seal_record.specs.inner.Sealing.{made_by}
 use Rattle.page_history.proofs.CopyLaws.{live_copies}
 use Rattle.paging_laws.specs.inner.Guarded.{IsGuarded}
-use Rattle.paging_laws.specs.inner.Histories.{BringsBack, BringsIn, OutsideBytes, StandsWithAllRules, given_out, looked_at}
+use Rattle.page_history.specs.inner.Away.{BytesRest}
+use Rattle.page_history.proofs.RestLaws.{bytes_rest}
+use Rattle.paging_laws.specs.inner.Columns.{HasAllVersions, HasBack}
+use Rattle.paging_laws.proofs.MoveEnds.{IsDoneBack}
+use Rattle.paging_laws.specs.inner.Histories.{BringsBytes, BringsBack, BringsIn, OutsideBytes, StandsWithAllRules, given_out, looked_at}
 use Rattle.paging_laws.specs.inner.Notes.{IsDone, IsNote}
-use Rattle.paging_laws.proofs.NoteLaws.{noted_brings, noted_made, noted_outside, noted_reload, noted_sealed, noted_shaped}
-use Rattle.sgx_rules.specs.declared.entries.Answer.TheVariants as answers
-use Rattle.epcm_entry.specs.inner.Words.{words_of}
+use Rattle.paging_laws.proofs.NoteLaws.{noted_arrays, noted_brings, noted_keeps, noted_made, noted_reload, noted_sealed, noted_shaped}
 use Rattle.seal_record.specs.Cipher.{cipher}
 use Rattle.paging_laws.specs.inner.Shape.{ShapeWithRules}
 use Rattle.paging_laws.specs.inner.Stands.{HasEnclaves, IsSound, StandsWithRules}
-use Rattle.paging_laws.specs.inner.State.{State, after_eld, after_failed_eld, fresh, making_of}
+use Rattle.paging_laws.specs.inner.State.{State, after_failed_eld, fresh, making_of}
 use Rattle.paging_laws.specs.inner.Steps.{CanApply, IsReloaded, IsStep, IsWrittenOut, commit_row, did_by, refused_by}
-use Rattle.paging_laws.proofs.ShapeSteps.{fresh_shaped, reloaded_shaped, step_shaped, written_shaped}
-use Rattle.paging_laws.proofs.OutsideLaws.{outside_step}
+use Rattle.paging_laws.proofs.ShapeSteps.{fresh_shaped, reloaded_arrays, reloaded_shaped, step_arrays, step_shaped, written_arrays}
+use Rattle.paging_laws.proofs.ShapeSteps.{back_arrays, written_shaped}
+use Rattle.paging_laws.proofs.OutsideLaws.{outside_more, step_keeps}
 use Rattle.paging_laws.proofs.ReloadLaws.{keeps_moves, reload_back, reload_fresh, reload_words}
 use Rattle.paging_laws.proofs.NextEntry.{Brings, once_before, stands_more}
 use Rattle.paging_laws.proofs.StepLaws.{step_brings}
 use Rattle.paging_laws.proofs.MoveLaws.{reloaded_brings, written_brings}
-use Rattle.paging_laws.proofs.StepRecords.{GivesRecord, made_same, made_same_eld, outside_reloaded, outside_written, sealed_quiet}
+use Rattle.paging_laws.proofs.StepRecords.{GivesRecord, made_same, made_same_eld, outside_written, reloaded_keeps, sealed_quiet}
 use Rattle.paging_laws.proofs.StepRecords.{sealed_quiet_eld}
 use Rattle.paging_laws.proofs.RowLaws.{step_entry, IsEntryOf}
 
@@ -79,16 +82,17 @@ module _ (s t : State) (made : Making) (past : List Entry) (records : List Made)
         same_frame m n (sym (live.framed m g here) ∙ live.framed n g there)
 
     -- and the machine goes on to stand for all
-    all_more : (more : List Made) → SealedRule made.key past e → OutsideBytes made.key (e ∷ past) → more ≡ made_by made.key (e ∷ past)
+    all_more : (more : List Made) → HasAllVersions t (e ∷ past) → SealedRule made.key past e
+        → (BytesRest past e → OutsideBytes made.key (e ∷ past)) → more ≡ made_by made.key (e ∷ past)
         → StandsWithAllRules made t (e ∷ past) more
-    all_more more sealed outside is = record {
+    all_more more versions sealed outside is = record {
       positive = h.positive;
       shaped = shaped;
-      standing = stands_more s t made past e h.shaped shaped once_more h.standing brings;
+      standing = stands_more s t made past e h.shaped shaped once_more versions h.standing brings;
       fresh = (record { rising = shaped.rising.0; reload = reload }, h.fresh);
       sealed = (sealed, h.sealed);
       records = is;
-      outside = outside;
+      outside = outside (bytes_rest made past e h.positive keeps_more);
     }
 
 -- ---- the steps
@@ -101,9 +105,10 @@ pub step_all : (s t : State) (made : Making) (past : List Entry) (records : List
 step_all s t made past records cpus a action e few can sound guarded framed sound' guarded' k h =
     all_more s t made past records e h shaped reload
     (step_brings s t past cpus few sound guarded framed h.standing.stands (once_before s past h.standing) a action e can k) records
+    (step_arrays s t made past cpus a action e can sound guarded k h.shaped h.standing.stands.versions)
     (sealed_quiet made.key s t past cpus a action e can k)
-    (outside_step made.key s t past cpus a action e can sound k h.standing.stands
-    (live_copies made past h.positive (keeps_moves made s past records h)) h.outside)
+    (λ rests. outside_more made.key past e (step_keeps s t past cpus a action e can sound k h.standing.stands
+    (live_copies made past h.positive (keeps_moves made s past records h))) rests h.outside)
     (h.records ∙ sym (made_same made.key s t past cpus a action e can k))
   where
     shaped : ShapeWithRules made t (e ∷ past)
@@ -120,7 +125,8 @@ pub written_all : (s t : State) (made : Making) (past : List Entry) (records : L
 written_all s t made past records a f e rec sound guarded sound' guarded' sealing out h =
     all_more s t made past records e h shaped reload (written_brings s t past a f e rec guarded sealing out h.standing)
     (records ++ given_out e.event rec)
-    gives.sealed (gives.outside h.outside) (ap (λ list. list ++ given_out e.event rec) h.records ∙ sym gives.made)
+    (written_arrays s t made past a f e rec sound guarded sealing out h.shaped h.standing.stands.versions)
+    gives.sealed (λ rests. gives.outside rests h.outside) (ap (λ list. list ++ given_out e.event rec) h.records ∙ sym gives.made)
   where
     shaped : ShapeWithRules made t (e ∷ past)
     shaped = written_shaped s t made past a f e rec sound guarded sound' guarded' sealing out h.shaped
@@ -129,7 +135,7 @@ written_all s t made past records a f e rec sound guarded sound' guarded' sealin
     reload = subst (λ x. ReloadRule past x) (sym out.entry) tt
 
     gives : GivesRecord made.key past e rec
-    gives = outside_written s t made past a f e rec out sound h.standing.stands h.shaped
+    gives = outside_written s t made past a f e rec out guarded h.standing h.shaped
 
 -- the commit of a load, where the record that it allows brings the page back
 pub reloaded_back : (s t : State) (made : Making) (past : List Entry) (records : List Made) (a : Actor) (f : Frame) (rec : Sealed)
@@ -141,11 +147,22 @@ pub reloaded_back : (s t : State) (made : Making) (past : List Entry) (records :
 reloaded_back s t made past records a f rec e sound guarded sound' guarded' loading back h brings =
     all_more s t made past records e h shaped reload
     (reloaded_brings s t past a f rec e back
-    (λ allowed. reload_words s made past f.0 back.coming.page back.coming.start.version rec h.shaped.shape.making (brings allowed))
+    (λ allowed. (words allowed).own)
     h.standing) records
-    (sealed_quiet_eld made.key s t past a f rec e back) (outside_reloaded made.key s t past a f rec e back h.outside)
+    (reloaded_arrays s t made past a f e rec sound guarded loading back h.shaped arrays h.standing.stands.versions)
+    (sealed_quiet_eld made.key s t past a f rec e back)
+    (λ rests. outside_more made.key past e (reloaded_keeps s t past a f rec e back) rests h.outside)
     (h.records ∙ sym (made_same_eld made.key s t past a f rec e back))
   where
+    words : first_of_row (commit_row s f.0 back.coming rec) ≡ None
+        → BringsBytes past back.coming.page (cipher s.key back.coming.start.version rec.cipher)
+    words allowed =
+        reload_words s made past f.0 back.coming.page back.coming.start.version rec h.shaped.shape.making (brings allowed)
+
+    -- a version array page comes back with its slots
+    arrays : HasBack t past e
+    arrays = back_arrays s t made past a f e rec sound guarded loading back h.shaped (λ allowed. (words allowed).array)
+
     shaped : ShapeWithRules made t (e ∷ past)
     shaped = reloaded_shaped s t made past a f e rec sound guarded sound' guarded' loading back h.shaped
 
@@ -165,7 +182,7 @@ pub reloaded_all : (s t : State) (made : Making) (past : List Entry) (records : 
     → Unforged made.key records (given ++ looked_at s f.0 records rec) → StandsWithAllRules made t (e ∷ past) records
 reloaded_all s t made past records a f rec e sound guarded sound' guarded' loading back h given unforged =
     reloaded_back s t made past records a f rec e sound guarded sound' guarded' loading back h
-    (λ allowed. reload_back made s past records given f.0 back.coming rec allowed h unforged)
+    (λ allowed. reload_back made s past records given f.0 back.coming rec allowed guarded h unforged)
 
 -- .. or the record of the page that the frame waits for does
 pub reloaded_told : (s t : State) (made : Making) (past : List Entry) (records : List Made) (a : Actor) (f : Frame) (rec : Sealed)
@@ -178,9 +195,7 @@ reloaded_told s t made past records a f rec e sound guarded sound' guarded' load
   where
     done : first_of_row (commit_row s f.0 back.coming rec) ≡ None → IsDone e.event
     done allowed =
-        let row : (e ≡ did_by a (Eld f) (answers.Moved back.coming.page back.coming.start.version rec.tag))
-        × (t ≡ after_eld s f.0 back.coming.start back.coming.page back.coming.kind back.coming.perm
-        (words_of (cipher s.key back.coming.start.version rec.cipher)))
+        let row : IsDoneBack s a f rec e t back.coming
         = rw allowed at back.row in
         subst (λ (x : Entry). IsDone x.event) (sym row.0) tt
 
@@ -190,14 +205,21 @@ pub noted_all : (s : State) (made : Making) (past : List Entry) (records : List 
     → IsGuarded s → StandsWithAllRules made s past records → StandsWithAllRules made s (e ∷ past) records
 noted_all s made past records e note sound guarded h =
     all_more s s made past records e h (noted_shaped s made past e note sound guarded h.shaped) (noted_reload past e note)
-    (noted_brings s past e note h.standing.stands) records (noted_sealed made.key past e note)
-    (noted_outside made.key past e note h.outside) (h.records ∙ sym (noted_made made.key past e note))
+    (noted_brings s past e note h.standing.stands) records (noted_arrays s past e note h.standing.stands.versions)
+    (noted_sealed made.key past e note) (λ rests. outside_more made.key past e (noted_keeps past e note) rests h.outside) (h.records ∙ sym (noted_made made.key past e note))
 
 -- a machine that has done nothing yet
 fresh_stands : (frames cpus : ℕ) (key : List ℕ) (epoch version : ℕ) → StandsWithRules (fresh frames cpus key epoch version) []
 fresh_stands frames cpus key epoch version = record {
   stands = record {
-    columns = record { frames = refl; cpus = refl; slots = refl; enclaves = refl };
+    columns = record {
+      frames = refl;
+      cpus = refl;
+      next_version = refl;
+      versions = λ n number held. cc held;
+      enclaves = refl;
+    };
+    versions = λ n number held. cc held;
     memory = record { enclaves = refl; cpus = λ p. refl; words = λ n g kind perm is. cc; measure = λ e. refl };
   };
   rules = record {

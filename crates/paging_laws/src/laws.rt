@@ -8,7 +8,7 @@ ghost use Rattle.sgx_rules.specs.inner.Enclaves.{EnclavesAreFlat};
 ghost use Rattle.sgx_rules.specs.Sights.{row_at};
 ghost use Rattle.sgx_rules.specs.Table.{first_of_row};
 ghost use Rattle.seal_record.specs.Records.{Given, Made, Unforged};
-ghost use Rattle.paging_laws.specs.inner.Columns.{HasColumns};
+ghost use Rattle.paging_laws.specs.inner.Columns.{HasAllVersions, HasColumns};
 ghost use Rattle.paging_laws.specs.inner.Guarded.{IsGuarded};
 ghost use Rattle.paging_laws.specs.inner.Histories.{StandsWithAllRules};
 ghost use Rattle.paging_laws.specs.inner.Runs.{Run};
@@ -33,10 +33,10 @@ pub fn every_run_stands()
 {}
 
 /// The rows of the instructions that build enclaves and move pages see columns alone. So where a guarded state has the columns of some
-/// entries, and flat memory has the enclaves and pages as these entries made them, whatever the bytes of the pages are, each such
-/// instruction is allowed in the state where it is by the entries, and else refused by the same case.
+/// entries, the slots of each version array page in a frame have the versions that the entries say, and flat memory has the enclaves and
+/// pages as these entries made them, whatever the bytes of the pages are, each such instruction is allowed in the state where it is by the entries, and else refused by the same case.
 pub fn rows_see_columns()
     ensures { (s : State) (past : List Entry) (a : Actor) (action : Action) → is_of_cpus action ≡ false → HasColumns s past
-        → IsGuarded s → EnclavesAreFlat past
+        → HasAllVersions s past → IsGuarded s → EnclavesAreFlat past
         → first_of_row (row_of s a action) ≡ first_of_row (row_at (making_of s) past a action) }
 {}

@@ -14,7 +14,7 @@ use Rattle.sgx_types.specs.Pages.{no_perm}
 use Rattle.epcm_entry.specs.inner.Epc.{EpcFrame}
 use Rattle.epcm_entry.specs.inner.Sights.{sight_in}
 use Rattle.epcm_entry.proofs.Columns.{length-with_words}
-use Rattle.evict_reload.proofs.PageLaws.{pages-with_words}
+use Rattle.paging_machine.proofs.HeldLaws.{held_words}
 use Rattle.cached_translations.specs.declared.cache.Translation.{Translation}
 use Rattle.cached_translations.specs.declared.processor.Processor.{Processor}
 use Rattle.cached_translations.specs.declared.processor.Mode.{Mode}
@@ -162,7 +162,7 @@ cpu_leaves m h p v v' s low new mode state kept =
       track_places = h.track_places;
       tracked = tracked_same m.tracks m.cpus.items p v low mode h.tracked;
       slots = h.slots;
-      pages = h.pages;
+      held = h.held;
       start_places = h.start_places;
     })
 
@@ -211,6 +211,6 @@ store_leaves m h p off value v epc there k new =
       track_places = h.track_places;
       tracked = h.tracked;
       slots = h.slots;
-      pages = rw stored (pages-with_words d.epc d.va k.found.frame.0 _ h.pages);
+      held = rw stored (held_words d.epc k.found.frame.0 _ d.secs d.va h.held);
       start_places = h.start_places ∙ sym (ap length stored ∙ length-with_words d.epc k.found.frame.0 _);
     }

@@ -1,17 +1,16 @@
 -- The machine's parts after a row that builds an enclave, and the state that they make.
-use Rattle.std.proofs.Common.{◌≡◌, ℕ, ◌+◌, ◌/◌, ◌<◌, ◌≤◌, ◌==◌, ◌||◌, Bool, true, false, not, cond, leb}
-use Rattle.std.proofs.Common.{refl, sym, ap, ◌∙◌, Option, Some, None, List, length, set, is_some, length-set, ⊎_elim}
-use Rattle.std.specs.Prelude.{slice_index_or}
-use Rattle.std.proofs.lemmas.Bool.{cases_lt, cond_both, eqb-true, false≢true, leb-false, leb-true, ltb-true}
-use Rattle.std.proofs.lemmas.List.{get_or_past, length-replicate}
+use Rattle.std.proofs.Common.{◌≡◌, ℕ, ◌+◌, ◌/◌, ◌%◌, ◌^◌, ◌<◌, ◌≤◌, ◌==◌, ◌||◌, Bool, true, false, not, cond, leb}
+use Rattle.std.proofs.Common.{refl, sym, ap, subst, ◌∙◌, Option, Some, None, List, length, set, is_some, length-set, arith}
+use Rattle.std.proofs.lemmas.Bool.{cond_both, eq-eqb, eqb-true, leb-false, leb-true, ltb-true}
+use Rattle.std.proofs.lemmas.List.{length-replicate}
 use Rattle.sgx_types.specs.declared.lawful.PageInit.{PageInit}
 use Rattle.sgx_types.specs.declared.lawful.PageInit.TheVariants as inits
 use Rattle.sgx_types.specs.declared.names.Page.{Page}
 use Rattle.sgx_types.specs.declared.names.Kind.{Kind}
 use Rattle.sgx_types.specs.declared.names.Kind.TheVariants as kinds
 use Rattle.sgx_types.specs.declared.names.Perm.{Perm}
-use Rattle.sgx_types.specs.declared.names.SlotAt.{SlotAt}
-use Rattle.sgx_types.specs.Pages.{page_at}
+use Rattle.sgx_types.specs.Pages.{is_own_page, no_perm, page_at}
+use Rattle.sgx_types.specs.declared.names.TheConstants.{MOST_FRAMES, SECS_NUMBER}
 use Rattle.sgx_rules.specs.Frames.{Free, Holds, IsVa}
 use Rattle.sgx_rules.specs.Table as table
 use Rattle.sgx_types.specs.Lawful as limits
@@ -19,33 +18,33 @@ use Rattle.sgx_rules.specs.Table.{epa_row, create_row, add_row, first_of_row}
 use Rattle.sgx_rules.specs.Flat.{first_words, marked}
 use Rattle.sgx_rules.proofs.Contents.{free_there}
 use Rattle.sgx_rules.proofs.Rows.{none_holds}
-use Rattle.sgx_types.proofs.Truths.{both_true, neither, not_false}
+use Rattle.sgx_types.proofs.Truths.{apart, both_true, neither, not_false}
 use Rattle.epcm_entry.specs.declared.entry_view.EntryView.{EntryView}
 use Rattle.epcm_entry.specs.declared.entry_view.EntryView.TheVariants as views
 use Rattle.epcm_entry.specs.inner.EntryView.{is_valid, holding, block_of, goes_out}
-use Rattle.epcm_entry.specs.inner.Epc.{EpcFrame, entry_at, free_frame, with_page}
-use Rattle.epcm_entry.specs.inner.Sights.{held, content_of, sight_in}
+use Rattle.epcm_entry.specs.inner.Epc.{EpcFrame, entry_at, with_page}
+use Rattle.epcm_entry.specs.inner.Sights.{held, content_of, held_in, sight_in}
 use Rattle.epcm_entry.proofs.Columns.{length-with_entry, entry_at-with_entry, words_at-with_entry}
-use Rattle.secs_state.specs.inner.Secs.{SecsState, page_count, created, with_init}
+use Rattle.secs_state.specs.inner.Secs.{SecsState, page_count, created, with_frame, with_init}
+use Rattle.secs_state.specs.inner.Resident.{IsCountedIn}
 use Rattle.secs_state.specs.inner.Table.{enclave_at, with_enclave}
 use Rattle.secs_state.specs.inner.Sights.{sight_of}
-use Rattle.secs_state.proofs.Columns.{added_at-with_page}
+use Rattle.secs_state.proofs.Columns.{added_at-with_page, enclave_at-with_enclave}
 use Rattle.measure_log.specs.declared.measure.Measure.{Measure}
 use Rattle.enclave_build.specs.inner.Build.{with_secs, with_added, with_resident}
 use Rattle.enclave_build.proofs.Columns.{length-with_secs, entry_at-with_secs, words_at-with_secs, length-with_added}
 use Rattle.enclave_build.proofs.Columns.{entry_at-with_added}
 use Rattle.enclave_build.proofs.Columns.{words_at-with_added}
-use Rattle.version_array.specs.declared.va_page.VaSlot.{VaSlot}
-use Rattle.version_array.specs.inner.Slots.{empty_slot, page_slots, pages_made, slot_in, version_in, is_busy_at}
-use Rattle.version_array.specs.inner.Slots.{page_at as page_at_va, with_page as with_va_page}
-use Rattle.version_array.proofs.TableLaws.{made-with_page, made_below, version_in-with_page, is_busy_at-with_page}
-use Rattle.evict_reload.specs.inner.Sights.{AreVaPages}
+use Rattle.version_array.specs.inner.Slots.{with_page as with_va_page}
+use Rattle.version_array.proofs.TableLaws.{version_in-with_page, is_busy_at-with_page}
 use Rattle.evict_reload.proofs.PageLaws.{pages-with_entry, pages-with_words}
 use Rattle.paging_laws.specs.inner.Guarded.{IsPaged}
-use Rattle.paging_laws.specs.inner.State.{after_epa, after_create, after_add, after_extend, after_init}
+use Rattle.paging_laws.specs.inner.State.{secs_sight, after_epa, after_create, after_add, after_extend, after_init}
 use Rattle.paging_machine.specs.inner.Parts.{Parts, enclave_of, added_in, is_busy_in, state_of}
-use Rattle.paging_machine.specs.inner.Whole.{IsSecsOf, IsTable}
-use Rattle.paging_laws.proofs.TestLaws.{none_there}
+use Rattle.paging_machine.specs.inner.Whole.{AreHeld, IsNamedFor, IsSecsOf, IsTable}
+use Rattle.page_history.specs.inner.Away.{SecsIsIn}
+use Rattle.paging_laws.proofs.GuardLaws.{secs_is_in}
+use Rattle.paging_machine.proofs.HeldLaws.{added_in_counts, created_in, held_put, still_there}
 use Rattle.paging_machine.proofs.Columns.{like, through, same_at, numbered, enclave_column, enclave_kept, page_column}
 use Rattle.paging_machine.proofs.Columns.{measure_set}
 
@@ -93,47 +92,14 @@ module _ (epc epc' : List EpcFrame) (f : ℕ) (page : Page) (kind : Kind) (perm 
 pub takes-epa : (d : Parts) (f : ℕ) → first_of_row (epa_row (sight_in d.epc f)) ≡ None → Takes d.epc f
 takes-epa d f allowed = let none = none_holds (epa_row (sight_in d.epc f)) allowed in takes d.epc f none.0 none.1.0 none.1.1.0
 
--- a frame that holds no version array page has no slot
-no_page : (epc : List EpcFrame) (va : List (Option (List VaSlot))) (f : ℕ) → AreVaPages epc va → Takes epc f → page_at_va va f ≡ None
-no_page epc va f pages k = none_there (page_at_va va f) (pages f ∙ ap table.is_va k.free)
-
-no_slot : (va : List (Option (List VaSlot))) (slot : SlotAt) → page_at_va va slot.frame.0 ≡ None → slot_in va slot ≡ empty_slot
-no_slot va slot none = ap (λ page. slice_index_or (page_slots page) slot.index empty_slot) none
-
--- a new page has no version and no mark, as the frame had none before it
-version_kept : (va : List (Option (List VaSlot))) (f : ℕ) (slot : SlotAt) → page_at_va va f ≡ None
-    → version_in (with_va_page va f) slot ≡ version_in va slot
-version_kept va f slot none =
-    version_in-with_page va f slot
-    ∙ cond_both (f == slot.frame.0) 0 (version_in va slot) (λ v. v ≡ version_in va slot)
-    (λ e. sym (ap (λ (x : VaSlot). x.version) (no_slot va slot (ap (page_at_va va) (sym (eqb-true f slot.frame.0 e)) ∙ none)))) (λ _. refl)
-
-busy_kept : (va : List (Option (List VaSlot))) (f : ℕ) (slot : SlotAt) → page_at_va va f ≡ None
-    → is_busy_at (with_va_page va f) slot ≡ is_busy_at va slot
-busy_kept va f slot none =
-    is_busy_at-with_page va f slot
-    ∙ cond_both (f == slot.frame.0) false (is_busy_at va slot) (λ v. v ≡ is_busy_at va slot)
-    (λ e. sym (ap (λ (x : VaSlot). x.busy) (no_slot va slot (ap (page_at_va va) (sym (eqb-true f slot.frame.0 e)) ∙ none)))) (λ _. refl)
-
--- .. and is one page more
-made_more : (va : List (Option (List VaSlot))) (f : ℕ) → page_at_va va f ≡ None → pages_made (with_va_page va f) ≡ pages_made va + 1
-made_more va f none = made-with_page va f ∙ ap (λ page. pages_made va + cond (is_some page) 0 1) none
-
--- there are no more version array pages than frames
-pub few_pages : (d : Parts) → AreVaPages d.epc d.va → pages_made d.va ≤ length d.epc
-few_pages d pages =
-    made_below (length d.epc) d.va (λ n has.
-    ⊎_elim
-    (λ (low : n < length d.epc). low)
-    (λ (past : length d.epc ≤ n). absurd
-    (false≢true (sym (ap (λ (x : EpcFrame). table.is_va (held x.entry)) (get_or_past d.epc n free_frame past)) ∙ sym (pages n) ∙ has)))
-    (cases_lt n (length d.epc)))
-
-pub epa_state : (d : Parts) (f : ℕ) (page : Page) (perm : Perm) → AreVaPages d.epc d.va → Takes d.epc f → page.number ≡ pages_made d.va
-    → state_of (record d { epc = with_page d.epc f page kinds.Va perm; va = with_va_page d.va f }) ≡ after_epa (state_of d) f
-epa_state d f page perm pages k numbered =
+pub epa_state : (d : Parts) (f : ℕ) (page : Page) (perm : Perm) → length d.epc ≤ MOST_FRAMES → Takes d.epc f → page.number ≡ d.va.made
+    → state_of (record d {
+      epc = with_page d.epc f page kinds.Va perm;
+      va = record { pages = with_va_page d.va.pages f; made = d.va.made + 1 };
+    }) ≡ after_epa (state_of d) f
+epa_state d f page perm small k numbered =
     let v = holding page kinds.Va perm in
-    let none = no_page d.epc d.va f pages k in
+    let few : f < MOST_FRAMES = omega (arith, k.low, small) in
     let entries : (n : ℕ) → entry_at (with_page d.epc f page kinds.Va perm) n ≡ cond (f == n) v (entry_at d.epc n) =
     λ n. entry_at-with_entry d.epc f n v k.low in
     λ i. record (after_epa (state_of d) f) {
@@ -143,9 +109,8 @@ epa_state d f page perm pages k numbered =
       blocked = λ n. put_blocked d.epc (with_page d.epc f page kinds.Va perm) f page kinds.Va perm k entries n i;
       is_sealing = λ n. put_sealing d.epc (with_page d.epc f page kinds.Va perm) f page kinds.Va perm k entries n i;
       words = λ n. words_at-with_entry d.epc f n v i;
-      vas_made = made_more d.va f none i;
-      version_in = λ slot. version_kept d.va f slot none i;
-      is_slot_busy = λ slot. busy_kept d.va f slot none i;
+      version_in = λ slot. version_in-with_page d.va.pages f slot few i;
+      is_slot_named = λ slot. is_busy_at-with_page d.va.pages f slot few i;
     }
 
 -- ---- create
@@ -171,8 +136,9 @@ creates epc f e base size b allowed =
       lawful = not_false _ outer.1;
     }
 
-pub created_own : (e base size : ℕ) → limits.is_lawful base size ≡ true → IsSecsOf e (created e base size)
-created_own e base size h = record {
+pub created_own : (e f base size : ℕ) → limits.is_lawful base size ≡ true
+    → IsSecsOf e (with_frame (created e base size) (Some (record { 0 = f })))
+created_own e f base size h = record {
   number = refl;
   sound = record { lawful = h; pages = length-replicate (page_count size) None; busy = length-replicate (page_count size) false };
 }
@@ -181,30 +147,49 @@ pub create_state : (d : Parts) (e f base size : ℕ) (begun : Measure) → Creat
     → IsTable d.secs → e < length d.measures
     → state_of (record d {
       epc = with_secs d.epc f e;
-      secs = with_enclave d.secs e (created e base size);
+      secs = with_enclave d.secs e (with_frame (created e base size) (Some (record { 0 = f })));
       measures = set d.measures e (Some begun);
     }) ≡ after_create (state_of d) e f base size begun
 create_state d e f base size begun k new is there =
-    let no_perm : Perm = record { r = false; w = false; x = false } in
-    let entries : (n : ℕ) → entry_at (with_secs d.epc f e) n ≡ cond (f == n) (holding (page_at e 0) kinds.Secs no_perm) (entry_at d.epc n) =
+    let y = with_frame (created e base size) (Some (record { 0 = f })) in
+    let entries : (n : ℕ) → entry_at (with_secs d.epc f e) n ≡ cond (f == n) (holding (page_at e SECS_NUMBER) kinds.Secs no_perm) (entry_at d.epc n) =
     λ n. entry_at-with_secs d.epc f e n k.takes.low in
     λ i. record (after_create (state_of d) e f base size begun) {
       frames = length-with_secs d.epc f e i;
-      content = λ n. put_content d.epc (with_secs d.epc f e) f (page_at e 0) kinds.Secs no_perm k.takes entries n i;
-      blocked = λ n. put_blocked d.epc (with_secs d.epc f e) f (page_at e 0) kinds.Secs no_perm k.takes entries n i;
-      is_sealing = λ n. put_sealing d.epc (with_secs d.epc f e) f (page_at e 0) kinds.Secs no_perm k.takes entries n i;
+      content = λ n. put_content d.epc (with_secs d.epc f e) f (page_at e SECS_NUMBER) kinds.Secs no_perm k.takes entries n i;
+      blocked = λ n. put_blocked d.epc (with_secs d.epc f e) f (page_at e SECS_NUMBER) kinds.Secs no_perm k.takes entries n i;
+      is_sealing = λ n. put_sealing d.epc (with_secs d.epc f e) f (page_at e SECS_NUMBER) kinds.Secs no_perm k.takes entries n i;
       words = λ n. words_at-with_secs d.epc f e n i;
-      enclaves = λ n. enclave_column d.secs e (created e base size) is.places k.first k.last enclave_of n i;
-      added = λ q. enclave_kept d.secs e (created e base size) is.places k.first k.last (λ o. added_in o q.number) q.enclave
+      enclaves = λ n. enclave_column d.secs e y is.places k.first k.last enclave_of n i;
+      added = λ q. enclave_kept d.secs e y is.places k.first k.last (λ o. added_in o q.number) q.enclave
           (like (page_count size) q.number None ∙ ap (λ o. added_in o q.number) (sym new)) i;
-      is_busy = λ q. enclave_kept d.secs e (created e base size) is.places k.first k.last (λ o. is_busy_in o q.number) q.enclave
+      is_busy = λ q. enclave_kept d.secs e y is.places k.first k.last (λ o. is_busy_in o q.number) q.enclave
           (like (page_count size) q.number false ∙ ap (λ o. is_busy_in o q.number) (sym new)) i;
       measure = λ n. measure_set d.measures e n begun there i;
     }
 
--- the frame of a new SECS held no version array page, and holds none
-pub create_pages : (d : Parts) (f e : ℕ) → AreVaPages d.epc d.va → Takes d.epc f → AreVaPages (with_secs d.epc f e) d.va
-create_pages d f e pages k = pages-with_entry d.epc d.va f _ pages k.low (sym (ap table.is_va k.free))
+-- what is in frames with a new SECS
+pub create_held : (d : Parts) (e f base size : ℕ) → Creates d.epc f e base size → enclave_at d.secs e ≡ None → IsTable d.secs
+    → AreHeld d.epc d.secs d.va
+    → AreHeld (with_secs d.epc f e) (with_enclave d.secs e (with_frame (created e base size) (Some (record { 0 = f })))) d.va
+create_held d e f base size k new is h =
+    let y = with_frame (created e base size) (Some (record { 0 = f })) in
+    let v = holding (page_at e SECS_NUMBER) kinds.Secs no_perm in
+    let entries : (n : ℕ) → entry_at (with_secs d.epc f e) n ≡ cond (f == n) v (entry_at d.epc n) =
+    λ n. entry_at-with_secs d.epc f e n k.takes.low in
+    held_put d.epc (with_secs d.epc f e) d.secs (with_enclave d.secs e y) d.va d.va f v (length-with_secs d.epc f e) entries
+    (pages-with_entry d.epc d.va.pages f v h.pages k.takes.low (sym (ap table.is_va k.takes.free))) h.places
+    (created_in d.epc (with_secs d.epc f e) d.secs e f y k.takes.low k.takes.free (length-with_secs d.epc f e)
+    (λ n. put_content d.epc (with_secs d.epc f e) f (page_at e SECS_NUMBER) kinds.Secs no_perm k.takes entries n) new h.owned is.places
+    k.first k.last refl refl h.counted)
+    (there y e (eq-eqb e e refl)) (λ n is_there. other y n is_there) refl h
+  where
+    there : (y : SecsState) (n : ℕ) → (e == n) ≡ true → is_some (enclave_at (with_enclave d.secs e y) n) ≡ true
+    there y n same = rw (enclave_at-with_enclave d.secs e n y is.places k.first k.last, same) refl
+
+    other : (y : SecsState) (n : ℕ) → is_some (enclave_at d.secs n) ≡ true → is_some (enclave_at (with_enclave d.secs e y) n) ≡ true
+    other y n is_there = rw (enclave_at-with_enclave d.secs e n y is.places k.first k.last)
+        (cond_both (e == n) (Some y) (enclave_at d.secs n) (λ o. is_some o ≡ true) (λ _. refl) (λ _. is_there))
 
 -- an enclave that is not there
 pub no_enclave : (o : Option SecsState) → is_some (enclave_of o) ≡ false → o ≡ None
@@ -214,8 +199,9 @@ no_enclave (Some x) h = cc
 -- ---- add
 
 -- what the row of `add` shows of a created enclave
-pub record Adds (epc : List EpcFrame) (f number : ℕ) (kind : Kind) (init : PageInit) (x : SecsState) : Type 0 where
+pub record Adds (epc : List EpcFrame) (f e number : ℕ) (kind : Kind) (init : PageInit) (x : SecsState) : Type 0 where
   pub takes : Takes epc f
+  pub secs : SecsIsIn (length epc) (held_in epc) (λ n. goes_out (entry_at epc n)) e
   pub addable : limits.is_addable kind init ≡ true
   pub within : number < page_count x.size
 
@@ -223,15 +209,36 @@ is_within_below : (size number : ℕ) (init : PageInit) → limits.is_within siz
 is_within_below size number (inits.Words v) h = ltb-true _ _ h
 is_within_below size number (inits.Tcs ossa nssa) h = ltb-true _ _ (both_true _ _ (both_true _ _ h).0).0
 
-pub adds : (epc : List EpcFrame) (f number : ℕ) (kind : Kind) (perm : Perm) (init : PageInit) (b : Bool) (x : SecsState)
-    → first_of_row (add_row number kind perm init (Some (sight_of x)) b (sight_in epc f)) ≡ None → Adds epc f number kind init x
-adds epc f number kind perm init b x allowed =
-    let none = none_holds (add_row number kind perm init (Some (sight_of x)) b (sight_in epc f)) allowed in
+pub adds : (d : Parts) (f e number : ℕ) (kind : Kind) (perm : Perm) (init : PageInit) (b : Bool) (x : SecsState) → x.enclave ≡ e
+    → first_of_row (add_row number kind perm init (Some (sight_of x)) (secs_sight (state_of d) x.enclave) b (sight_in d.epc f)) ≡ None
+    → Adds d.epc f e number kind init x
+adds d f e number kind perm init b x ours allowed =
+    let none = none_holds (add_row number kind perm init (Some (sight_of x)) (secs_sight (state_of d) x.enclave) b (sight_in d.epc f)) allowed in
     record {
-      takes = takes epc f none.0 none.1.1.1.1.1.1.0 none.1.1.1.1.1.1.1.0;
-      addable = not_false _ none.1.1.0;
-      within = is_within_below x.size number init (not_false _ none.1.1.1.1.0);
+      takes = takes d.epc f none.0 none.1.1.1.1.1.1.1.1.0 none.1.1.1.1.1.1.1.1.1.0;
+      secs = subst (SecsIsIn (length d.epc) (held_in d.epc) (λ n. goes_out (entry_at d.epc n))) ours
+          (secs_is_in (state_of d) x.enclave none.1.0 none.1.1.0);
+      addable = not_false _ none.1.1.1.1.0;
+      within = is_within_below x.size number init (not_false _ none.1.1.1.1.1.1.0);
     }
+
+-- .. and has not the number of a SECS
+pub own_added : (e number : ℕ) (x : SecsState) → IsSecsOf e x → 1 ≤ e → number < page_count x.size
+    → is_own_page (page_at e number) ≡ true
+own_added e number x own first within =
+    let lawful = both_true (limits.is_lawful_size x.size) (x.base % x.size == 0) own.sound.lawful in
+    let sized = both_true _ (leb x.size (2 ^ 24)) lawful.0 in
+    let most : x.size ≤ 2 ^ 24 = leb-true _ _ sized.1 in
+    let low : number < 4096 = omega (arith, within, most) in
+    rw (apart e 0 (λ none. omega (arith, first, none)), apart number SECS_NUMBER (λ same. omega (arith, same, low))) refl
+
+-- an entry of a page that can be added
+named_own : (g : Page) (kind : Kind) (perm : Perm) (init : PageInit) → limits.is_addable kind init ≡ true
+    → IsNamedFor (holding g kind perm)
+named_own g kinds.Tcs perm init h = tt
+named_own g kinds.Reg perm init h = tt
+named_own g kinds.Secs perm init h = cc
+named_own g kinds.Va perm init h = cc
 
 -- a page that can be added is held as that page
 holds_added : (g : Page) (kind : Kind) (perm : Perm) (init : PageInit) → limits.is_addable kind init ≡ true
@@ -248,13 +255,27 @@ paged kinds.Reg init h = tt
 paged kinds.Secs init h = cc
 paged kinds.Va init h = cc
 
--- the frame of a new page held no version array page, and holds none
-pub add_pages : (d : Parts) (g : Page) (f : ℕ) (kind : Kind) (perm : Perm) (init : PageInit) (x : SecsState) → AreVaPages d.epc d.va
-    → Adds d.epc f g.number kind init x → AreVaPages (with_added d.epc f g kind perm init) d.va
-add_pages d g f kind perm init x pages k =
-    pages-with_words (with_page d.epc f g kind perm) d.va f (first_words init)
-    (pages-with_entry d.epc d.va f (holding g kind perm) pages k.takes.low
-    (ap table.is_va (holds_added g kind perm init k.addable) ∙ sym (ap table.is_va k.takes.free)))
+-- what is in frames with a page that is added
+pub add_held : (d : Parts) (g : Page) (f : ℕ) (kind : Kind) (perm : Perm) (init : PageInit) (x : SecsState)
+    → Adds d.epc f g.enclave g.number kind init x → enclave_at d.secs g.enclave ≡ Some x → IsTable d.secs
+    → IsCountedIn (length (with_added d.epc f g kind perm init)) (held_in (with_added d.epc f g kind perm init)) g.enclave
+    (with_resident x g.number kind perm) → AreHeld d.epc d.secs d.va
+    → AreHeld (with_added d.epc f g kind perm init) (with_enclave d.secs g.enclave (with_resident x g.number kind perm)) d.va
+add_held d g f kind perm init x k found is counts h =
+    let y = with_resident x g.number kind perm in
+    let number = numbered d.secs g.enclave x is.places found in
+    let epc = with_added d.epc f g kind perm init in
+    let v = holding g kind perm in
+    let holds = holds_added g kind perm init k.addable in
+    let entries : (n : ℕ) → entry_at epc n ≡ cond (f == n) v (entry_at d.epc n) = λ n. entry_at-with_added d.epc f n g kind perm init k.takes.low in
+    held_put d.epc epc d.secs (with_enclave d.secs g.enclave y) d.va d.va f v (length-with_added d.epc f g kind perm init) entries
+    (pages-with_words (with_page d.epc f g kind perm) d.va.pages f (first_words init)
+    (pages-with_entry d.epc d.va.pages f v h.pages k.takes.low (ap table.is_va holds ∙ sym (ap table.is_va k.takes.free)))) h.places
+    (added_in_counts d.epc epc d.secs f g kind perm y k.takes.low k.takes.free (length-with_added d.epc f g kind perm init)
+    (λ n. put_content d.epc epc f g kind perm k.takes entries n ∙ ap (λ c. cond (f == n) c (held (entry_at d.epc n))) holds) is.places
+    number.0 number.1 counts h.counted)
+    (rw holds (still_there d.secs g.enclave x y is.places number.0 number.1 found g.enclave (ap is_some found)))
+    (still_there d.secs g.enclave x y is.places number.0 number.1 found) (named_own g kind perm init k.addable) h
 
 pub added_own : (e number : ℕ) (kind : Kind) (perm : Perm) (x : SecsState) → IsSecsOf e x → IsSecsOf e (with_resident x number kind perm)
 added_own e number kind perm x own = record {
@@ -263,7 +284,7 @@ added_own e number kind perm x own = record {
 }
 
 pub add_state : (d : Parts) (g : Page) (f : ℕ) (kind : Kind) (perm : Perm) (init : PageInit) (x : SecsState) (longer : Measure)
-    → Adds d.epc f g.number kind init x → enclave_at d.secs g.enclave ≡ Some x → IsTable d.secs → g.enclave < length d.measures
+    → Adds d.epc f g.enclave g.number kind init x → enclave_at d.secs g.enclave ≡ Some x → IsTable d.secs → g.enclave < length d.measures
     → state_of (record d {
       epc = with_added d.epc f g kind perm init;
       secs = with_enclave d.secs g.enclave (with_resident x g.number kind perm);

@@ -34,12 +34,11 @@ use Rattle.paging_laws.specs.inner.State.{State, enter_sight, from_outside, with
 use Rattle.paging_laws.specs.inner.State.{after_resume}
 use Rattle.paging_laws.specs.inner.State.{after_exit, after_aex}
 use Rattle.paging_laws.specs.inner.State.{with_saved as state_saved}
-use Rattle.evict_reload.specs.inner.Sights.{AreVaPages}
-use Rattle.evict_reload.proofs.PageLaws.{pages-with_words}
+use Rattle.paging_machine.proofs.HeldLaws.{held_words, held_written}
 use Rattle.paging_laws.specs.inner.Guarded.{IsGuarded}
 use Rattle.paging_laws.specs.inner.Stands.{IsUsable, IsSound}
 use Rattle.paging_machine.specs.inner.Parts.{Parts, cpu_at, enclave_of, is_busy_in, seat_of_mode, state_of}
-use Rattle.paging_machine.specs.inner.Whole.{IsWithin, IsWhole, parts_of}
+use Rattle.paging_machine.specs.inner.Whole.{AreHeld, IsWithin, IsWhole, parts_of}
 use Rattle.paging_laws.proofs.SoundLaws.{seat_at}
 use Rattle.paging_machine.proofs.Columns.{numbered, table_written}
 use Rattle.paging_laws.proofs.EntryLaws.{enters, enter_saves, enter_saved, resume_saves, resume_saved, sound-enter, sound-resume}
@@ -174,12 +173,12 @@ module _ (m : Inside) (h : IsWhole m) (p e : ℕ) (x : SecsState) (t : Tracking)
 
   -- a processor comes inside, and the words of frames may change with it
   entered_leaves : (epc : List EpcFrame) (s : State) (tcs : ℕ) (tf sf : Frame) (acc : ℕ) (x' : SecsState) (t' : Tracking) (v' : Processor)
-      → state_of (record d { epc = epc }) ≡ s → s.frames ≡ length d.epc → AreVaPages epc d.va
+      → state_of (record d { epc = epc }) ≡ s → s.frames ≡ length d.epc → AreHeld epc d.secs d.va
       → IsKept (with_inside s p (seat_of e tcs tf.0 sf.0) acc)
       → is_inside (cpu_at d p).mode ≡ false → is_some (added_at x tcs) ≡ true → x' ≡ with_busy x tcs true → t' ≡ entered t
       → v' ≡ with_entered x.enclave tcs tf sf t.epoch acc
       → Leaves (parts_written epc x' t' v') (with_inside s p (seat_of e tcs tf.0 sf.0) acc)
-  entered_leaves epc s tcs tf sf acc x' t' v' words frames pages kept out added new_secs new_track new_cpu =
+  entered_leaves epc s tcs tf sf acc x' t' v' words frames held kept out added new_secs new_track new_cpu =
       let cpu : v' ≡ with_entered e tcs tf sf t.epoch acc = new_cpu ∙ ap (λ n. with_entered n tcs tf sf t.epoch acc) ours in
       rw (new_secs, new_track, cpu)
       (record {
@@ -192,16 +191,16 @@ module _ (m : Inside) (h : IsWhole m) (p e : ℕ) (x : SecsState) (t : Tracking)
         track_places = length-with_track d.tracks e _ ∙ h.track_places;
         tracked = tracked_entered d.tracks d.cpus p e t _ h.track_places number.0 number.1 low track h.tracked tcs tf sf out refl;
         slots = h.slots;
-        pages = pages;
+        held = held_written d.secs e x _ h.table.places number.0 number.1 found epc d.va (record { children = refl; frame = refl }) held;
         start_places = h.start_places ∙ sym (ap (λ (s : State). s.frames) words ∙ frames);
       })
 
   -- a processor leaves, and the words of frames may change with it
   left_leaves : (epc : List EpcFrame) (s : State) (tcs : ℕ) (tf sf : Frame) (epoch : ℕ) (x' : SecsState) (t' : Tracking) (v' : Processor)
-      → state_of (record d { epc = epc }) ≡ s → s.frames ≡ length d.epc → AreVaPages epc d.va → IsKept (after_exit s p)
+      → state_of (record d { epc = epc }) ≡ s → s.frames ≡ length d.epc → AreHeld epc d.secs d.va → IsKept (after_exit s p)
       → (cpu_at d p).mode ≡ modes.Inside e tcs tf sf epoch → is_some (added_at x tcs) ≡ true → x' ≡ with_busy x tcs false
       → t' ≡ left t epoch → v' ≡ outside (cpu_at d p) → Leaves (parts_written epc x' t' v') (after_exit s p)
-  left_leaves epc s tcs tf sf epoch x' t' v' words frames pages kept was added new_secs new_track new_cpu =
+  left_leaves epc s tcs tf sf epoch x' t' v' words frames held kept was added new_secs new_track new_cpu =
       rw (new_secs, new_track, new_cpu)
       (record {
         state = exit_state (record d { epc = epc }) p e tcs tf sf epoch x t was low h.track_places track h.table found added
@@ -214,7 +213,7 @@ module _ (m : Inside) (h : IsWhole m) (p e : ℕ) (x : SecsState) (t : Tracking)
         tracked = tracked_left d.tracks d.cpus p e t _ h.track_places number.0 number.1 low track h.tracked tcs tf sf epoch was refl
             (counted d.tracks d.cpus p e tcs tf sf epoch t low track was h.tracked);
         slots = h.slots;
-        pages = pages;
+        held = held_written d.secs e x _ h.table.places number.0 number.1 found epc d.va (record { children = refl; frame = refl }) held;
         start_places = h.start_places ∙ sym (ap (λ (s : State). s.frames) words ∙ frames);
       })
 
@@ -250,7 +249,7 @@ module _ (m : Inside) (h : IsWhole m) (p e : ℕ) (x : SecsState) (t : Tracking)
         let f : TcsSight = fields_at d.epc tf.0 in
         let k = enters e tcs (enter_sight (state_of d) p seat) (enter_saves f) (enter_saved f) allowed in
         let added = added_there d.secs e tcs x (page_added (state_of d) h.framed tf.0 (page_at e tcs) (not_false _ k.tcs_page)) found in
-        entered_leaves d.epc (state_of d) tcs tf sf f.cssa x' t' v' refl refl h.pages
+        entered_leaves d.epc (state_of d) tcs tf sf f.cssa x' t' v' refl refl h.held
         (kept_enter (state_of d) p seat few allowed (kept_of m h)) (sym (is_some-mode (cpu_at d p).mode) ∙ k.outside) added
 
     -- what `resume` leaves
@@ -270,7 +269,7 @@ module _ (m : Inside) (h : IsWhole m) (p e : ℕ) (x : SecsState) (t : Tracking)
         let words : state_of (record d { epc = epc }) ≡ record s { words = rewritten s.words tf.0 change } =
         ap (λ epc. state_of (record d { epc = epc })) new_epc ∙ words_state d tf.0 change (leb-false _ _ k.tcs_within) in
         entered_leaves epc (record s { words = rewritten s.words tf.0 change }) tcs tf sf (word_at d.epc sf.0 0) x' t' v' words refl
-        (rw new_epc (pages-with_words d.epc d.va tf.0 _ h.pages)) (kept_resume s p seat few allowed (kept_of m h))
+        (rw new_epc (held_words d.epc tf.0 _ d.secs d.va h.held)) (kept_resume s p seat few allowed (kept_of m h))
         (sym (is_some-mode (cpu_at d p).mode) ∙ k.outside) added
 
   module _ (v : Processor) (there : v ≡ cpu_at d p) (k : IsInsideAt (cpu_at d p).mode e) where
@@ -284,7 +283,7 @@ module _ (m : Inside) (h : IsWhole m) (p e : ℕ) (x : SecsState) (t : Tracking)
     pub exit_leaves : (x' : SecsState) (t' : Tracking) (v' : Processor) → x' ≡ with_tcs_left x v.mode → t' ≡ with_left t v.mode
         → v' ≡ outside v → Leaves (parts_written d.epc x' t' v') (after_exit (state_of d) p)
     exit_leaves x' t' v' new_secs new_track new_cpu =
-        left_leaves d.epc (state_of d) k.tcs k.tcs_frame k.ssa_frame k.epoch x' t' v' refl refl h.pages
+        left_leaves d.epc (state_of d) k.tcs k.tcs_frame k.ssa_frame k.epoch x' t' v' refl refl h.held
         (kept_exit (state_of d) p (kept_of m h)) k.is (seat_tcs m h p e x k found) (new_secs ∙ ap (with_tcs_left x) mode)
         (new_track ∙ ap (with_left t) mode)
         (new_cpu ∙ ap outside there)
@@ -316,7 +315,7 @@ module _ (m : Inside) (h : IsWhole m) (p e : ℕ) (x : SecsState) (t : Tracking)
         let after : after_exit (state_saved s acc (Some mine)) p ≡ after_aex s p = ap (λ o. after_exit (state_saved s acc o) p) (sym is) in
         rw (← after)
         (left_leaves epc (state_saved s acc (Some mine)) k.tcs k.tcs_frame k.ssa_frame k.epoch x' t' v' words refl
-        (rw epc_is (pages-with_words mid.epc d.va tf _ (pages-with_words d.epc d.va sf _ h.pages))) (kept_aex s p mine is (kept_of m h))
+        (rw epc_is (held_words mid.epc tf _ d.secs d.va (held_words d.epc sf _ d.secs d.va h.held))) (kept_aex s p mine is (kept_of m h))
         k.is (seat_tcs m h p e x k found) (new_secs ∙ ap (with_tcs_left x) mode)
         (new_track ∙ ap (with_left t) mode) (new_cpu ∙ ap outside there))
 

@@ -1,14 +1,15 @@
 -- A machine as it is made is a fresh one: it stands for no entry, and keeps what every machine keeps.
 use Rattle.std.proofs.Common.{ℕ, zero, suc, ◌≡◌, ◌==◌, ◌-◌, ◌≤◌, ◌+◌, refl, sym, ap, subst, ◌∙◌, true}
 use Rattle.std.proofs.Common.{false, cond, mul-zero, ◌<◌, List, [], ◌∷◌, ◌++◌, Option, Some, None, length, replicate, get_or}
-use Rattle.std.specs.Prelude.{Bool, count_by}
+use Rattle.std.specs.Prelude.{Bool, IfSome, count_by, is_some}
+use Rattle.evict_reload.specs.inner.Sights.{owner_in}
 use Rattle.std.proofs.lemmas.Bool.{cond_both}
 use Rattle.std.proofs.lemmas.List.{length-replicate, replicate-append-replicate}
 use Rattle.std.proofs.lemmas.List.Elements.{All-nil}
 use Rattle.std.proofs.lemmas.List.Folds.{sum_by-replicate}
 use Rattle.std.specs.Prelude.{slice_get}
 use Rattle.epcm_entry.specs.inner.EntryView.{block_of, goes_out}
-use Rattle.epcm_entry.specs.inner.Epc.{EpcFrame, free_frame}
+use Rattle.epcm_entry.specs.inner.Epc.{EpcFrame, free_frame, free_frames}
 use Rattle.epcm_entry.specs.inner.Sights.{held}
 use Rattle.cached_translations.specs.declared.cache.Translation.{Translation}
 use Rattle.cached_translations.specs.declared.processor.Processor.{Processor}
@@ -20,7 +21,7 @@ use Rattle.secs_state.specs.inner.Table.{empty_table, enclave_at}
 use Rattle.track_epoch.specs.inner.Tracks.{track_of}
 use Rattle.version_array.specs.inner.Slots.{IsVaTable}
 use Rattle.version_array.proofs.TableLaws.{IsVaTable-none}
-use Rattle.evict_reload.specs.inner.Sights.{AreVaPages}
+use Rattle.sgx_types.specs.declared.names.TheConstants.{MOST_FRAMES}
 use Rattle.evict_reload.proofs.PageLaws.{pages-none}
 use Rattle.paging_machine.specs.declared.starts.Start as starts
 use Rattle.paging_laws.specs.inner.Guarded.{IsGuarded}
@@ -32,7 +33,7 @@ use Rattle.paging_laws.specs.inner.Stands.{IsSound, IsMeasured, IsFramed}
 use Rattle.paging_machine.specs.inner.Parts.{Parts, made, idle, is_noted, state_of, enclave_of, added_in, is_busy_in}
 use Rattle.paging_machine.specs.inner.Parts.{seat_of_mode, noted_by}
 use Rattle.paging_machine.specs.inner.Parts.{epoch_from, start_of}
-use Rattle.paging_machine.specs.inner.Whole.{IsTable, IsWithin, IsTracked, IsWhole, parts_of}
+use Rattle.paging_machine.specs.inner.Whole.{AreHeld, IsNamedFor, IsTable, IsWithin, IsTracked, IsWhole, parts_of}
 use Rattle.paging_machine.specs.declared.machine.Machine.TheInside.{Inside}
 use Rattle.paging_machine.proofs.Columns.{like}
 use Rattle.paging_laws.proofs.ShapeSteps.{fresh_shaped}
@@ -76,7 +77,7 @@ made_state frames cpus key epoch version = λ i. record {
   noted = λ p. ap (λ x. noted_by x.mode) (like cpus p idle) i;
   epoch = λ e. first_epochs epoch e i;
   version_in = λ slot. 0;
-  is_slot_busy = λ slot. false;
+  is_slot_named = λ slot. false;
   next_version = version;
   start = λ n. ap start_of (like {X = Option starts.Start} frames n None) i;
   cpus = length-replicate cpus idle i;
@@ -112,7 +113,7 @@ guarded_made frames cpus key epoch version =
       few = λ p past. refl;
       noted = λ p. tt;
       blocks = λ n. tt;
-      sealing = λ n is. cc;
+      sealing = λ n is own. cc is;
       taken = λ g is. cc is;
       opened = λ n. tt;
       written = λ n is. cc is;
@@ -120,15 +121,32 @@ guarded_made frames cpus key epoch version =
       held = λ n is. cc is;
       apart = record {
         below = λ n x is. cc is;
-        busy = λ n x is. cc is;
+        marked = λ n x is. cc is;
         named = λ slot is. cc is;
         alone = λ m n x y is too same. cc is;
       };
       kinds = λ g. tt;
       goes_out = λ n is. cc is;
+      kept = record {
+        covered = λ e m is. cc is;
+        bounded = λ n past. refl;
+        arrays = record { below = λ n number is. cc is; once = λ m n number is too. cc is };
+        named = λ n. tt;
+      };
     })
 
 -- .. and keeps what every machine keeps
+held_made : (frames : ℕ) → frames ≤ MOST_FRAMES → AreHeld (free_frames frames) empty_table (record { pages = []; made = 0 })
+held_made frames small = record {
+  pages = pages-none frames;
+  places = refl;
+  small = rw (length-replicate frames free_frame) small;
+  counted = λ e. rw (no_enclave e) tt;
+  owned = λ n. subst (λ (x : EpcFrame). IfSome (owner_in (held x.entry)) (λ e. is_some (enclave_at empty_table e) ≡ true))
+      (sym (like frames n free_frame)) tt;
+  named = λ n. subst (λ (x : EpcFrame). IsNamedFor x.entry) (sym (like frames n free_frame)) tt;
+}
+
 table_made : IsTable empty_table
 table_made = record { places = refl; own = λ e x is. absurd (let none = no_enclave e in cc (none, is)) }
 
@@ -161,8 +179,8 @@ tracked_made cpus epoch e t at test =
     by_number false is = ap (count_by test) (starting 8 (e - 1) epoch t is) ∙ sym (idle_unnoted cpus e test)
 
 pub whole_made : (m : Inside) (frames cpus : ℕ) (key : List ℕ) (epoch version : ℕ) → parts_of m ≡ made frames cpus key epoch version
-    → cpus ≤ 16 → IsWhole m
-whole_made m frames cpus key epoch version is few =
+    → cpus ≤ 16 → frames ≤ MOST_FRAMES → IsWhole m
+whole_made m frames cpus key epoch version is few small =
     let count : length m.cpus.items ≡ cpus = ap (λ (d : Parts). length d.cpus) is ∙ length-replicate cpus idle in
     record {
       processors = rw count few;
@@ -173,8 +191,8 @@ whole_made m frames cpus key epoch version is few =
       within = subst (λ (d : Parts). IsWithin (state_of d)) (sym is) (within_made frames cpus key epoch version);
       track_places = ap (λ (d : Parts). length d.tracks) is ∙ length-replicate 8 (starting_at epoch);
       tracked = subst (λ (d : Parts). IsTracked d.tracks d.cpus) (sym is) (tracked_made cpus epoch);
-      slots = subst (λ (d : Parts). IsVaTable d.va) (sym is) IsVaTable-none;
-      pages = subst (λ (d : Parts). AreVaPages d.epc d.va) (sym is) (pages-none frames);
+      slots = subst (λ (d : Parts). IsVaTable d.va.pages) (sym is) IsVaTable-none;
+      held = subst (λ (d : Parts). AreHeld d.epc d.secs d.va) (sym is) (held_made frames small);
       start_places = ap (λ (d : Parts). length d.starts) is ∙ length-replicate {A = Option starts.Start} frames None
           ∙ sym (ap (λ (d : Parts). length d.epc) is ∙ length-replicate frames free_frame);
       sound = subst (λ (d : Parts). IsSound (state_of d)) (sym is) (sound_made frames cpus key epoch version);

@@ -1,5 +1,6 @@
 pub mod Columns
 pub mod KeptStates
+pub mod HeldLaws
 pub mod TrackLaws
 pub mod WholeMachines
 pub mod FreeFrames
@@ -11,4 +12,6 @@ pub mod AccessBridge
 pub mod Fresh
 pub mod PagingSights
 pub mod PagingBridge
+pub mod ArrayBridge
 pub mod CommitBridge
+pub mod SealBridge

@@ -1,13 +1,13 @@
 -- The machine's parts after a row of a processor, and the state that they make.
-use Rattle.std.proofs.Common.{◌≡◌, ℕ, ◌<◌, ◌≤◌, ◌==◌, Bool, true, false, cond, refl, sym, ap, ◌∙◌, Option, Some}
+use Rattle.std.proofs.Common.{◌≡◌, ℕ, ◌<◌, ◌≤◌, ◌==◌, Bool, true, false, cond, refl, sym, ap, ◌∙◌, Option, Some, IfSome}
 use Rattle.std.proofs.Common.{None, List, [], length, get_or, set, is_some, length-set}
-use Rattle.std.proofs.lemmas.Bool.{cond_both, eqb-true}
+use Rattle.std.proofs.lemmas.Bool.{cond_both, eqb-true, false≢true}
 use Rattle.std.proofs.lemmas.List.{get_or_past}
 use Rattle.sgx_types.specs.declared.names.Frame.{Frame}
 use Rattle.sgx_types.specs.declared.names.Page.{Page}
 use Rattle.sgx_types.specs.declared.names.Kind.{Kind}
 use Rattle.sgx_types.specs.declared.names.Perm.{Perm}
-use Rattle.sgx_types.specs.Pages.{page_at, same_page}
+use Rattle.sgx_types.specs.Pages.{is_va_page, page_at, same_page, secs_page, va_page}
 use Rattle.sgx_rules.specs.Frames.{Content, Free, IsVa, SecsOf, Holds, IsLoading, is_page}
 use Rattle.sgx_rules.specs.Sights.{seat_of}
 use Rattle.sgx_types.proofs.Pages.{same_pages}
@@ -27,8 +27,9 @@ use Rattle.cached_translations.specs.inner.Translations.{with_translation}
 use Rattle.track_epoch.specs.inner.Tracking.{Tracking, entered, left}
 use Rattle.track_epoch.specs.inner.Tracks.{track_of, with_track}
 use Rattle.track_epoch.proofs.TracksLaws.{track_of-with_track}
-use Rattle.sgx_rules.specs.Frames.{page_of}
+use Rattle.sgx_rules.specs.Frames.{page_there}
 use Rattle.entry_exit.specs.inner.Entry.{IsAdded}
+use Rattle.evict_reload.specs.inner.Sights.{HaveEnclaves, owner_in}
 use Rattle.paging_laws.specs.inner.State.{State, seat_enclave, is_seated_by, rewritten, with_inside, with_acc, after_exit}
 use Rattle.paging_laws.specs.inner.State.{after_fill}
 use Rattle.paging_machine.specs.inner.Parts.{Parts, added_in, enclave_of, epoch_from, is_busy_in, idle, cpu_at, noted_by}
@@ -70,22 +71,25 @@ page_added s framed n g is = by_content (s.content n) refl is
     by_content (SecsOf enclave) e k = cc
     by_content (IsLoading page) e k = cc
 
--- .. and that enclave was created
-pub pages_made : (d : Parts) → IsFramed (state_of d) → HasEnclaves (state_of d)
-pages_made d framed n g is = by_content ((state_of d).content n) refl is
+-- the enclave of a page or SECS that a frame holds was created
+pub pages_made : (d : Parts) → HaveEnclaves d.epc d.secs → HasEnclaves (state_of d)
+pages_made d owned n g is of_enclave = by_content ((state_of d).content n) (owned n) is
   where
-    by_enclave : (o : Option SecsState) (number : ℕ) → is_some (added_in o number) ≡ true → is_some (enclave_of o) ≡ true
-    by_enclave None number k = cc k
-    by_enclave (Some x) number k = refl
+    by_enclave : (e : ℕ) → is_some (enclave_at d.secs e) ≡ true → is_some (enclave_of (enclave_at d.secs e)) ≡ true
+    by_enclave e k = by_state (enclave_at d.secs e) k
+      where
+        by_state : (o : Option SecsState) → is_some o ≡ true → is_some (enclave_of o) ≡ true
+        by_state None k = cc k
+        by_state (Some x) k = refl
 
-    by_content : (c : Content) → (state_of d).content n ≡ c → page_of c ≡ Some g
+    by_content : (c : Content) → IfSome (owner_in c) (λ e. is_some (enclave_at d.secs e) ≡ true) → page_there c ≡ Some g
         → is_some (enclave_of (enclave_at d.secs g.enclave)) ≡ true
-    by_content (Holds page kind perm) e k =
-        let same : page ≡ g = cc in by_enclave (enclave_at d.secs g.enclave) g.number (rw same at (framed n page kind perm e))
-    by_content Free e k = cc
-    by_content (IsVa number) e k = cc
-    by_content (SecsOf enclave) e k = cc
-    by_content (IsLoading page) e k = cc
+    by_content (Holds page kind perm) k at = let same : page ≡ g = cc at in by_enclave g.enclave (rw (← same) k)
+    by_content (SecsOf enclave) k at = let same : secs_page enclave ≡ g = cc at in by_enclave g.enclave (rw (← same) k)
+    by_content (IsVa number) k at =
+        let same : va_page number ≡ g = cc at in absurd (false≢true (sym of_enclave ∙ ap is_va_page (sym same)))
+    by_content Free k at = cc at
+    by_content (IsLoading page) k at = cc at
 
 -- a page that was added, by its enclave's state
 pub added_there : (table : List (Option SecsState)) (e number : ℕ) (x : SecsState) → is_some (added_in (enclave_at table e) number) ≡ true

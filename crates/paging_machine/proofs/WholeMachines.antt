@@ -17,12 +17,11 @@ use Rattle.track_epoch.specs.inner.Tracking.{Tracking}
 use Rattle.track_epoch.specs.inner.Tracks.{track_of, with_track}
 use Rattle.track_epoch.proofs.TracksLaws.{with_track-track_of}
 use Rattle.version_array.specs.inner.Slots.{IsVaTable}
-use Rattle.evict_reload.specs.inner.Sights.{AreVaPages}
 use Rattle.paging_laws.specs.inner.Guarded.{IsGuarded}
 use Rattle.paging_machine.specs.inner.Parts.{Parts, idle, cpu_at, state_of}
 use Rattle.paging_laws.specs.inner.Stands.{IsSound, IsMeasured, IsFramed}
 use Rattle.paging_laws.specs.inner.Steps.{IsStep}
-use Rattle.paging_machine.specs.inner.Whole.{IsTable, IsWithin, IsTracked, IsWhole, parts_of}
+use Rattle.paging_machine.specs.inner.Whole.{AreHeld, IsTable, IsWithin, IsTracked, IsWhole, parts_of}
 use Rattle.paging_machine.proofs.Columns.{enclave_same, numbered}
 use Rattle.paging_machine.proofs.KeptStates.{IsKept, kept_as}
 
@@ -38,8 +37,8 @@ pub record Leaves (d : Parts) (s : State) : Type 0 where
   pub table : IsTable d.secs
   pub track_places : length d.tracks ≡ 8
   pub tracked : IsTracked d.tracks d.cpus
-  pub slots : IsVaTable d.va
-  pub pages : AreVaPages d.epc d.va
+  pub slots : IsVaTable d.va.pages
+  pub held : AreHeld d.epc d.secs d.va
   pub start_places : length d.starts ≡ length d.epc
 
 pub whole : (m : Inside) (s : State) → Leaves (parts_of m) s → IsWhole m
@@ -52,7 +51,7 @@ whole m s h =
       track_places = h.track_places;
       tracked = h.tracked;
       slots = h.slots;
-      pages = h.pages;
+      held = h.held;
       start_places = h.start_places;
       measured = k.measured;
       framed = k.framed;
@@ -64,9 +63,9 @@ whole m s h =
 -- a row that builds changes no track, no slot and no processor
 pub builds : (m : Inside) → IsWhole m → (epc : List EpcFrame) (secs : List (Option SecsState)) (measures : List (Option Measure))
     (s : State) → state_of (record (parts_of m) { epc = epc; secs = secs; measures = measures }) ≡ s → IsKept s
-    → length measures ≡ 9 → IsTable secs → AreVaPages epc m.va → length epc ≡ length m.epc
+    → length measures ≡ 9 → IsTable secs → AreHeld epc secs m.va → length epc ≡ length m.epc
     → Leaves (record (parts_of m) { epc = epc; secs = secs; measures = measures }) s
-builds m h epc secs measures s state kept places table pages frames = record {
+builds m h epc secs measures s state kept places table held frames = record {
   state = state;
   kept = kept;
   processors = h.processors;
@@ -75,7 +74,7 @@ builds m h epc secs measures s state kept places table pages frames = record {
   track_places = h.track_places;
   tracked = h.tracked;
   slots = h.slots;
-  pages = pages;
+  held = held;
   start_places = h.start_places ∙ sym frames;
 }
 
@@ -125,8 +124,8 @@ whole_same m m' e h = record {
   table = subst (λ (d : Parts). IsTable d.secs) (sym e) h.table;
   track_places = subst (λ (d : Parts). length d.tracks ≡ 8) (sym e) h.track_places;
   tracked = subst (λ (d : Parts). IsTracked d.tracks d.cpus) (sym e) h.tracked;
-  slots = subst (λ (d : Parts). IsVaTable d.va) (sym e) h.slots;
-  pages = subst (λ (d : Parts). AreVaPages d.epc d.va) (sym e) h.pages;
+  slots = subst (λ (d : Parts). IsVaTable d.va.pages) (sym e) h.slots;
+  held = subst (λ (d : Parts). AreHeld d.epc d.secs d.va) (sym e) h.held;
   start_places = subst (λ (d : Parts). length d.starts ≡ length d.epc) (sym e) h.start_places;
   measured = subst (λ (d : Parts). IsMeasured (state_of d)) (sym e) h.measured;
   framed = subst (λ (d : Parts). IsFramed (state_of d)) (sym e) h.framed;

@@ -8,8 +8,9 @@ ghost use Rattle.sgx_rules.specs.inner.Rules.{LoadsAwayRule};
 ghost use Rattle.sgx_types.specs.Making.{Making};
 ghost use Rattle.paging_laws.specs.inner.Shape.{ShapeWithRules, FitsApart};
 ghost use Rattle.seal_record.specs.Records.{Made};
+ghost use Rattle.paging_laws.specs.inner.Columns.{HasAllVersions};
 ghost use Rattle.paging_laws.specs.inner.Histories.{StandsWithAllRules};
-ghost use Rattle.paging_laws.specs.inner.Steps.{IsStep, CanApply, MayNeedMemory, did_by, refused_by};
+ghost use Rattle.paging_laws.specs.inner.Steps.{IsStep, CanApply, CanMove, MayNeedMemory, did_by, refused_by};
 
 use crate::machine::Machine;
 use sgx_rules::entries::{Action, Answer, Entry, Event};
@@ -20,15 +21,20 @@ use std::alloc::Global;
 impl Machine {
     /// One instruction but the commits of EWB and ELDU: its entry says whether it was done, with its answer, or refused,
     /// with the first case of its row in this project's instruction table that holds. A refusal changes nothing. Memory
-    /// may be refused to `epa` and `create` alone.
+    /// may be refused to `epa` and `create` alone. Fewer than 2^32 version array pages are made, and none is loaded that is in a
+    /// frame, or for which one waits.
     pub fn apply(&mut self, alloc: Global, actor: Actor, action: &Action) -> Result<Entry, Memory>
-        requires { CanApply (length self.old.cpus) actor action.now }
+        requires can_apply { CanApply (length self.old.cpus) actor action.now }
+        requires can_move { CanMove (state_of self.old) action.now }
         ensures step { IfOk result (λ e. IsStep (state_of self.old) actor action.now e (state_of self.new)) }
         ensures shape { IfOk result (λ e. (making : Making) (past : List Entry) → ShapeWithRules making (state_of self.old) past
             → ShapeWithRules making (state_of self.new) (e ∷ past)) }
         ensures fits { IfOk result (λ e. (making : Making) (past : List Entry) → ShapeWithRules making (state_of self.old) past
             → LoadsAwayRule past e →
             FitsApart making.frames past → FitsApart making.frames (e ∷ past)) }
+        // The slots of version array pages have the versions that the entries say, whatever records were brought.
+        ensures arrays { IfOk result (λ e. (making : Making) (past : List Entry) → ShapeWithRules making (state_of self.old) past →
+            HasAllVersions (state_of self.old) past → HasAllVersions (state_of self.new) (e ∷ past)) }
         ensures history { IfOk result (λ e. (making : Making) (past : List Entry) (records : List Made) →
             StandsWithAllRules making (state_of self.old) past records → StandsWithAllRules making (state_of self.new) (e ∷ past) records) }
         ensures memory { OnErr result (MayNeedMemory action.now) }
@@ -45,7 +51,8 @@ impl Machine {
 
     /// The instruction by its row. The rows stand out of line: a call then sets up the locals of one row, and not of each.
     fn row(&mut self, alloc: Global, actor: Actor, action: &Action) -> Result<Entry, Memory>
-        requires { CanApply (length self.old.cpus) actor action.now }
+        requires can_apply { CanApply (length self.old.cpus) actor action.now }
+        requires can_move { CanMove (state_of self.old) action.now }
         ensures step { IfOk result (λ e. IsStep (state_of self.old) actor action.now e (state_of self.new)) }
         ensures memory { OnErr result (MayNeedMemory action.now) }
         ensures refused { OnErr result (self.new ≡ self.old) }

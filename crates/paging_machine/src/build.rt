@@ -1,6 +1,6 @@
 //! The rows that make version array pages and build enclaves.
 
-ghost use Rattle.std.specs.Prelude.{◌≡◌, true, None, Some, IfOk, OnOk, OnErr, is_some, length};
+ghost use Rattle.std.specs.Prelude.{◌≡◌, ◌<◌, ◌^◌, true, None, Some, IfOk, OnOk, OnErr, is_some, length};
 ghost use Rattle.sgx_rules.specs.Table.{first_of_row, when, ◌otherwise◌, allowed, epa_row};
 ghost use Rattle.sgx_rules.specs.declared.refusals.Refusal.TheVariants as why;
 ghost use Rattle.epcm_entry.specs.inner.Sights.{sight_in};
@@ -8,7 +8,7 @@ ghost use Rattle.sgx_rules.specs.declared.entries.Action.TheVariants as actions;
 ghost use Rattle.paging_machine.specs.inner.Parts.{state_of};
 ghost use Rattle.paging_laws.specs.inner.Stands.{IsSound};
 ghost use Rattle.paging_laws.specs.inner.State.{sight, after_epa};
-ghost use Rattle.paging_laws.specs.inner.Steps.{IsStep};
+ghost use Rattle.paging_laws.specs.inner.Steps.{CanMove, IsStep};
 
 use crate::apply::{done, refused};
 use crate::machine::Machine;
@@ -27,6 +27,7 @@ impl Machine {
     /// A free frame becomes a version array page (Intel SDM volume 3D, EPA).
     #[inline(never)]
     pub(crate) fn epa(&mut self, alloc: Global, actor: Actor, frame: Frame) -> Result<Entry, Memory>
+        requires { CanMove (state_of self.old) (actions.Epa frame) }
         ensures step { IfOk result (λ e. IsStep (state_of self.old) actor (actions.Epa frame) e (state_of self.new)) }
         ensures refused { OnErr result (self.new ≡ self.old) }
         ensures cpus { length self.new.cpus ≡ length self.old.cpus }
@@ -59,14 +60,14 @@ impl Machine {
 
     /// Makes a free frame a version array page, with 512 empty slots. Answers its number.
     fn set_va(&mut self, alloc: Global, frame: Frame) -> Result<u32, Memory>
-        requires { first_of_row (epa_row (sight (state_of self.old) frame.0)) ≡ None }
+        requires row { first_of_row (epa_row (sight (state_of self.old) frame.0)) ≡ None }
+        requires few { (state_of self.old).vas_made < 2 ^ 32 }
         ensures number { IfOk result (λ number. number ≡ (state_of self.old).vas_made) }
         ensures done { OnOk result (state_of self.new ≡ after_epa (state_of self.old) frame.0) }
         ensures refused { OnErr result (self.new ≡ self.old) }
         ensures cpus { length self.new.cpus ≡ length self.old.cpus }
     {
         let made = self.va.made();
-        prove!(made <= u64::from(self.epc.frames()));
         self.va.epa(alloc, frame)?;
         // Its number, by how many were made before it. It is of no enclave.
         let number = made as u32;
@@ -167,7 +168,7 @@ impl Machine {
             return refused(actor, action, Refusal::Absent);
         };
         let measure = self.measures[usize::from(enclave)].as_ref().unwrap();
-        match einit(secs, measure, expect) {
+        match einit(&self.epc, secs, measure, expect) {
             Ok(digest) => done(actor, action, Answer::Hash(digest)),
             Err(refusal) => refused(actor, action, refusal),
         }

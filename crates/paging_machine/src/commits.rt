@@ -2,28 +2,32 @@
 
 ghost use Rattle.paging_laws.specs.inner.Notes.{IsDone};
 ghost use Rattle.paging_laws.specs.inner.State.{making_of};
-ghost use Rattle.std.specs.Prelude.{◌≡◌, ◌∷◌, ◌++◌, true, Some, length, List, is_some};
+ghost use Rattle.std.specs.Prelude.{◌≡◌, ◌∷◌, ◌++◌, [], true, Some, length, List, is_some};
 ghost use Rattle.std.specs.Option.{IsSomeAnd};
 ghost use Rattle.sgx_rules.specs.declared.entries.Entry.{Entry};
+ghost use Rattle.sgx_rules.specs.Frames.{page_there};
 ghost use Rattle.sgx_rules.specs.Table.{is_loading};
+ghost use Rattle.paging_laws.specs.inner.Columns.{HasAllVersions};
 ghost use Rattle.sgx_types.specs.Making.{Making};
 ghost use Rattle.seal_record.specs.Records.{Given, Made, Unforged};
-ghost use Rattle.paging_laws.specs.inner.Histories.{StandsWithAllRules, given_out, looked_at, BringsIn};
+ghost use Rattle.paging_laws.specs.inner.Histories.{StandsWithAllRules, given_out, looked_at, BringsArrayIn, BringsIn, GivesArray};
 ghost use Rattle.paging_machine.specs.inner.Parts.{start_of, state_of};
 ghost use Rattle.paging_laws.specs.inner.Shape.{ShapeWithRules, FitsApart};
-ghost use Rattle.paging_laws.specs.inner.Steps.{IsHeaderIn, IsReloaded, IsWrittenOut, SealsPage};
+ghost use Rattle.paging_laws.specs.inner.Steps.{HasBytesOf, HasSecsBytes, IsDigest, IsReloaded, IsWrittenOut, SealsPage, header_in};
+ghost use Rattle.page_bytes.specs.inner.Bytes.{HasRoom};
+ghost use Rattle.evict_reload.specs.inner.Sights.{is_kind_own};
 
 use crate::apply::{done, refused};
 use crate::machine::Machine;
 use crate::starts::Start;
 use epcm_entry::entry_view::EntryView;
-use evict_reload::reload::eld_commit;
+use evict_reload::reload::{eld_commit, header_in};
 use evict_reload::write_out::ewb_commit;
+use page_bytes::bytes::{put_secs, put_slots};
 use seal_record::seal::{SealWork, SealedWork, seal};
 use seal_record::unseal::{UnsealWork, UnsealedWork, unseal};
 use sgx_rules::entries::{Action, Answer, Entry};
-use sgx_types::layouts::flags;
-use sgx_types::names::{Actor, Frame};
+use sgx_types::names::{Actor, Frame, Kind};
 use sgx_types::record::{Header, Record};
 
 // The second halves of EWB and ELDU. What is sealed or opened between the halves is not trusted: a work of another input is
@@ -41,7 +45,7 @@ impl Machine {
         work.key = key;
         work.version = start.version;
         work.header = header;
-        work.plain.copy_from_slice(self.epc.bytes(frame));
+        self.write_bytes(frame, &mut work.plain);
     }
 
     /// Fills in under what the started ELDU of a frame opens its record: the machine's key, and the version that was found.
@@ -66,6 +70,12 @@ impl Machine {
             → ShapeWithRules making (state_of self.new) (result.0 ∷ past) }
         ensures fits { (making : Making) (past : List Entry) → ShapeWithRules making (state_of self.old) past →
             FitsApart making.frames past → FitsApart making.frames (result.0 ∷ past) }
+        // The slots of version array pages have the versions that the entries say, whatever records were brought,
+        ensures arrays { (making : Making) (past : List Entry) → ShapeWithRules making (state_of self.old) past →
+            HasAllVersions (state_of self.old) past → HasAllVersions (state_of self.new) (result.0 ∷ past) }
+        // and the record of such a page is the one of its slots.
+        ensures array_record { (making : Making) (past : List Entry) → ShapeWithRules making (state_of self.old) past →
+            HasAllVersions (state_of self.old) past → GivesArray making.key past result.0.event result.1 }
         ensures history { (making : Making) (past : List Entry) (records : List Made)
             → StandsWithAllRules making (state_of self.old) past records →
             StandsWithAllRules making (state_of self.new) (result.0 ∷ past) (records ++ given_out result.0.event result.1) }
@@ -74,7 +84,14 @@ impl Machine {
     {
         let work = self.sealed(frame, work);
         let start = self.start(frame);
-        let page = ewb_commit(&mut self.epc, &mut self.va, start.slot, frame, &work);
+        let page = ewb_commit(
+            &mut self.epc,
+            &mut self.secs,
+            &mut self.va,
+            start.at,
+            frame,
+            &work,
+        );
         self.starts[frame.0 as usize] = None;
         let rec = work.rec;
         let tag = rec.tag;
@@ -96,6 +113,12 @@ impl Machine {
             → ShapeWithRules making (state_of self.new) (result ∷ past) }
         ensures fits { (making : Making) (past : List Entry) → ShapeWithRules making (state_of self.old) past →
             FitsApart making.frames past → FitsApart making.frames (result ∷ past) }
+        // The slots of version array pages have the versions that the entries say, where the record of such a page brings those with which it
+        // last went out.
+        ensures arrays { (making : Making) (past : List Entry) → ShapeWithRules making (state_of self.old) past →
+            HasAllVersions (state_of self.old) past →
+            (IsDone result.event → BringsArrayIn making.key past (state_of self.old) frame.0 work.rec) →
+            HasAllVersions (state_of self.new) (result ∷ past) }
         ensures history { (making : Making) (past : List Entry) (records : List Made) (given : List Given) →
             StandsWithAllRules making (state_of self.old) past records →
             Unforged making.key records (given ++ looked_at (state_of self.old) frame.0 records work.rec) →
@@ -112,9 +135,9 @@ impl Machine {
         let page = start.loads.unwrap();
         let ended = eld_commit(
             &mut self.epc,
-            &self.secs,
+            &mut self.secs,
             &mut self.va,
-            start.slot,
+            start.at,
             frame,
             page,
             &work,
@@ -149,26 +172,66 @@ impl Machine {
         self.starts[frame.0 as usize].unwrap()
     }
 
-    // The header of the page that starts to go out of a frame.
+    // The header of what starts to go out of a frame.
     fn header(&self, frame: Frame) -> Header
         requires { (state_of self.now).is_sealing frame.0 ≡ true }
-        ensures { IsHeaderIn (state_of self.now) frame.0 result }
+        ensures { IsSomeAnd (page_there ((state_of self.now).content frame.0)) (λ page. header_in (state_of self.now) page ≡ Some result) }
     {
-        let EntryView::Valid {
-            page,
-            kind,
-            perm,
-            ..
-        } = self.epc.entry(frame)
-        else {
+        let EntryView::Valid { page, .. } = self.epc.entry(frame) else {
             unreachable!();
         };
-        let secs = self.secs.get(page.enclave).unwrap();
-        Header {
-            enclave: u64::from(page.enclave),
-            address: secs.address(page.number),
-            flags: flags(kind, perm),
+        header_in(&self.secs, page).unwrap()
+    }
+
+    // Writes the 4096 bytes of what starts to go out of a frame, as they are sealed: of a TCS or REG page those in its frame, of a version array
+    // page its slots, and of a SECS what the machine knows of its enclave.
+    fn write_bytes(&self, frame: Frame, onto: &mut Vec<u8>)
+        requires leaving { (state_of self.now).is_sealing frame.0 ≡ true }
+        requires page { length onto.old.items ≡ 4096 }
+        ensures bytes { HasBytesOf (state_of self.now) frame.0 ((state_of self.now).content frame.0) onto.new.items }
+        ensures page { length onto.new.items ≡ 4096 }
+    {
+        let EntryView::Valid { page, kind, .. } = self.epc.entry(frame) else {
+            unreachable!();
+        };
+        match kind {
+            Kind::Tcs | Kind::Reg => onto.copy_from_slice(self.epc.bytes(frame)),
+            Kind::Va => {
+                onto.clear();
+                put_slots(&self.va, frame, onto);
+            }
+            Kind::Secs => {
+                onto.clear();
+                self.put_secs(page.enclave, onto);
+            }
         }
+    }
+
+    // Puts the bytes of the SECS of an enclave.
+    fn put_secs(&self, enclave: u16, onto: &mut Vec<u8>)
+        requires made { is_some ((state_of self.now).enclaves enclave) ≡ true }
+        requires room { HasRoom 4096 onto.old }
+        requires empty { onto.old.items ≡ [] }
+        ensures bytes { HasSecsBytes (state_of self.now) enclave onto.new.items }
+        ensures page { length onto.new.items ≡ 4096 }
+    {
+        let secs = self.secs.get(enclave).unwrap();
+        let digest = self.digest(enclave, secs.is_init());
+        put_secs(secs.base(), secs.size(), &digest, onto);
+    }
+
+    // The digest of an enclave's measurement where it is initialised, zeros before.
+    fn digest(&self, enclave: u16, is_init: bool) -> [u8; 32]
+        requires { is_some ((state_of self.now).enclaves enclave) ≡ true }
+        ensures { IsDigest is_init ((state_of self.now).measure enclave) result }
+    {
+        if !is_init {
+            return [0; 32];
+        }
+        self.measures[usize::from(enclave)]
+            .as_ref()
+            .unwrap()
+            .finish()
     }
 
     // The sealed work of the started EWB of a frame.
@@ -193,7 +256,8 @@ impl Machine {
         seal(anew)
     }
 
-    // Whether a work is that of the started EWB of a frame.
+    // Whether a work is that of the started EWB of a frame. What was sealed of a SECS or of a version array page is always sealed anew: its
+    // bytes stand nowhere to be compared.
     fn is_sealed(&self, frame: Frame, work: &SealedWork) -> bool
         requires { (state_of self.now).is_sealing frame.0 ≡ true }
         ensures { result ≡ true → SealsPage (state_of self.now) frame.0 work.now.key work.now.version work.now.rec.header
@@ -209,6 +273,12 @@ impl Machine {
             return false;
         }
         if work.rec.header != header {
+            return false;
+        }
+        let EntryView::Valid { kind, .. } = self.epc.entry(frame) else {
+            unreachable!();
+        };
+        if !is_own(kind) {
             return false;
         }
         work.plain.as_slice() == self.epc.bytes(frame).as_slice()
@@ -236,4 +306,11 @@ impl Machine {
         self.unseal_input(frame, &mut anew);
         unseal(anew)
     }
+}
+
+// A TCS or a REG page.
+fn is_own(kind: Kind) -> bool
+    ensures { result ≡ is_kind_own kind }
+{
+    matches!(kind, Kind::Tcs | Kind::Reg)
 }

@@ -3,6 +3,7 @@
 
 mod access;
 mod apply;
+mod arrays;
 mod build;
 mod commits;
 mod entry;

@@ -3,14 +3,14 @@
 ghost use Rattle.std.specs.Prelude.{◌≡◌, ◌<◌, ◌≤◌, ◌^◌, ◌%◌, ◌/◌, count_by, length, is_some, nat_le, true};
 ghost use Rattle.std.specs.Option.{option_map};
 ghost use Rattle.sgx_types.specs.Pages.{page_at};
-ghost use Rattle.sgx_rules.specs.Frames.{least_free};
-ghost use Rattle.sgx_rules.specs.Table.{allows, is_lawful_access, is_loading, is_ready};
+ghost use Rattle.sgx_rules.specs.Frames.{children, least_free};
+ghost use Rattle.sgx_rules.specs.Table.{allows, is_lawful_access, is_loading, is_ready, is_va};
 ghost use Rattle.sgx_rules.specs.Flat.{enclave_sight_of};
 ghost use Rattle.epcm_entry.specs.inner.Epc.{is_free_frame};
 ghost use Rattle.cached_translations.specs.inner.Translations.{translation_of};
 ghost use Rattle.paging_machine.specs.inner.Parts.{state_of, cpu_at, tcs_of};
 ghost use Rattle.paging_laws.specs.inner.Stands.{IsSound};
-ghost use Rattle.paging_laws.specs.inner.State.{number_noting};
+ghost use Rattle.paging_laws.specs.inner.State.{is_in_use, number_noting};
 
 use crate::starts::Start;
 use cached_translations::processor::{Mode, Processor};
@@ -140,6 +140,26 @@ impl Machine {
         ensures { result ≡ is_loading ((state_of self.now).content frame.0) }
     {
         frame.0 < self.frames() && matches!(self.epc.entry(frame), EntryView::Loading { .. })
+    }
+
+    /// How many frames hold TCS and REG pages of an enclave, from 1 to 8, or wait for one. None does before it is created.
+    pub fn children(&self, enclave: u16) -> u32
+        requires first { 1 ≤ enclave }
+        requires last { enclave ≤ 8 }
+        ensures { result ≡ children (state_of self.now).frames (state_of self.now).content enclave }
+    {
+        match self.secs.get(enclave) {
+            Some(secs) => secs.children(),
+            None => 0,
+        }
+    }
+
+    /// Whether an open start names a slot of the version array page in a frame.
+    pub fn any_busy(&self, frame: Frame) -> bool
+        requires { is_va ((state_of self.now).content frame.0) ≡ true }
+        ensures { result ≡ is_in_use (state_of self.now) frame.0 }
+    {
+        self.va.any_busy(frame)
     }
 
     /// The fields of the TCS page in a frame, None exactly where the frame holds no TCS.

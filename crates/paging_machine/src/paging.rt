@@ -3,17 +3,20 @@
 ghost use Rattle.std.specs.Prelude.{◌≡◌, length};
 ghost use Rattle.sgx_rules.specs.declared.entries.Action.TheVariants as actions;
 ghost use Rattle.paging_machine.specs.inner.Parts.{state_of};
-ghost use Rattle.paging_laws.specs.inner.Steps.{IsStep};
+ghost use Rattle.paging_laws.specs.inner.State.{slot_of_found};
+ghost use Rattle.paging_laws.specs.inner.Steps.{CanMove, IsStep};
+ghost use Rattle.sgx_rules.specs.Starts.{slot_in};
 
 use crate::apply::{done, refused};
 use crate::machine::Machine;
 use crate::starts::Start;
+use epcm_entry::entry_view::EntryView;
 use evict_reload::block::eblock;
 use evict_reload::reload::eld_start;
 use evict_reload::track::etrack;
 use evict_reload::write_out::ewb_start;
 use sgx_rules::entries::{Action, Answer, Entry};
-use sgx_types::names::{Actor, Frame, Page, SlotAt};
+use sgx_types::names::{Actor, Frame, Kind, Page, SlotAt, VaSlot};
 
 // The order of these is what keeps a translation of a page from outliving it: after the block no new one is taken, the
 // track tells the processors that entered before it from those that enter later, and the start waits for the former.
@@ -38,7 +41,7 @@ impl Machine {
         ensures cpus { length self.new.cpus ≡ length self.old.cpus }
     {
         let action = Action::Track { enclave };
-        match etrack(&mut self.tracks, &self.secs, enclave) {
+        match etrack(&self.epc, &mut self.tracks, &self.secs, enclave) {
             Ok(_epoch) => done(actor, action, Answer::Plain),
             Err(refusal) => refused(actor, action, refusal),
         }
@@ -51,8 +54,10 @@ impl Machine {
         ensures cpus { length self.new.cpus ≡ length self.old.cpus }
     {
         let action = Action::EwbStart { frame, slot };
+        let found = self.found(slot);
         match ewb_start(
             &mut self.epc,
+            &self.secs,
             &self.tracks,
             &mut self.va,
             &mut self.versions,
@@ -61,7 +66,8 @@ impl Machine {
         ) {
             Ok(version) => {
                 self.starts[frame.0 as usize] = Some(Start {
-                    slot,
+                    at: slot,
+                    slot: found,
                     version,
                     loads: None,
                 });
@@ -71,7 +77,8 @@ impl Machine {
         }
     }
 
-    /// A free frame starts to load the page whose version is in a slot (ELDU).
+    /// A free frame starts to load the page whose version is in a slot (ELDU). A version array page that is loaded is in no frame, and
+    /// none waits for it.
     #[inline(never)]
     pub(crate) fn eld_start(
         &mut self,
@@ -80,14 +87,24 @@ impl Machine {
         page: Page,
         slot: SlotAt,
     ) -> Entry
+        requires { CanMove (state_of self.old) (actions.EldStart frame page slot) }
         ensures step { IsStep (state_of self.old) actor (actions.EldStart frame page slot) result (state_of self.new) }
         ensures cpus { length self.new.cpus ≡ length self.old.cpus }
     {
         let action = Action::EldStart { frame, page, slot };
-        match eld_start(&mut self.epc, &self.secs, &mut self.va, frame, page, slot) {
+        let found = self.found(slot);
+        match eld_start(
+            &mut self.epc,
+            &mut self.secs,
+            &mut self.va,
+            frame,
+            page,
+            slot,
+        ) {
             Ok(version) => {
                 self.starts[frame.0 as usize] = Some(Start {
-                    slot,
+                    at: slot,
+                    slot: found,
                     version,
                     loads: Some(page),
                 });
@@ -95,5 +112,25 @@ impl Machine {
             }
             Err(refusal) => refused(actor, action, refusal),
         }
+    }
+
+    // The slot of an index in the version array page that a frame holds; where it holds none, the first one of the first.
+    fn found(&self, at: SlotAt) -> VaSlot
+        ensures { result ≡ slot_of_found (slot_in ((state_of self.now).content at.frame.0) at.index) }
+    {
+        if at.frame.0 < self.frames() {
+            if let EntryView::Valid {
+                page,
+                kind: Kind::Va,
+                ..
+            } = self.epc.entry(at.frame)
+            {
+                return VaSlot {
+                    va: page.number,
+                    index: at.index,
+                };
+            }
+        }
+        VaSlot { va: 0, index: 0 }
     }
 }

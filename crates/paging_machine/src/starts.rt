@@ -1,12 +1,13 @@
 //! An open start of a write-out or a load.
 
-use sgx_types::names::{Page, SlotAt};
+use sgx_types::names::{Page, SlotAt, VaSlot};
 
-/// A start of EWB or ELDU that has not ended: the slot that it named, the version that EWB drew or ELDU found there, and the
-/// page that ELDU loads. EWB takes the page in its frame.
+/// A start of EWB or ELDU that has not ended: where it found its slot and which that is, the version that EWB drew or ELDU found
+/// there, and the page that ELDU loads. EWB takes what its frame holds.
 #[derive(Clone, Copy)]
 pub struct Start {
-    pub slot: SlotAt,
+    pub at: SlotAt,
+    pub slot: VaSlot,
     pub version: u64,
     pub loads: Option<Page>,
 }

@@ -3,5 +3,6 @@
 mod enclaves;
 mod frames;
 mod logs;
+mod pages;
 mod seals;
 mod slots;

@@ -11,7 +11,7 @@ use Rattle.sgx_types.specs.declared.names.SlotAt.{SlotAt}
 use Rattle.sgx_rules.specs.declared.refusals.Refusal.{Refusal}
 use Rattle.sgx_rules.specs.declared.refusals.Refusal.TheVariants as why
 use Rattle.sgx_rules.specs.Epochs.{epoch}
-use Rattle.driver_laws.specs.inner.Kinds.{is_quiet}
+use Rattle.driver_laws.specs.inner.Kinds.{IsFoundAt, is_quiet}
 use Rattle.driver_rules.specs.Passes as passes
 use Rattle.reclaim_worker.specs.declared.turns.Form as forms_of
 use Rattle.sgx_rules.specs.declared.entries.Answer.TheVariants as answers
@@ -28,9 +28,9 @@ use Rattle.driver_rules.specs.Ages.{head_of}
 use Rattle.driver_rules.specs.Passes.{Third, decided, free_count, keepers, kicks_on, pass, pass_after, Blocking, First}
 use Rattle.driver_rules.specs.Passes.{Sealing, Second, ToKick, ToTrack, Tries, block_on, next_tries, scan_on, taken_by}
 use Rattle.driver_rules.specs.Places.{Here, Leaving, active, place}
-use Rattle.sgx_rules.specs.Starts.{open_start}
-use Rattle.driver_laws.specs.inner.Sound.{slot_at, slot_of, IsSound, is_absent}
+use Rattle.driver_laws.specs.inner.Sound.{slot_of, IsSound, is_absent}
 use Rattle.driver_laws.proofs.MoveLaws.{place-quiet, place-taken}
+use Rattle.driver_laws.proofs.SlotMoves.{slot_started}
 use Rattle.driver_laws.proofs.SoundLaws.{head_here}
 use Rattle.sgx_types.specs.declared.names.Actor.TheVariants as actors
 use Rattle.driver_tables.specs.declared.driver.Driver.{Driver}
@@ -208,11 +208,11 @@ module _ (first : ℕ) (j : JobView) (past : List Entry) (taken : List Taken) (n
       → StandsFor first h taken (phases.Tries next form block) (Tries one.page (pages_in rest) to)
   stands h form block to fits at = (record { one = one; rest = rest; due = is; to = to; fits = fits; same = refl }, at)
 
-  -- a start, which names the slot
-  pub started_after : (to : passes.Form) (slot : SlotAt) (answer : Answer)
+  -- a start, which names the slot that it found
+  pub started_after : (to : passes.Form) (slot : SlotAt) (answer : Answer) → IsFoundAt past slot
       → StandsFor first (by_reclaimer (Did (EwbStart one.frame slot) answer) ∷ past) taken (phases.Sealing next slot)
       (Tries one.page (pages_in rest) Sealing)
-  started_after to slot answer = (
+  started_after to slot answer found = (
     record {
       one = one;
       rest = rest;
@@ -228,8 +228,7 @@ module _ (first : ℕ) (j : JobView) (past : List Entry) (taken : List Taken) (n
       at = (subst (AreInFrames past) is frames).0
 
       named : slot_of (by_reclaimer (Did (EwbStart one.frame slot) answer) ∷ past) one.page ≡ Some slot
-      named = ap (slot_at (open_start (by_reclaimer (Did (EwbStart one.frame slot) answer) ∷ past))) at
-          ∙ rw (eq-eqb one.frame.0 one.frame.0 refl) refl
+      named = slot_started past actors.Reclaimer one.frame slot answer one.page at found
 
   -- the first refusal, which tells the enclave's epoch
   pub refused_after : (slot : SlotAt) (e o : ℕ) → e ≡ epoch first past one.page.enclave

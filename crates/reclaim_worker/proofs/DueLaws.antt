@@ -45,6 +45,7 @@ use Rattle.reclaim_worker.specs.inner.Tried.{count_from, is_kept_by}
 use Rattle.reclaim_worker.specs.inner.Turning.{IsFormTurn, IsThirdTurn, TurnSays, WithPage}
 use Rattle.reclaim_worker.proofs.KeepLaws.{bits_are, count_is}
 use Rattle.reclaim_worker.proofs.MoveDueLaws.{block_is_due, track_is_due, try_is_due}
+use Rattle.reclaim_worker.proofs.RowLaws.{fits_now}
 use Rattle.reclaim_worker.proofs.ScanLaws.{begin_is_due, scan_is_due}
 
 -- ---- free frames
@@ -122,7 +123,7 @@ module _ (made : Making) (j : JobView) (past : List Entry) (taken taken' : List 
       → IsTryTurn next form block one (state_of m) d turn phase' d' (state_of m')
       → IsTurn made past d.slots (leaving_due past one.page TriesOut) turn
   tries next form block one h making r at w k = try_is_due made j past m
-      (state_of m') next form block one d d' turn phase' making h r.follows.shape.slot_busy r.sound r.pages.sealing
+      (state_of m') next form block one d d' turn phase' making h r.follows.shape.slots_busy r.sound r.pages.sealing
       r.shows.tables.slots at w k
 
   -- the last one, or its wait
@@ -142,7 +143,7 @@ module _ (made : Making) (j : JobView) (past : List Entry) (taken taken' : List 
 
       by_keepers : (ps : List ℕ) → keepers past one.page ≡ ps → IsTurn made past d.slots (third_due past one.page ps) turn
       by_keepers [] is = try_is_due made j past m (state_of m') next forms.Third block one d d' turn phase' r.follows.shape.making
-          r.follows.shape.columns r.follows.shape.slot_busy r.sound r.pages.sealing r.shows.tables.slots at w
+          r.follows.shape.columns r.follows.shape.slots_busy r.sound r.pages.sealing r.shows.tables.slots at w
           (k.tried (count ∙ ap length is))
       by_keepers (p ∷ ps) is =
           let some : count_from (λ q. is_kept_by (cpu_at m q).mode one.page.enclave block) 0 d.cpus ≡ length (p ∷ ps) =
@@ -166,7 +167,7 @@ module _ (made : Making) (j : JobView) (past : List Entry) (taken taken' : List 
       let untracked : IsUntracked past one.page = subst (λ f. KeepsTracks past (Tries one.page rest f)) is.0 tracks in
       subst (λ f. IsTurn made past d.slots (form_due past one.page false f) turn) (sym is.0)
       (track_is_due made past m (state_of m') next block one d turn phase' r.follows.shape.making r.follows.shape.columns r.sound
-      (untracked.calm one.page.enclave) at k)
+      r.pages.sealing (fits_now made (state_of m) past r.follows) (untracked.calm one.page.enclave) at k)
   form_is_due next forms.Kick block one rest to r at has tracks is k =
       let tracked : IsTracked past one.page = subst (λ f. KeepsTracks past (Tries one.page rest f)) is.0 tracks in
       let first : made.first_epoch ≡ (state_of m).first_epoch = ap (λ (x : Making). x.first_epoch) (sym r.follows.shape.making) in

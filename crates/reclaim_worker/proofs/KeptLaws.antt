@@ -50,6 +50,7 @@ use Rattle.reclaim_worker.specs.inner.Turning.{TurnSays}
 use Rattle.driver_tables.specs.declared.driver.Driver.{Driver}
 use Rattle.paging_machine.specs.inner.Parts.{Parts}
 use Rattle.reclaim_worker.proofs.DueLaws.{turn_is_due}
+use Rattle.reclaim_worker.proofs.FoundLaws.{StartsFound, turn_found}
 use Rattle.reclaim_worker.proofs.MoveDueLaws.{block_of}
 use Rattle.driver_laws.specs.inner.Stages.{HasPages, IsTaken}
 
@@ -84,39 +85,44 @@ module _ (made : Making) (j : JobView) (past : List Entry) (slots : Keeper) (tur
       by_place (Loading f slot) is l = subst (TurnKeeps j past (Blocking (g ∷ gs) taken)) (sym l) tt
       by_place (Away slot) is l = subst (TurnKeeps j past (Blocking (g ∷ gs) taken)) (sym l) tt
 
+  -- a try, by whether the page is drained and the last version was drawn
+  abbrev try_by : ℕ → SlotAt → Bool → Bool → PassTurn
+  try_by f slot drained spent =
+      if drained
+      then (if spent then turns.Spent (by_reclaimer (Refused (EwbStart (frame_at f) slot) why.VersionSpent))
+      else turns.Seal (by_reclaimer (Did (EwbStart (frame_at f) slot) (answers.Version (next_version made.first_version past)))))
+      else turns.One
+      (by_reclaimer (Refused (EwbStart (frame_at f) slot) (why.NotTracked (epoch_in made.first_epoch past f) (kept_back past f))))
+
   -- a try, where each answer of it is allowed
-  try_keeps : (g : Page) (rest : List Page) (form : Form) → ShowsSlots j slots past → IsTaken past true g
+  try_keeps : (g : Page) (rest : List Page) (form : Form) → ShowsSlots j slots past → StartsFound past turn → IsTaken past true g
       → ((f : Frame) (slot : SlotAt) (answer : Answer) → ages.InForm past g form (Did (EwbStart f slot) answer))
       → ((f : Frame) (slot : SlotAt) → ages.InForm past g form (Refused (EwbStart f slot) why.VersionSpent))
       → ((n : ℕ) (f : Frame) (slot : SlotAt) (e o : ℕ) → place past g ≡ Leaving n → is_drained past n ≡ false
       → ages.InForm past g form (Refused (EwbStart f slot) (why.NotTracked e o)))
       → IsTurn made past slots (leaving_due past g TriesOut) turn → TurnKeeps j past (Tries g rest form) turn
-  try_keeps g rest form shows w did spent again k = by_place (place past g) refl k
+  try_keeps g rest form shows starts w did spent again k = by_place (place past g) refl k
     where
       told : (f : ℕ) (slot : SlotAt) → place past g ≡ Leaving f → ((h : Page) → slot_of past h ≡ Some slot → ⊥)
-          → TurnKeeps j past (Tries g rest form) (try_turn made past f slot)
-      told f slot at free = by_drain (is_drained past f) refl (next_version made.first_version past == 2 ^ 64)
+          → StartsFound past (try_turn made past f slot) → TurnKeeps j past (Tries g rest form) (try_turn made past f slot)
+      told f slot at free found = by_drain (is_drained past f) refl (next_version made.first_version past == 2 ^ 64) found
         where
           same : is_blocked past f ≡ true
           same = let both : Leaving w.frame ≡ Leaving f = sym w.leaving ∙ at in let one : w.frame ≡ f =
               cc in subst (λ n. is_blocked past n ≡ true) one w.block
 
-          by_drain : (b : Bool) → is_drained past f ≡ b → (v : Bool)
-              → TurnKeeps j past (Tries g rest form) (if b
-              then (if v then turns.Spent (by_reclaimer (Refused (EwbStart (frame_at f) slot) why.VersionSpent)) else turns.Seal
-              (by_reclaimer (Did (EwbStart (frame_at f) slot) (answers.Version (next_version made.first_version past)))))
-              else turns.One (by_reclaimer (Refused (EwbStart (frame_at f) slot)
-              (why.NotTracked (epoch_in made.first_epoch past f) (kept_back past f)))))
-          by_drain true is true = record { look = tt; in_pass = at; form = spent (frame_at f) slot; can = tt; tells = tt }
-          by_drain true is false = record {
+          by_drain : (b : Bool) → is_drained past f ≡ b → (v : Bool) → StartsFound past (try_by f slot b v)
+              → TurnKeeps j past (Tries g rest form) (try_by f slot b v)
+          by_drain true is true here = record { look = tt; in_pass = at; form = spent (frame_at f) slot; can = tt; tells = tt }
+          by_drain true is false here = record {
             look = tt;
             in_pass = at;
             form =
                 did (frame_at f) slot (answers.Version (next_version made.first_version past));
-            can = ((g, at), free);
-            tells = is;
+            can = ((g, at), free, here);
+            tells = λ own. is;
           }
-          by_drain false is v = record {
+          by_drain false is v here = record {
             look = tt;
             in_pass = at;
             form =
@@ -128,7 +134,7 @@ module _ (made : Making) (j : JobView) (past : List Entry) (slots : Keeper) (tur
       by_place : (p : Place) → place past g ≡ p → IsTurn made past slots (in_frame g (frame_leaving p) TriesOut) turn
           → TurnKeeps j past (Tries g rest form) turn
       by_place (Leaving f) is (inl l) = subst (TurnKeeps j past (Tries g rest form)) (sym l.told)
-          (told f l.slot is (kept_is_free j slots past l.slot shows l.free))
+          (told f l.slot is (kept_is_free j slots past l.slot shows l.free) (subst (StartsFound past) l.told starts))
       by_place (Leaving f) is (inr l) = subst (TurnKeeps j past (Tries g rest form)) (sym l.1) tt
       by_place Absent is l = subst (TurnKeeps j past (Tries g rest form)) (sym l) tt
       by_place (Here f) is l = subst (TurnKeeps j past (Tries g rest form)) (sym l) tt
@@ -153,16 +159,17 @@ module _ (made : Making) (j : JobView) (past : List Entry) (slots : Keeper) (tur
       let same : t.frame ≡ n = cc in
       false≢true (sym not_drained ∙ subst (λ m. is_drained past m ≡ true) same (drained_then past g t s none))
 
-  third_keeps : (g : Page) (rest : List Page) (form : Form) → ShowsSlots j slots past → IsSound past → IsTracked past g
+  third_keeps : (g : Page) (rest : List Page) (form : Form) → ShowsSlots j slots past → StartsFound past turn → IsSound past
+      → IsTracked past g
       → IsTaken past true g → (keepers past g ≡ [] → (f : Frame) (slot : SlotAt) (answer : Answer)
       → ages.InForm past g form (Did (EwbStart f slot) answer))
       → (keepers past g ≡ [] → (f : Frame) (slot : SlotAt) → ages.InForm past g form (Refused (EwbStart f slot) why.VersionSpent))
       → IsTurn made past slots (third_due past g (keepers past g)) turn → TurnKeeps j past (Tries g rest form) turn
-  third_keeps g rest form shows s t w did spent k = by_keepers (keepers past g) refl k
+  third_keeps g rest form shows starts s t w did spent k = by_keepers (keepers past g) refl k
     where
       by_keepers : (ps : List ℕ) → keepers past g ≡ ps → IsTurn made past slots (third_due past g ps) turn
           → TurnKeeps j past (Tries g rest form) turn
-      by_keepers [] is l = try_keeps g rest form shows w (did is) (spent is)
+      by_keepers [] is l = try_keeps g rest form shows starts w (did is) (spent is)
           (λ n f slot e o at not_drained. absurd (never g n s t is at not_drained)) l
       by_keepers (p ∷ ps) is l = subst (TurnKeeps j past (Tries g rest form)) (sym l) tt
 
@@ -176,36 +183,37 @@ module _ (made : Making) (j : JobView) (past : List Entry) (slots : Keeper) (tur
       by_place None l = subst (TurnKeeps j past (Tries g rest Sealing)) (sym l) tt
       by_place (Some f) l = absurd l
 
-  pub due_keeps : (p : Pass) (kicked : Bool) → ShowsSlots j slots past → IsSound past → KeepsTracks past p → HasPages past p
-      → IsTurn made past slots (pass_due j past kicked p) turn → TurnKeeps j past p turn
-  due_keeps (Between false) kicked shows s tracks has k = subst (TurnKeeps j past (Between false)) (sym k) tt
-  due_keeps (Between true) kicked shows s tracks has k = by_held (are_held j past) k
+  pub due_keeps : (p : Pass) (kicked : Bool) → ShowsSlots j slots past → StartsFound past turn → IsSound past → KeepsTracks past p
+      → HasPages past p → IsTurn made past slots (pass_due j past kicked p) turn → TurnKeeps j past p turn
+  due_keeps (Between false) kicked shows starts s tracks has k = subst (TurnKeeps j past (Between false)) (sym k) tt
+  due_keeps (Between true) kicked shows starts s tracks has k = by_held (are_held j past) k
     where
       by_held : (b : Bool) → IsTurn made past slots (if b then dues.Waits waits.AllHeld else look_due j past) turn
           → TurnKeeps j past (Between true) turn
       by_held true l = subst (TurnKeeps j past (Between true)) (sym l) tt
       by_held false l = look_keeps (Between true) (λ g ev. refl) (λ g ev. tt) l
-  due_keeps (Scan left taken) kicked shows s tracks has k = look_keeps (Scan left taken) (λ g ev. tt) (λ g ev. tt) k
-  due_keeps (Blocking [] taken) kicked shows s tracks has k = absurd k
-  due_keeps (Blocking (g ∷ gs) taken) kicked shows s tracks has k = block_keeps g gs taken k
-  due_keeps (Tries g rest First) kicked shows s tracks has k = try_keeps g rest First shows has.page (λ f slot a. tt) (λ f slot. tt)
-      (λ n f slot e o at d. tt) k
-  due_keeps (Tries g rest Second) kicked shows s tracks has k = try_keeps g rest Second shows has.page (λ f slot a. tt) (λ f slot. tt)
-      (λ n f slot e o at d. tt) k
-  due_keeps (Tries g rest ToTrack) kicked shows s tracks has k = track_keeps g rest k
-  due_keeps (Tries g rest ToKick) false shows s tracks has k = subst (TurnKeeps j past (Tries g rest ToKick)) (sym k) tt
-  due_keeps (Tries g rest ToKick) true shows s tracks has k = third_keeps g rest ToKick shows s tracks has.page
+  due_keeps (Scan left taken) kicked shows starts s tracks has k = look_keeps (Scan left taken) (λ g ev. tt) (λ g ev. tt) k
+  due_keeps (Blocking [] taken) kicked shows starts s tracks has k = absurd k
+  due_keeps (Blocking (g ∷ gs) taken) kicked shows starts s tracks has k = block_keeps g gs taken k
+  due_keeps (Tries g rest First) kicked shows starts s tracks has k =
+      try_keeps g rest First shows starts has.page (λ f slot a. tt) (λ f slot. tt) (λ n f slot e o at d. tt) k
+  due_keeps (Tries g rest Second) kicked shows starts s tracks has k =
+      try_keeps g rest Second shows starts has.page (λ f slot a. tt) (λ f slot. tt) (λ n f slot e o at d. tt) k
+  due_keeps (Tries g rest ToTrack) kicked shows starts s tracks has k = track_keeps g rest k
+  due_keeps (Tries g rest ToKick) false shows starts s tracks has k = subst (TurnKeeps j past (Tries g rest ToKick)) (sym k) tt
+  due_keeps (Tries g rest ToKick) true shows starts s tracks has k = third_keeps g rest ToKick shows starts s tracks has.page
       (λ is f slot a. subst (λ ps. ages.IsKickOrTry ps (Did (EwbStart f slot) a)) (sym is) tt)
       (λ is f slot. subst (λ ps. ages.IsKickOrTry ps (Refused (EwbStart f slot) why.VersionSpent)) (sym is) tt) k
-  due_keeps (Tries g rest Third) kicked shows s tracks has k = third_keeps g rest Third shows s tracks has.page (λ is f slot a. tt)
-      (λ is f slot. tt) k
-  due_keeps (Tries g rest (Kicks ps)) kicked shows s tracks has k = subst (TurnKeeps j past (Tries g rest (Kicks ps))) (sym k) tt
-  due_keeps (Tries g rest Sealing) kicked shows s tracks has k = sealing_keeps g rest k
+  due_keeps (Tries g rest Third) kicked shows starts s tracks has k =
+      third_keeps g rest Third shows starts s tracks has.page (λ is f slot a. tt) (λ is f slot. tt) k
+  due_keeps (Tries g rest (Kicks ps)) kicked shows starts s tracks has k = subst (TurnKeeps j past (Tries g rest (Kicks ps))) (sym k) tt
+  due_keeps (Tries g rest Sealing) kicked shows starts s tracks has k = sealing_keeps g rest k
 
 -- .. so the entry of a turn keeps them
 pub turn_keeps_rules : (made : Making) (j : JobView) (past : List Entry) (taken taken' : List Taken) (phase phase' : Phase) (d d' : Driver)
     (m m' : Parts) (turn : PassTurn) → Ready made j past taken phase d m → TurnSays taken phase d m turn taken' phase' d' m'
     → TurnKeeps j past (pass j past) turn
 turn_keeps_rules made j past taken taken' phase phase' d d' m m' turn r says =
-    due_keeps made j past d.slots turn (pass j past) (is_kicked phase) r.shows.tables.slots r.sound r.tracks r.pages.pages
+    due_keeps made j past d.slots turn (pass j past) (is_kicked phase) r.shows.tables.slots
+    (turn_found j past taken taken' d d' m m' turn phase' r.shows.tables.slots phase says) r.sound r.tracks r.pages.pages
     (turn_is_due made j past taken taken' d d' m m' turn phase' phase r says)

@@ -1,6 +1,7 @@
 pub mod TriedLaws
 pub mod ScanLaws
 pub mod RowLaws
+pub mod FoundLaws
 pub mod MoveDueLaws
 pub mod KeepLaws
 pub mod DueLaws

@@ -17,6 +17,7 @@ use Rattle.sgx_rules.specs.declared.refusals.Refusal.TheVariants as why
 use Rattle.sgx_rules.specs.Epochs.{epoch, epoch_in}
 use Rattle.sgx_rules.specs.Eviction.{is_drained, kept_back}
 use Rattle.sgx_rules.specs.Frames.{is_blocked, is_sealing}
+use Rattle.sgx_rules.specs.Rules.{Along, FitsRule}
 use Rattle.sgx_rules.specs.Slots.{next_version}
 use Rattle.sgx_rules.specs.Starts.{open_start}
 use Rattle.sgx_rules.specs.Table.{first_of_row}
@@ -24,16 +25,17 @@ use Rattle.sgx_rules.specs.Sights.{drain_sight_at}
 use Rattle.sgx_types.specs.declared.names.TheConstants.{LAST_EPOCH}
 use Rattle.job_grammar.specs.Jobs.{JobView}
 use Rattle.paging_machine.specs.inner.Parts.{Parts, state_of}
-use Rattle.paging_laws.specs.inner.Columns.{HasColumns}
+use Rattle.paging_laws.specs.inner.Columns.{HasBusy, HasColumns}
 use Rattle.sgx_types.specs.Making.{Making}
 use Rattle.paging_laws.specs.inner.State.{making_of}
-use Rattle.paging_laws.specs.inner.State.{State, is_version_spent, row_of, sight, slot_sight, drain_sight, track_sight}
+use Rattle.paging_laws.specs.inner.State.{State, is_version_spent, row_of, sight, slot_sight, drain_sight, track_sight, use_sight}
 use Rattle.paging_laws.specs.inner.Steps.{IsDone, IsStep, refused_by}
 use Rattle.paging_laws.proofs.ShapeLaws.{older_agrees}
 use Rattle.driver_laws.specs.inner.Agrees.{ShowsSlots}
 use Rattle.driver_rules.specs.Places.{Leaving, place}
 use Rattle.driver_laws.specs.inner.Sound.{IsSound, is_absent, is_write_start}
 use Rattle.driver_laws.specs.inner.Tracks.{IsCalm}
+use Rattle.driver_laws.specs.inner.Used.{SealingAreOpen}
 use Rattle.driver_laws.proofs.EpochLaws.{none_older}
 use Rattle.driver_tables.specs.declared.driver.Driver.{Driver}
 use Rattle.reclaim_worker.specs.declared.turns.Form.{Form}
@@ -47,9 +49,9 @@ use Rattle.driver_rules.specs.inner.Reclaims.{leaving_due}
 use Rattle.reclaim_worker.specs.inner.Moves.{IsBlockTurn, IsTrackTurn, IsTryTurn, turn_of, turn_of_track}
 use Rattle.driver_laws.specs.inner.Stages.{IsTaken}
 use Rattle.reclaim_worker.specs.inner.Tried.{IsTried}
-use Rattle.reclaim_worker.proofs.RowLaws.{KeepsBusy, SeesPage, block_allowed, blocked_same, drain_sees, sees_page, sees_slot}
+use Rattle.reclaim_worker.proofs.RowLaws.{SeesPage, SeesSlot, block_allowed, blocked_same, drain_sees, sees_page, sees_secs, sees_slot}
 use Rattle.driver_steps.proofs.PartLaws.{seen_made, added_created}
-use Rattle.reclaim_worker.proofs.RowLaws.{track_allowed, try_refusal, try_row}
+use Rattle.reclaim_worker.proofs.RowLaws.{sees_use, track_allowed, try_refusal, try_row}
 
 -- ---- a step by what its row says
 
@@ -134,7 +136,7 @@ try_told s t past one slot e h step row = by_drain (is_drained past one.frame.0)
 
 pub try_is_due : (made : Making) (j : JobView) (past : List Entry) (d : Parts) (t : State) (next : ℕ) (form : Form) (block : ℕ)
     (one : Taken) (old new : Driver) (turn : PassTurn) (phase : Phase) → making_of (state_of d) ≡ made → HasColumns (state_of d) past
-    → KeepsBusy (state_of d) past
+    → HasBusy (state_of d) past
     → IsSound past → ((n : ℕ) → is_sealing past n ≡ is_write_start (open_start past n)) → ShowsSlots j old.slots past
     → place past one.page ≡ Leaving one.frame.0 → IsTaken past true one.page
     → IsTryTurn next form block one (state_of d) old turn phase new t
@@ -157,11 +159,15 @@ try_is_due made j past d t next form block one old new turn phase making h busy 
     sees : SeesPage (sight (state_of d) one.frame.0)
     sees = sees_page d past one.page one.frame.0 h s at (not_sealing past one.frame.0 sealing there.start)
 
+    seen : SeesSlot (slot_sight (state_of d) k.tried.slot)
+    seen = sees_slot d j past old.slots k.tried.slot h busy s sealing slots k.tried.ours k.tried.free
+
     row : first_of_row (row_of (state_of d) actors.Reclaimer (EwbStart one.frame k.tried.slot)) ≡ try_refusal
         (drain_sight_at (state_of d).first_epoch past one.frame.0) (next_version (state_of d).first_version past == 2 ^ 64)
-    row = try_row (sight (state_of d) one.frame.0) (slot_sight (state_of d) k.tried.slot) (drain_sight (state_of d) one.frame.0)
+    row = try_row (sight (state_of d) one.frame.0) (use_sight (state_of d) one.frame.0 k.tried.slot)
+        (slot_sight (state_of d) k.tried.slot) (drain_sight (state_of d) one.frame.0)
         (is_version_spent (state_of d)) sees (blocked_same (state_of d) past one.frame.0 h ∙ there.block)
-        (sees_slot d j past old.slots k.tried.slot h (busy k.tried.slot) slots k.tried.ours k.tried.free)
+        (sees_use (state_of d) past one.page one.frame.0 k.tried.slot h s at seen.array) seen
         ∙ ap (λ x. try_refusal x (is_version_spent (state_of d))) (drain_sees (state_of d) past h one.frame.0)
         ∙ ap (λ (v : ℕ). try_refusal (drain_sight_at (state_of d).first_epoch past one.frame.0) (v == 2 ^ 64)) (next_version_is h)
 
@@ -181,20 +187,25 @@ track_told s t past enclave e h step row = by_epoch (epoch s.first_epoch past en
 
 pub track_is_due : (made : Making) (past : List Entry) (d : Parts) (t : State) (next block : ℕ) (one : Taken) (old : Driver)
     (turn : PassTurn) (phase : Phase) → making_of (state_of d) ≡ made → HasColumns (state_of d) past
-    → IsSound past → IsCalm past one.page.enclave → place past one.page ≡ Leaving one.frame.0
+    → IsSound past → SealingAreOpen past → Along (FitsRule (state_of d).frames) past → IsCalm past one.page.enclave
+    → place past one.page ≡ Leaving one.frame.0
     → IsTrackTurn next block one.page.enclave (state_of d) turn phase t
     → IsTurn made past old.slots (Makes (Track one.page.enclave)) turn
-track_is_due made past d t next block one old turn phase making h s calm at k =
+track_is_due made past d t next block one old turn phase making h s sealing fits calm at k =
     k.told ∙ track_told (state_of d) t past one.page.enclave k.entry h k.step row
     ∙ ap (λ (m : Making). track_turn m.first_epoch past one.page.enclave) making
   where
     there : is_some ((state_of d).added one.page) ≡ true
     there = ap is_some (added_is h one.page) ∙ s.added one.page ∙ ap (λ p. not (is_absent p)) at
 
+    made_there : is_some ((state_of d).enclaves one.page.enclave) ≡ true
+    made_there = added_created d one.page there
+
     row : first_of_row (row_of (state_of d) actors.Reclaimer (Track one.page.enclave)) ≡
         (if epoch (state_of d).first_epoch past one.page.enclave == LAST_EPOCH then Some why.EpochSpent else None)
-    row = track_allowed (track_sight (state_of d) one.page.enclave) (seen_made ((state_of d).enclaves one.page.enclave)
-        (added_created d one.page there)) (older_agrees (state_of d) past h one.page.enclave ∙ none_older past one.page.enclave calm)
+    row = track_allowed (track_sight (state_of d) one.page.enclave) (seen_made ((state_of d).enclaves one.page.enclave) made_there)
+        (sees_secs (state_of d) past one.page.enclave h s sealing fits made_there)
+        (older_agrees (state_of d) past h one.page.enclave ∙ none_older past one.page.enclave calm)
         ∙ ap (λ (n : ℕ). if n == LAST_EPOCH then Some why.EpochSpent else None) (epoch_is h one.page.enclave)
 
 -- ---- the entry of a try
@@ -210,7 +221,7 @@ abbrev pub started_entry : State → Taken → SlotAt → Entry
 started_entry s one slot = by_reclaimer (Did (EwbStart one.frame slot) (answers.Version s.next_version))
 
 pub try_entry : (j : JobView) (past : List Entry) (d : Parts) (t : State) (one : Taken) (old new : Driver) (e : Entry)
-    → HasColumns (state_of d) past → KeepsBusy (state_of d) past → IsSound past
+    → HasColumns (state_of d) past → HasBusy (state_of d) past → IsSound past
     → ((n : ℕ) → is_sealing past n ≡ is_write_start (open_start past n)) → ShowsSlots j old.slots past
     → place past one.page ≡ Leaving one.frame.0 → IsTaken past true one.page → (k : IsTried (state_of d) old one.frame e new t)
     → ((is_drained past one.frame.0 ≡ false) × (e ≡ refused_entry (state_of d) past one k.slot))
@@ -221,12 +232,16 @@ try_entry j past d t one old new e h busy s sealing slots at waits k = by_drain 
     there : InFrame past true one.frame.0
     there = in_frame past true one.page one.frame.0 at waits
 
+    seen : SeesSlot (slot_sight (state_of d) k.slot)
+    seen = sees_slot d j past old.slots k.slot h busy s sealing slots k.ours k.free
+
     row : first_of_row (row_of (state_of d) actors.Reclaimer (EwbStart one.frame k.slot)) ≡ try_refusal
         (drain_sight_at (state_of d).first_epoch past one.frame.0) (is_version_spent (state_of d))
-    row = try_row (sight (state_of d) one.frame.0) (slot_sight (state_of d) k.slot) (drain_sight (state_of d) one.frame.0)
+    row = try_row (sight (state_of d) one.frame.0) (use_sight (state_of d) one.frame.0 k.slot) (slot_sight (state_of d) k.slot)
+        (drain_sight (state_of d) one.frame.0)
         (is_version_spent (state_of d)) (sees_page d past one.page one.frame.0 h s at (not_sealing past one.frame.0 sealing there.start))
         (blocked_same (state_of d) past one.frame.0 h ∙ there.block)
-        (sees_slot d j past old.slots k.slot h (busy k.slot) slots k.ours k.free)
+        (sees_use (state_of d) past one.page one.frame.0 k.slot h s at seen.array) seen
         ∙ ap (λ x. try_refusal x (is_version_spent (state_of d))) (drain_sees (state_of d) past h one.frame.0)
 
     by_drain : (b : Bool) → is_drained past one.frame.0 ≡ b → (v : Bool) → is_version_spent (state_of d) ≡ v
@@ -242,19 +257,24 @@ try_entry j past d t one old new e h busy s sealing slots at waits k = by_drain 
     by_drain true is false w = inr (inr (step_done (state_of d) t (EwbStart one.frame k.slot) e k.step (row ∙ rw (is, w) refl)).0)
 
 pub track_entry : (past : List Entry) (d : Parts) (t : State) (one : Taken) (e : Entry) → HasColumns (state_of d) past → IsSound past
-    → IsCalm past one.page.enclave → place past one.page ≡ Leaving one.frame.0
+    → SealingAreOpen past → Along (FitsRule (state_of d).frames) past → IsCalm past one.page.enclave
+    → place past one.page ≡ Leaving one.frame.0
     → IsStep (state_of d) actors.Reclaimer (Track one.page.enclave) e t
     → (e ≡ by_reclaimer (Refused (Track one.page.enclave) why.EpochSpent))
     ⊎ (e ≡ by_reclaimer (Did (Track one.page.enclave) answers.Plain))
-track_entry past d t one e h s calm at step = by_epoch ((state_of d).epoch one.page.enclave == LAST_EPOCH) row
+track_entry past d t one e h s sealing fits calm at step = by_epoch ((state_of d).epoch one.page.enclave == LAST_EPOCH) row
   where
     there : is_some ((state_of d).added one.page) ≡ true
     there = ap is_some (added_is h one.page) ∙ s.added one.page ∙ ap (λ p. not (is_absent p)) at
 
+    made_there : is_some ((state_of d).enclaves one.page.enclave) ≡ true
+    made_there = added_created d one.page there
+
     row : first_of_row (row_of (state_of d) actors.Reclaimer (Track one.page.enclave)) ≡
         (if (state_of d).epoch one.page.enclave == LAST_EPOCH then Some why.EpochSpent else None)
-    row = track_allowed (track_sight (state_of d) one.page.enclave) (seen_made ((state_of d).enclaves one.page.enclave)
-        (added_created d one.page there)) (older_agrees (state_of d) past h one.page.enclave ∙ none_older past one.page.enclave calm)
+    row = track_allowed (track_sight (state_of d) one.page.enclave) (seen_made ((state_of d).enclaves one.page.enclave) made_there)
+        (sees_secs (state_of d) past one.page.enclave h s sealing fits made_there)
+        (older_agrees (state_of d) past h one.page.enclave ∙ none_older past one.page.enclave calm)
 
     by_epoch : (b : Bool) → first_of_row (row_of (state_of d) actors.Reclaimer (Track one.page.enclave)) ≡
         (if b then Some why.EpochSpent else None)

@@ -17,7 +17,7 @@ use Rattle.driver_rules.specs.Passes.{keeps_from}
 use Rattle.driver_rules.specs.Places.{Leaving, frame_leaving, place}
 use Rattle.driver_laws.specs.inner.Kinds.{CanMove}
 use Rattle.driver_laws.specs.inner.Sound.{IsSound, slot_at}
-use Rattle.sgx_rules.specs.Slots.{slot_of as slot_of_start}
+use Rattle.driver_laws.specs.inner.ByFrame.{slot_of as slot_of_start}
 use Rattle.sgx_rules.specs.Starts.{open_start}
 use Rattle.driver_laws.specs.inner.Stages.{touches}
 use Rattle.driver_laws.specs.inner.Tracks.{IsCalm, IsTracked, KeepsTracks, is_reclaimers}

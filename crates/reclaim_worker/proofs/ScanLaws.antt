@@ -1,5 +1,5 @@
 -- A look of the pass is the one that is due, and the tables say what the entries say behind it.
-use Rattle.std.proofs.Common.{◌≡◌, inl, inr, ℕ, ◌≤◌, ◌==◌, ◌||◌, ◌&&◌, Bool, true, false, refl, sym, ◌∙◌}
+use Rattle.std.proofs.Common.{◌≡◌, inl, inr, ℕ, ◌≤◌, Bool, true, false, refl, sym, ◌∙◌}
 use Rattle.std.proofs.Common.{ap, subst, List, [], ◌∷◌}
 use Rattle.std.proofs.Common.{length, min, Some, arith}
 use Rattle.std.specs.List.{list_all}

@@ -69,6 +69,7 @@ use Rattle.reclaim_worker.proofs.DueLaws.{drop_get, frames_behind, with_page}
 use Rattle.reclaim_worker.proofs.MoveDueLaws.{block_is_due, block_of, due_there, refused_entry, same_frame, spent_entry}
 use Rattle.reclaim_worker.proofs.MoveDueLaws.{started_entry}
 use Rattle.reclaim_worker.proofs.MoveDueLaws.{track_entry, try_entry}
+use Rattle.reclaim_worker.proofs.RowLaws.{fits_now}
 
 -- ---- holds
 
@@ -207,7 +208,7 @@ module _ (made : Making) (j : JobView) (past : List Entry) (taken taken' : List 
       → IsTryTurn next form block one (state_of m) d turn phase' d' (state_of m') → After turn
   try_shown next form block one r w at (inr none) = full r.shows none.1
   try_shown next form block one r w at (inl k) =
-      by_entry (try_entry j past m (state_of m') one d d' k.entry r.follows.shape.columns r.follows.shape.slot_busy r.sound
+      by_entry (try_entry j past m (state_of m') one d d' k.entry r.follows.shape.columns r.follows.shape.slots_busy r.sound
       r.pages.sealing r.shows.tables.slots at w
       k.tried)
     where
@@ -250,7 +251,8 @@ module _ (made : Making) (j : JobView) (past : List Entry) (taken taken' : List 
   form_shown next forms.Second block one rest to r at has tracks fits still k =
       try_shown next forms.Second block one r (subst (λ f. HasPages past (Tries one.page rest f)) fits.0 has).page at k
   form_shown next forms.Track block one rest to r at has tracks fits still k =
-      by_entry (track_entry past m (state_of m') one k.entry r.follows.shape.columns r.sound
+      by_entry (track_entry past m (state_of m') one k.entry r.follows.shape.columns r.sound r.pages.sealing
+      (fits_now made (state_of m) past r.follows)
       ((subst (λ f. KeepsTracks past (Tries one.page rest f)) fits.0 tracks).calm one.page.enclave) at k.step)
     where
       by_entry : (k.entry ≡ by_reclaimer (Refused (Track one.page.enclave) why.EpochSpent))

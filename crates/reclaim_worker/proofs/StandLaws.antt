@@ -16,6 +16,7 @@ use Rattle.paging_machine.specs.inner.Parts.{Parts, cpu_at, state_of}
 use Rattle.sgx_types.specs.Making.{Making}
 use Rattle.driver_rules.specs.Passes as passes
 use Rattle.driver_rules.specs.Passes.{Between, Blocking, Pass, Scan, Tries, keepers, pass, scan_on, taken_by}
+use Rattle.driver_laws.specs.inner.Kinds.{IsFoundAt}
 use Rattle.driver_laws.specs.inner.Tracks.{IsTracked, KeepsTracks}
 use Rattle.std.proofs.lemmas.Bool.{eq-eqb}
 use Rattle.sgx_types.specs.declared.names.SlotAt.{SlotAt}
@@ -48,6 +49,7 @@ use Rattle.reclaim_worker.proofs.DueLaws.{drop_get, frames_behind, with_page}
 use Rattle.reclaim_worker.proofs.MoveDueLaws.{block_of, block_is_due, due_there, refused_entry, spent_entry, started_entry}
 use Rattle.reclaim_worker.proofs.MoveDueLaws.{track_entry}
 use Rattle.reclaim_worker.proofs.MoveDueLaws.{try_entry}
+use Rattle.reclaim_worker.proofs.RowLaws.{fits_now, found_ours}
 use Rattle.reclaim_worker.proofs.KeepLaws.{count_is}
 use Rattle.reclaim_worker.proofs.KeptLaws.{never}
 use Rattle.driver_laws.proofs.StillLaws.{holds_here}
@@ -119,13 +121,14 @@ module _ (made : Making) (j : JobView) (past : List Entry) (taken taken' : List 
       → ((slot : SlotAt) → is_drained past one.frame.0 ≡ false → After (Tries one.page (pages_in rest) to)
       (turns.One (refused_entry (state_of m) past one slot)) taken
       (after_try next form block (refused_entry (state_of m) past one slot).event))
-      → ((slot : SlotAt) → After (Tries one.page (pages_in rest) to) (turns.Seal (started_entry (state_of m) one slot)) taken
+      → ((slot : SlotAt) → IsFoundAt past slot → After (Tries one.page (pages_in rest) to)
+      (turns.Seal (started_entry (state_of m) one slot)) taken
       (after_try next form block (started_entry (state_of m) one slot).event))
       → IsTryTurn next form block one (state_of m) d turn phase' d' (state_of m') → After (pass j past) turn taken' phase'
   try_stands next form block one rest to r is frames passed waits at same again starts (inr none) =
       subst (λ x. After (pass j past) x taken' phase') (sym none.1) tt
   try_stands next form block one rest to r is frames passed waits at same again starts (inl k) =
-      by_entry (try_entry j past m (state_of m') one d d' k.entry r.follows.shape.columns r.follows.shape.slot_busy r.sound
+      by_entry (try_entry j past m (state_of m') one d d' k.entry r.follows.shape.columns r.follows.shape.slots_busy r.sound
       r.pages.sealing r.shows.tables.slots at
       waits k.tried)
     where
@@ -143,7 +146,7 @@ module _ (made : Making) (j : JobView) (past : List Entry) (taken taken' : List 
       by_entry (inr (inr e)) = moved (Tries one.page (pages_in rest) to) (turns.Seal (started_entry (state_of m) one k.tried.slot)) taken
           (after_try next form block (started_entry (state_of m) one k.tried.slot).event) passed
           (told (started_entry (state_of m) one k.tried.slot) e) same (k.to ∙ ap (λ (y : Entry). after_try next form block y.event) e)
-          (starts k.tried.slot)
+          (starts k.tried.slot (found_ours j past d.slots k.tried.slot r.shows.tables.slots k.tried.ours))
 
   -- the epoch that a refusal tells
   epoch_told : (form : Form) (next block : ℕ) (one : Taken) → Ready made j past taken (phases.Tries next form block) d m
@@ -161,8 +164,8 @@ module _ (made : Making) (j : JobView) (past : List Entry) (taken taken' : List 
       → AreInFrames past (drop next taken) → pass j past ≡ Tries one.page (pages_in rest) to
       → place past one.page ≡ Leaving one.frame.0 → IsTaken past true one.page → IsTracked past one.page
       → block + 1 ≡ epoch made.first_epoch past one.page.enclave → taken' ≡ taken
-      → ((slot : SlotAt) → After (Tries one.page (pages_in rest) to) (turns.Seal (started_entry (state_of m) one slot)) taken
-      (phases.Sealing next slot))
+      → ((slot : SlotAt) → IsFoundAt past slot → After (Tries one.page (pages_in rest) to)
+      (turns.Seal (started_entry (state_of m) one slot)) taken (phases.Sealing next slot))
       → IsThirdTurn next block one m d turn phase' d' m' (count_from (λ p. is_kept_by (cpu_at m p).mode one.page.enclave block) 0 d.cpus)
       → After (pass j past) turn taken' phase'
   third_stands next block one rest to r is frames passed at w tracked told same starts k = by_keepers (keepers past one.page) refl
@@ -196,17 +199,18 @@ module _ (made : Making) (j : JobView) (past : List Entry) (taken taken' : List 
       (subst (λ f. HasPages past (Tries one.page (pages_in rest) f)) fits has).page at same
       (λ slot nd. refused_after made.first_epoch j past taken next one rest is frames slot
       (epoch_in (state_of m).first_epoch past one.frame.0) (kept_back past one.frame.0) (epoch_told forms.First next block one r at))
-      (λ slot. started_after made.first_epoch j past taken next one rest is frames passes.First slot
-      (answers.Version (state_of m).next_version)) k
+      (λ slot found. started_after made.first_epoch j past taken next one rest is frames passes.First slot
+      (answers.Version (state_of m).next_version) found) k
   form_stands next forms.Second block one rest to r is frames passed at has tracks fits same k =
       try_stands next forms.Second block one rest passes.Second r is frames (passed ∙ ap (Tries one.page (pages_in rest)) fits.0)
       (subst (λ f. HasPages past (Tries one.page (pages_in rest) f)) fits.0 has).page at same
       (λ slot nd. again_after made.first_epoch j past taken next one rest is frames slot block
       (epoch_in (state_of m).first_epoch past one.frame.0) (kept_back past one.frame.0) fits.1)
-      (λ slot. started_after made.first_epoch j past taken next one rest is frames passes.Second slot
-      (answers.Version (state_of m).next_version)) k
+      (λ slot found. started_after made.first_epoch j past taken next one rest is frames passes.Second slot
+      (answers.Version (state_of m).next_version) found) k
   form_stands next forms.Track block one rest to r is frames passed at has tracks fits same k =
-      by_entry (track_entry past m (state_of m') one k.entry r.follows.shape.columns r.sound
+      by_entry (track_entry past m (state_of m') one k.entry r.follows.shape.columns r.sound r.pages.sealing
+      (fits_now made (state_of m) past r.follows)
       ((subst (λ f. KeepsTracks past (Tries one.page (pages_in rest) f)) fits.0 tracks).calm one.page.enclave) at k.step)
     where
       by_entry : (k.entry ≡ by_reclaimer (Refused (Track one.page.enclave) why.EpochSpent))
@@ -228,14 +232,14 @@ module _ (made : Making) (j : JobView) (past : List Entry) (taken taken' : List 
       third_stands next block one rest passes.Third r is frames (passed ∙ ap (Tries one.page (pages_in rest)) fits) at
       (subst (λ f. HasPages past (Tries one.page (pages_in rest) f)) fits has).page
       (subst (λ f. KeepsTracks past (Tries one.page (pages_in rest) f)) fits tracks) told same
-      (λ slot. started_after made.first_epoch j past taken next one rest is frames passes.Third slot
-      (answers.Version (state_of m).next_version)) k
+      (λ slot found. started_after made.first_epoch j past taken next one rest is frames passes.Third slot
+      (answers.Version (state_of m).next_version) found) k
   form_stands next forms.Third block one rest to r is frames passed at has tracks (inr fits, told) same k =
       third_stands next block one rest passes.ToKick r is frames (passed ∙ ap (Tries one.page (pages_in rest)) fits.0) at
       (subst (λ f. HasPages past (Tries one.page (pages_in rest) f)) fits.0 has).page
       (subst (λ f. KeepsTracks past (Tries one.page (pages_in rest) f)) fits.0 tracks) told same
-      (λ slot. started_after made.first_epoch j past taken next one rest is frames passes.ToKick slot
-      (answers.Version (state_of m).next_version)) k
+      (λ slot found. started_after made.first_epoch j past taken next one rest is frames passes.ToKick slot
+      (answers.Version (state_of m).next_version) found) k
 
   pub turn_stands : (phase : Phase) → Ready made j past taken phase d m → TurnSays taken phase d m turn taken' phase' d' m'
       → After (pass j past) turn taken' phase'

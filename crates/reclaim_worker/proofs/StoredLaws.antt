@@ -4,7 +4,7 @@ use Rattle.std.proofs.Common.{drop, length, nat_lt}
 use Rattle.std.proofs.Common.{slice_get, Option, Some, arith}
 use Rattle.std.specs.Option.{IsSomeAnd}
 use Rattle.std.proofs.lemmas.Bool.{eq-eqb}
-use Rattle.sgx_types.proofs.Pages.{same_pages}
+use Rattle.std.proofs.lemmas.Option.{same_Some}
 use Rattle.sgx_types.proofs.Truths.{eqb-swap}
 use Rattle.sgx_rules.specs.declared.entries.Action.TheVariants.{Ewb}
 use Rattle.sgx_rules.specs.declared.entries.Answer.TheVariants.{Moved}
@@ -12,8 +12,9 @@ use Rattle.sgx_rules.specs.declared.entries.Entry.{Entry}
 use Rattle.sgx_rules.specs.declared.entries.Event.TheVariants.{Did}
 use Rattle.sgx_types.specs.declared.names.SlotAt.{SlotAt}
 use Rattle.sgx_types.specs.Pages.{same_page}
-use Rattle.sgx_rules.specs.Frames.{is_page}
-use Rattle.sgx_rules.specs.Slots.{slot_of as slot_of_start}
+use Rattle.sgx_rules.specs.Frames.{content, page_there}
+use Rattle.sgx_rules.proofs.Contents.{held_page}
+use Rattle.driver_laws.specs.inner.ByFrame.{slot_of as slot_of_start}
 use Rattle.sgx_rules.specs.Starts.{Start, open_start}
 use Rattle.sgx_types.specs.Making.{Making}
 use Rattle.sgx_rules.proofs.Busy.{IsBareOf}
@@ -82,11 +83,12 @@ module _ (made : Making) (j : JobView) (past : List Entry) (taken : List Taken) 
     opened : open_start past one.frame.0 ≡ Some start
     opened = its.opened
 
-    pub page_is : k.out.leaving.page.page ≡ one.page
+    pub page_is : k.out.leaving.page ≡ one.page
     page_is =
-        same_pages k.out.leaving.page.page one.page
-        (sym (ap (λ c. is_page c one.page) (sym (content_is columns one.frame.0) ∙ k.out.leaving.page.held))
-        ∙ holds_here past one.page (Leaving one.frame.0) one.frame.0 r.sound at (eq-eqb one.frame.0 one.frame.0 refl))
+        let held = held_page (content past one.frame.0) one.page
+        (holds_here past one.page (Leaving one.frame.0) one.frame.0 r.sound at (eq-eqb one.frame.0 one.frame.0 refl)) in
+        sym (same_Some one.page k.out.leaving.page
+        (sym (ap page_there held.holds) ∙ ap page_there (sym (content_is columns one.frame.0)) ∙ k.out.leaving.held))
 
     abbrev entry : Entry
     entry = by_reclaimer (Did (Ewb one.frame) (Moved one.page version k.rec.tag))
@@ -94,9 +96,9 @@ module _ (made : Making) (j : JobView) (past : List Entry) (taken : List Taken) 
     entry_is : e ≡ entry
     entry_is = k.out.entry ∙ ap (λ g. by_reclaimer (Did (Ewb one.frame) (Moved g version k.rec.tag))) page_is
 
-    slot_is : start.slot ≡ slot
+    slot_is : start.at ≡ slot
     slot_is =
-        let both : Some start.slot ≡ Some slot = sym (ap slot_of_start opened) ∙ sym (ap (slot_at (open_start past)) at) ∙ named in cc
+        let both : Some start.at ≡ Some slot = sym (ap slot_of_start opened) ∙ sym (ap (slot_at (open_start past)) at) ∙ named in cc
       where
         named : slot_at (open_start past) (place past one.page) ≡ Some slot
         named =
@@ -108,7 +110,7 @@ module _ (made : Making) (j : JobView) (past : List Entry) (taken : List Taken) 
     can : CanMove past (Did (Ewb one.frame) (Moved one.page version k.rec.tag))
     can = (at, (start, opened))
 
-    away : (failed : Bool) → place_in (gone slot failed) ≡ Away start.slot
+    away : (failed : Bool) → place_in (gone slot failed) ≡ Away start.at
     away true = ap Away (sym slot_is)
     away false = ap Away (sym slot_is)
 

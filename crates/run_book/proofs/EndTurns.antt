@@ -204,7 +204,7 @@ out_next made j past d d' m m' taken (phases.Sealing next slot) told told' fault
     let frame : page.page.frame ≡ w.one.frame.0 = frames page.page.frame w.one.frame.0 (sym page.page.leaving ∙ at) in
     let write : is_write_start (open_start past w.one.frame.0) ≡ true = subst (λ n. is_write_start (open_start past n) ≡ true) frame
     page.page.write in
-    out_by made j past d d' m m' w.one.frame k.out.leaving.page.page its.start k.out.leaving.start.version k.rec.tag e after behind a going
+    out_by made j past d d' m m' w.one.frame k.out.leaving.page its.start k.out.leaving.start.version k.rec.tag e after behind a going
     k.out.entry its.opened (none_loads its.start (ap is_write_start (sym its.opened) ∙ write))
     (sym (ap (λ (y : BareStart). y.version) its.same)) (ap (λ (x : Driver). count_out x.slots) k.tables) ended on cpus
   where

@@ -18,10 +18,12 @@ use Rattle.job_grammar.specs.Jobs.{JobView}
 use Rattle.backing_store.specs.Calls.{Call}
 use Rattle.backing_store.specs.declared.backing.StoreFault.{StoreFault}
 use Rattle.backing_store.specs.declared.backing.StoreFault.TheVariants as faults
-use Rattle.paging_laws.specs.inner.Columns.{HasColumns, SlotColumns}
 use Rattle.sgx_rules.specs.Table.{first_of_row}
 use Rattle.paging_laws.specs.inner.Shape.{ShapeWithRules}
-use Rattle.paging_laws.specs.inner.State.{State, row_of}
+use Rattle.paging_laws.specs.inner.State.{State, row_of, version_at}
+use Rattle.paging_laws.proofs.GuardMoves.{starts_in}
+use Rattle.driver_laws.specs.inner.ByFrame.{version_in}
+use Rattle.driver_steps.proofs.SightLaws.{version_is}
 use Rattle.paging_laws.specs.inner.Steps.{IsDone, IsStep, refused_by}
 use Rattle.paging_machine.specs.inner.Parts.{Parts, state_of}
 use Rattle.version_array.specs.inner.Keeper.{count_out}
@@ -147,19 +149,21 @@ record StartsSo (first : ℕ) (past : List Entry) (e : Entry) (old new : ℕ) : 
   counts : CountMoves e.event old new
 
 start_tells : (first : ℕ) (s t : State) (past : List Entry) (cpu : Cpu) (f : Frame) (page : Page) (slot : SlotAt) (e : Entry) (old new : ℕ)
-    → HasColumns s past → new ≡ old → IsStep s (actors.Cpu cpu) (EldStart f page slot) e t → StartsSo first past e old new
-start_tells first s t past cpu f page slot e old new columns same is =
-    by_row (first_of_row (row_of s (actors.Cpu cpu) (EldStart f page slot))) is
+    → (slot.index < 512 → version_at s slot ≡ version_in past slot) → new ≡ old → IsStep s (actors.Cpu cpu) (EldStart f page slot) e t
+    → StartsSo first past e old new
+start_tells first s t past cpu f page slot e old new told same is =
+    by_row (first_of_row (row_of s (actors.Cpu cpu) (EldStart f page slot))) refl is
   where
-    by_row : (o : Option Refusal) → MatchOption o (IsDone s (actors.Cpu cpu) (EldStart f page slot) e t)
+    by_row : (o : Option Refusal) → first_of_row (row_of s (actors.Cpu cpu) (EldStart f page slot)) ≡ o
+        → MatchOption o (IsDone s (actors.Cpu cpu) (EldStart f page slot) e t)
         (λ refusal. (e ≡ refused_by (actors.Cpu cpu) (EldStart f page slot) refusal) × (t ≡ s)) → StartsSo first past e old new
-    by_row None k = rw k.0 record {
+    by_row None row k = rw k.0 record {
       tries = tt;
-      starts = ap (λ (c : SlotColumns). c.version_in slot) columns.slots;
+      starts = told (starts_in s f.0 page slot row).within;
       tracking = record { stay = tt; track = tt };
       counts = same;
     }
-    by_row (Some refusal) k = rw k.0 record { tries = tt; starts = tt; tracking = record { stay = tt; track = tt }; counts = same }
+    by_row (Some refusal) row k = rw k.0 record { tries = tt; starts = tt; tracking = record { stay = tt; track = tt }; counts = same }
 
 pub fault_next : (made : Making) (j : JobView) (past : List Entry) (d d' : Driver) (m m' : Parts) (taken : List Taken) (phase : Phase)
     (cpu : Cpu) (page : Page) (answer : FaultAnswer) (told told' : Option (List Call)) → Agrees made j past d m
@@ -180,7 +184,7 @@ fault_next made j past d d' m m' taken phase cpu page answer told told' r stands
     by_answer (answers.Started e work) k did goes =
         let so = start_tells made.first_epoch (state_of m) (state_of m') past cpu did.frame page did.slot e
         (count_out d.slots) (count_out d'.slots)
-        r.follows.shape.columns (ap count_out did.slots) did.step in
+        (version_is made j past d m r did.slot) (ap count_out did.slots) did.step in
         record {
           script = record {
             not_spent = going;

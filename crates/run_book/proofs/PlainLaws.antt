@@ -26,7 +26,7 @@ use Rattle.sgx_types.proofs.Truths.{not_false}
 use Rattle.job_grammar.specs.Jobs.{JobView}
 use Rattle.paging_laws.specs.inner.Columns.{HasColumns, seat_of_stay}
 use Rattle.paging_laws.specs.inner.State.{State, enter_sight, row_of}
-use Rattle.paging_laws.specs.inner.Steps.{IsStep}
+use Rattle.paging_laws.specs.inner.Steps.{IsStep, did_by}
 use Rattle.paging_laws.proofs.ColumnLaws.{inside_is}
 use Rattle.paging_machine.specs.inner.Parts.{Parts, state_of}
 use Rattle.version_array.specs.inner.Keeper.{count_out}
@@ -51,7 +51,9 @@ use Rattle.reclaim_worker.specs.declared.turns.Phase.{Phase}
 use Rattle.reclaim_worker.specs.declared.turns.Phase.TheVariants as phases
 use Rattle.reclaim_worker.specs.declared.turns.Taken.{Taken}
 use Rattle.reclaim_worker.specs.inner.Standing.{IsForm, StandsFor}
-use Rattle.table_notes.proofs.EntryLaws.{IsEntryOf, ages, did_moves, entry_by}
+use Rattle.table_notes.proofs.EntryLaws.{AddsOwn, IsEntryOf, ages, did_moves, entry_by}
+use Rattle.table_notes.proofs.ArrayLaws.{adds_own}
+use Rattle.job_grammar.specs.inner.Valid.{IsValid}
 use Rattle.table_notes.specs.inner.Plain.{is_plain, is_reclaimer}
 
 -- ---- what it asks of the entries before it
@@ -111,17 +113,17 @@ record AsksNothing (first : ℕ) (past : List Entry) (a : Actor) (event : Event)
   loads : LoadsAwayRule past (record { actor = a; event = event })
 
 did_asks : (first : ℕ) (s : State) (past : List Entry) (a : Actor) (action : Action) (answer : Answer)
-    → is_plain action ≡ true → HasColumns s past
+    → is_plain action ≡ true → AddsOwn action → HasColumns s past
     → ((g : Page) → is_some (added past g) ≡ not (is_absent (place past g))) → first_of_row (row_of s a action) ≡ None
     → AsksNothing first past a (Did action answer)
-did_asks first s past a (Block f) answer plain columns seen row = absurd (false≢true plain)
-did_asks first s past a (Track enclave) answer plain columns seen row = absurd (false≢true plain)
-did_asks first s past a (EwbStart f slot) answer plain columns seen row = absurd (false≢true plain)
-did_asks first s past a (Ewb f) answer plain columns seen row = absurd (false≢true plain)
-did_asks first s past a (EldStart f page slot) answer plain columns seen row = absurd (false≢true plain)
-did_asks first s past a (Eld f) answer plain columns seen row = absurd (false≢true plain)
-did_asks first s past a action answer plain columns seen row = record {
-  can = did_moves s past a action answer plain columns seen row;
+did_asks first s past a (Block f) answer plain own columns seen row = absurd (false≢true plain)
+did_asks first s past a (Track enclave) answer plain own columns seen row = absurd (false≢true plain)
+did_asks first s past a (EwbStart f slot) answer plain own columns seen row = absurd (false≢true plain)
+did_asks first s past a (Ewb f) answer plain own columns seen row = absurd (false≢true plain)
+did_asks first s past a (EldStart f page slot) answer plain own columns seen row = absurd (false≢true plain)
+did_asks first s past a (Eld f) answer plain own columns seen row = absurd (false≢true plain)
+did_asks first s past a action answer plain own columns seen row = record {
+  can = did_moves s past a action answer plain own columns seen row;
   tries = tt;
   starts = tt;
   tracking = record { stay = stay_tells s past a action answer columns row; track = tt };
@@ -140,13 +142,14 @@ refused_asks first past a action refusal plain = record {
   loads = tt;
 }
 
-asks : (first : ℕ) (s t : State) (past : List Entry) (a : Actor) (action : Action) (e : Entry) → is_plain action ≡ true → HasColumns s past
+asks : (first : ℕ) (s t : State) (past : List Entry) (a : Actor) (action : Action) (e : Entry) → is_plain action ≡ true
+    → ((answer : Answer) → e ≡ did_by a action answer → AddsOwn action) → HasColumns s past
     → ((g : Page) → is_some (added past g) ≡ not (is_absent (place past g))) → IsStep s a action e t
     → AsksNothing first past e.actor e.event
-asks first s t past a action e plain columns seen is = by_entry (entry_by s t a action e is)
+asks first s t past a action e plain own columns seen is = by_entry (entry_by s t a action e is)
   where
     by_entry : IsEntryOf s a action e → AsksNothing first past e.actor e.event
-    by_entry (inl k) = rw k.is (did_asks first s past a action k.answer plain columns seen k.row)
+    by_entry (inl k) = rw k.is (did_asks first s past a action k.answer plain (own k.answer k.is) columns seen k.row)
     by_entry (inr k) = rw k.is (refused_asks first past a action k.refusal plain)
 
 actor_is : (s t : State) (a : Actor) (action : Action) (e : Entry) → IsStep s a action e t → e.actor ≡ a
@@ -213,12 +216,14 @@ kicks j past a event other h = record { form = form a (pass j past) other; besid
 -- ---- all of it
 
 pub plain_next : (made : Making) (j : JobView) (past : List Entry) (d d' : Driver) (m m' : Parts) (taken : List Taken) (phase : Phase)
-    (a : Actor) (action : Action) (e : Entry) → is_reclaimer a ≡ false → is_plain action ≡ true → Agrees made j past d m
+    (a : Actor) (action : Action) (e : Entry) → is_reclaimer a ≡ false → is_plain action ≡ true → IsValid j → Agrees made j past d m
     → StandsFor made.first_epoch past taken phase (pass j past) → ScriptRule j past e → IsStep (state_of m) a action e (state_of m')
     → Carries (state_of m) e (state_of m') → length m'.cpus ≡ length m.cpus → ShowsTables j d' (e ∷ past)
     → CountMoves e.event (count_out d.slots) (count_out d'.slots) → IsNextOf made j past d m e d' m'
-plain_next made j past d d' m m' taken phase a action e other plain r stands script is carries cpus shows counts =
-    let k = asks made.first_epoch (state_of m) (state_of m') past a action e plain r.follows.shape.columns r.sound.added is in
+plain_next made j past d d' m m' taken phase a action e other plain valid r stands script is carries cpus shows counts =
+    let k = asks made.first_epoch (state_of m) (state_of m') past a action e plain
+    (λ answer did. adds_own j past a action answer other valid (subst (ScriptRule j past) did script))
+    r.follows.shape.columns r.sound.added is in
     let by : is_reclaimer e.actor ≡ false = ap is_reclaimer (actor_is (state_of m) (state_of m') a action e is) ∙ other in
     record {
       script = script;

@@ -4,6 +4,7 @@ ghost use Rattle.std.specs.Prelude.{ℕ, ◌≡◌, ◌≤◌, ◌<◌, true, fa
 ghost use Rattle.backing_store.specs.Calls.{Call};
 ghost use Rattle.driver_laws.specs.inner.Three.{TcsAreApart};
 ghost use Rattle.driver_tables.specs.declared.driver.Driver.{Driver};
+ghost use Rattle.job_grammar.specs.inner.Valid.{IsValid};
 ghost use Rattle.job_grammar.specs.Jobs.{JobView};
 ghost use Rattle.driver_laws.specs.inner.Counted.{CountMoves};
 ghost use Rattle.driver_rules.specs.Passes.{pass};
@@ -68,7 +69,7 @@ pub fn the_book_goes_on()
 /// and machine go on to agree: by the machine's own clauses, where the tables show it.
 pub fn instructions_are_next()
     ensures { (made : Making) (j : JobView) (past : List Entry) (d d' : Driver) (m m' : Parts) (taken : List Taken) (phase : Phase)
-        (actor : Actor) (action : Action) (e : Entry) → is_reclaimer actor ≡ false → is_plain action ≡ true → Agrees made j past d m
+        (actor : Actor) (action : Action) (e : Entry) → is_reclaimer actor ≡ false → is_plain action ≡ true → IsValid j → Agrees made j past d m
         → StandsFor made.first_epoch past taken phase (pass j past) → ScriptRule j past e
         → IsStep (state_of m) actor action e (state_of m') → Carries (state_of m) e (state_of m') → length m'.cpus ≡ length m.cpus
         → ShowsTables j d' (e ∷ past) → CountMoves e.event (count_out d.slots) (count_out d'.slots) → IsNextOf made j past d m e d' m' }

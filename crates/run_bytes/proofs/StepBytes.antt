@@ -125,7 +125,7 @@ stored_bytes made j past d d' m m' taken (phases.Sealing next slot) told told' f
         → IfSome (with_call (Put one.page k.rec k.failed) t) (CarriesBytes made j past m e m')
     by_told one k None = tt
     by_told one k (Some calls) =
-        put_bytes made j past m m' e one.frame one.page k.out.leaving.page.page k.out.leaving.start.version k.rec k.failed calls
+        put_bytes made j past m m' e one.frame one.page k.out.leaving.page k.out.leaving.start.version k.rec k.failed calls
         (ap (λ (x : Entry). x.event) k.out.entry) (k.history made past)
 
     by_page : (o : Option Taken)

@@ -19,17 +19,18 @@ use Rattle.sgx_types.specs.declared.names.Frame.{Frame}
 use Rattle.sgx_types.specs.declared.names.Page.{Page}
 use Rattle.sgx_types.specs.declared.names.SlotAt.{SlotAt}
 use Rattle.sgx_rules.specs.inner.Enclaves.{EnclavesAreFlat, created, created_by}
-use Rattle.sgx_rules.specs.Flat.{FlatEnclave, FlatMemory, Inside, accepts, cpu_after, event_after, flat, header_at, memory_after}
+use Rattle.sgx_rules.specs.Flat.{FlatEnclave, FlatMemory, Inside, accepts, cpu_after, event_after, flat, memory_after}
 use Rattle.sgx_rules.specs.Flat.{saved}
+use Rattle.sgx_rules.specs.PageBytes.{header_at}
 use Rattle.sgx_rules.specs.Flat.{stored, sum_of, word_seen}
 use Rattle.sgx_types.specs.Pages.{page_at, same_page}
-use Rattle.sgx_rules.specs.Frames.{Free, content}
+use Rattle.sgx_rules.specs.Frames.{Free, content, is_this}
 use Rattle.sgx_rules.specs.Rules.{Along, FlatRule}
 use Rattle.sgx_rules.specs.Fresh.{Out, last_out, out_after}
 use Rattle.sgx_types.specs.Sealed.{Sealed}
-use Rattle.sgx_rules.specs.Starts.{Start, is_load_of, loads_page, open_start}
+use Rattle.sgx_rules.specs.Starts.{Start, is_load_of, open_start}
 use Rattle.sgx_rules.specs.Table.{is_loading}
-use Rattle.page_history.proofs.FlatLaws.{added_flat, header_still}
+use Rattle.page_history.proofs.FlatLaws.{added_flat, header_kept}
 use Rattle.backing_store.specs.Calls.{Call, Failed, Given, Got, Nothing, Put, Room}
 use Rattle.driver_rules.specs.Places.{Absent, Away, Here, Leaving, Loading, Place, after_look, back_to, gone_to, place}
 use Rattle.driver_rules.specs.Places.{place_after}
@@ -119,7 +120,7 @@ put_now key past actor f page g version tag (Put h rec b ∷ calls) c is mine = 
   sealed = record {
     header =
         ap (λ x. header_at (entry_of actor (Did (Ewb f) (Moved page version tag)) ∷ past) x) (sym (same_pages page g mine))
-        ∙ header_still actor (Did (Ewb f) (Moved page version tag)) (flat past) page rec.header is.header;
+        ∙ header_kept past actor (Did (Ewb f) (Moved page version tag)) page rec.header is.header;
     tagged = is.tagged;
   };
 }
@@ -129,7 +130,7 @@ put_before : (key : List ℕ) (e : Entry) (past : List Entry) (calls : List Call
 put_before key e past calls g version c out was = record {
   rec = was.rec;
   put = same_last e.event calls g c out ∙ was.put;
-  sealed = record { header = header_still e.actor e.event (flat past) g was.rec.header was.sealed.header; tagged = was.sealed.tagged };
+  sealed = record { header = header_kept past e.actor e.event g was.rec.header was.sealed.header; tagged = was.sealed.tagged };
 }
 
 -- how one entry more leaves it
@@ -193,7 +194,7 @@ free_no_load past f g slot s free at =
     by_start None h k = cc
     by_start (Some x) h k = loads x.loads h k
       where
-        loads : (l : Option Page) → is_some l ≡ false → slot_if (loads_page l g) x.slot ≡ Some slot → ⊥
+        loads : (l : Option Page) → is_some l ≡ false → slot_if (is_this l g) x.at ≡ Some slot → ⊥
         loads None h k = cc
         loads (Some page) h k = cc
 

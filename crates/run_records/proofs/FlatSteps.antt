@@ -21,7 +21,7 @@ use Rattle.sgx_rules.specs.declared.refusals.Refusal.TheVariants as why
 use Rattle.sgx_rules.specs.inner.Enclaves.{EnclavesAreFlat, created, created_by}
 use Rattle.sgx_rules.specs.Flat.{FlatEnclave, FlatMemory, Inside, accepts, added_as, cpu_after, enclave_sight_of, event_after}
 use Rattle.sgx_rules.specs.Flat.{first_words}
-use Rattle.sgx_rules.specs.Flat.{flat, flat_build_row, marked, memory_after, open_frame, saved, stored, sum_of, word_seen}
+use Rattle.sgx_rules.specs.Flat.{flat, flat_build_row, marked, memory_after, open_frame, saved, settled, stored, sum_of, word_seen}
 use Rattle.sgx_types.specs.Pages.{page_at, same_page}
 use Rattle.sgx_rules.specs.Frames.{added, added_by}
 use Rattle.sgx_rules.specs.Table.{add_row, create_row, first_of_row, init_row}
@@ -29,9 +29,9 @@ use Rattle.sgx_types.proofs.Pages.{same_page-swap}
 use Rattle.page_history.proofs.FlatLaws.{event_kinds}
 use Rattle.measure_log.specs.Rule.{IsExpected, IsOther}
 use Rattle.paging_laws.specs.inner.Columns.{HasColumns}
-use Rattle.paging_laws.specs.inner.State.{State, after_init, row_of, sight}
+use Rattle.paging_laws.specs.inner.State.{State, after_init, row_of, secs_sight, sight}
 use Rattle.paging_laws.specs.inner.Steps.{IsDone, IsStep, did_by, refused_by}
-use Rattle.paging_laws.proofs.BuildLaws.{add_open, create_open, is_some-added_as}
+use Rattle.paging_laws.proofs.BuildLaws.{add_open, create_open, init_open, is_some-added_as}
 use Rattle.paging_laws.proofs.ColumnLaws.{enclave_seen, page_seen}
 use Rattle.paging_laws.proofs.TestLaws.{is_none-None}
 use Rattle.run_records.specs.inner.Builds.{builds, is_building}
@@ -172,10 +172,11 @@ module _ (s : State) (past : List Entry) (columns : HasColumns s past) (seen : E
       ap is_some (page_seen columns seen g) ∙ is_some-added_as ((flat past).pages g) in
       subst (λ x. EnclavesAreFlat (x ∷ past)) (sym is.0)
       (flat_add past a enclave number f kind perm init answers.Plain
-      (subst (λ b. first_of_row (add_row number kind perm init (enclave_sight_of ((flat past).enclaves enclave)) b open_frame) ≡ None) page
+      (subst (λ b. first_of_row
+      (add_row number kind perm init (enclave_sight_of ((flat past).enclaves enclave)) settled b open_frame) ≡ None) page
       (subst (λ (o : Option FlatEnclave). first_of_row
-      (add_row number kind perm init (enclave_sight_of o) (is_some (s.added g)) open_frame) ≡ None) (enclave_seen columns seen enclave)
-      (add_open number kind perm init (enclave_sight_of (s.enclaves enclave)) (is_some (s.added g)) (sight s f.0) row))) seen)
+      (add_row number kind perm init (enclave_sight_of o) settled (is_some (s.added g)) open_frame) ≡ None) (enclave_seen columns seen enclave)
+      (add_open number kind perm init (enclave_sight_of (s.enclaves enclave)) (secs_sight s enclave) (is_some (s.added g)) (sight s f.0) row))) seen)
   flat_done t a (Init enclave expect) e row is = by_judged is.judged
     where
       by_judged : (IsExpected expect is.digest × (e ≡ did_by a (Init enclave expect) (answers.Hash is.digest)) × (t ≡ after_init s enclave))
@@ -184,8 +185,8 @@ module _ (s : State) (past : List Entry) (columns : HasColumns s past) (seen : E
       by_judged (inl k) =
           subst (λ x. EnclavesAreFlat (x ∷ past)) (sym k.1)
           (flat_init past a enclave expect (answers.Hash is.digest)
-          (subst (λ (o : Option FlatEnclave). first_of_row (init_row (enclave_sight_of o)) ≡ None)
-          (enclave_seen columns seen enclave) row) seen)
+          (subst (λ (o : Option FlatEnclave). first_of_row (init_row (enclave_sight_of o) settled) ≡ None)
+          (enclave_seen columns seen enclave) (init_open (enclave_sight_of (s.enclaves enclave)) (secs_sight s enclave) row)) seen)
       by_judged (inr k) = flat_other past e (ap (λ (x : Entry). is_building x.event) k.1) seen
   flat_done t a action e row is = flat_other past e (ap (λ (x : Entry). is_building x.event) is.0) seen
 

@@ -16,7 +16,7 @@ use Rattle.sgx_types.specs.Pages.{same_page}
 use Rattle.sgx_rules.specs.Fresh.{Out, last_out}
 use Rattle.sgx_types.specs.Making.{Making}
 use Rattle.sgx_types.specs.Sealed.{Sealed}
-use Rattle.sgx_rules.specs.Slots.{version_in}
+use Rattle.driver_laws.specs.inner.ByFrame.{version_in}
 use Rattle.job_grammar.specs.Jobs.{JobView}
 use Rattle.backing_store.specs.Calls.{Call, Failed, Given, Got, Nothing, Put, Room}
 use Rattle.paging_machine.specs.inner.Parts.{Parts, state_of}

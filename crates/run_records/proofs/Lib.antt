@@ -1,5 +1,4 @@
 pub mod FlatSteps
-pub mod KindLaws
 pub mod ToldLaws
 pub mod LoadRecords
 pub mod PassRecords

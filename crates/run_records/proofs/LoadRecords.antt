@@ -17,7 +17,7 @@ use Rattle.sgx_types.specs.declared.names.SlotAt.{SlotAt}
 use Rattle.sgx_types.specs.declared.record.Header.{Header}
 use Rattle.sgx_rules.specs.declared.refusals.Refusal.{Refusal}
 use Rattle.sgx_rules.specs.declared.refusals.Refusal.TheVariants as why
-use Rattle.sgx_rules.specs.Flat.{header_at}
+use Rattle.sgx_rules.specs.PageBytes.{header_at}
 use Rattle.sgx_rules.specs.Frames.{least_free}
 use Rattle.sgx_types.specs.Making.{Making}
 use Rattle.sgx_types.specs.Sealed.{Sealed}
@@ -42,7 +42,6 @@ use Rattle.active_list.specs.declared.page_states.PageState.{PageState}
 use Rattle.active_list.specs.declared.page_states.PageState.TheVariants as states
 use Rattle.paging_laws.specs.inner.State.{State}
 use Rattle.paging_laws.specs.inner.Steps.{IsComing, IsReloaded, commit_row, did_by, refused_by}
-use Rattle.paging_laws.proofs.ColumnLaws.{enclave_seen, page_seen}
 use Rattle.paging_laws.proofs.SlotLaws.{started_as}
 use Rattle.paging_machine.specs.inner.Parts.{Parts, state_of}
 use Rattle.driver_rules.specs.Places.{Loading}
@@ -69,7 +68,7 @@ use Rattle.run_book.specs.inner.Loads.{OfAnswer, entry_in}
 use Rattle.run_records.specs.inner.Builds.{is_building}
 use Rattle.run_records.specs.inner.Silent.{HasNoEntry, IsSilent, OfBus}
 use Rattle.run_records.proofs.FlatSteps.{flat_other}
-use Rattle.run_records.proofs.KindLaws.{header_told}
+use Rattle.paging_laws.proofs.MoveEnds.{headers_agree}
 use Rattle.run_records.proofs.ToldLaws.{eldstart_silent}
 
 -- ---- a fault step
@@ -297,11 +296,8 @@ module _ (made : Making) (j : JobView) (past : List Entry) (calls : List Call) (
   -- the page's header is the record's, where that was not refused
   headed : first_of_row (commit_row s can.frame.0 coming can.kept) ≡ None → header_at past coming.page ≡ Some can.kept.header
   headed row =
-      header_told past coming.page coming.enclave coming.kind coming.perm
-      (sym (enclave_seen r.follows.shape.columns k.flat coming.page.enclave) ∙ coming.made)
-      (sym (page_seen r.follows.shape.columns k.flat coming.page) ∙ coming.added)
-      ∙ ap Some (sym coming.headed
-      ∙ row_headed can.kept (tag s.key coming.start.version can.kept.header can.kept.cipher) coming.header row)
+      sym (headers_agree s past r.follows.shape.columns k.flat coming.page) ∙ coming.headed
+      ∙ ap Some (row_headed can.kept (tag s.key coming.start.version can.kept.header can.kept.cipher) coming.header row)
 
   end_record : TellsRecord j.key past (gift past calls) is.entry.event calls
   end_record = by_row _ _ (first_of_row (commit_row s can.frame.0 coming can.kept)) refl is.reloaded.row

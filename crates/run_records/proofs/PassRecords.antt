@@ -1,5 +1,5 @@
 -- The entry of a turn of a pass and the end of a write-out tell what is so of their records.
-use Rattle.std.proofs.Common.{◌≡◌, ℕ, zero, suc, ◌≤◌, inl, inr, Bool, true, false, if◌then◌else◌, is_some, refl, sym}
+use Rattle.std.proofs.Common.{◌≡◌, ℕ, zero, suc, ◌≤◌, inl, inr, Bool, true, false, refl, sym}
 use Rattle.std.proofs.Common.{◌∙◌, ap, subst, List, ◌∷◌, Option, Some, None, length, min, slice_get, sum, arith}
 use Rattle.std.specs.Option.{IsSomeAnd}
 use Rattle.std.proofs.lemmas.Option.{same_Some}
@@ -12,11 +12,9 @@ use Rattle.sgx_rules.specs.declared.entries.Look.TheVariants as looks
 use Rattle.sgx_types.specs.declared.names.Frame.{Frame}
 use Rattle.sgx_types.specs.declared.names.Page.{Page}
 use Rattle.sgx_rules.specs.declared.refusals.Refusal.TheVariants as why
-use Rattle.sgx_rules.specs.Frames.{added}
-use Rattle.sgx_types.specs.Layouts.{bytes_of}
 use Rattle.sgx_types.specs.Making.{Making}
 use Rattle.sgx_types.specs.declared.record.Header.{Header}
-use Rattle.sgx_rules.specs.Flat.{header_at}
+use Rattle.sgx_rules.specs.PageBytes.{header_at}
 use Rattle.sgx_types.specs.Sealed.{Sealed}
 use Rattle.sgx_rules.specs.inner.Enclaves.{EnclavesAreFlat}
 use Rattle.job_grammar.specs.Jobs.{JobView}
@@ -24,11 +22,8 @@ use Rattle.seal_record.specs.Cipher.{cipher, sealed, tag}
 use Rattle.backing_store.specs.Calls.{Call, Put}
 use Rattle.backing_store.specs.inner.Calls.{with_call}
 use Rattle.paging_laws.specs.inner.State.{State}
-use Rattle.paging_laws.specs.inner.Steps.{IsHeaderIn, IsWrittenOut}
-use Rattle.paging_laws.proofs.ColumnLaws.{content_is, enclave_seen}
+use Rattle.paging_laws.specs.inner.Steps.{IsWrittenOut, header_in}
 use Rattle.paging_machine.specs.inner.Parts.{Parts, cpu_at, state_of}
-use Rattle.driver_laws.specs.inner.Counted.{pages_added}
-use Rattle.driver_laws.specs.inner.Sound.{times}
 use Rattle.driver_rules.specs.declared.waits.Why.TheVariants as waits
 use Rattle.driver_tables.specs.declared.driver.Driver.{Driver}
 use Rattle.turn_tables.specs.declared.turns.Turns.{Turns}
@@ -60,7 +55,7 @@ use Rattle.run_book.specs.inner.Turns.{OfEntry}
 use Rattle.run_records.specs.inner.Builds.{is_building}
 use Rattle.run_records.specs.inner.Silent.{IsSilent, MakesNoEntry}
 use Rattle.run_records.proofs.FlatSteps.{flat_other}
-use Rattle.run_records.proofs.KindLaws.{header_told, held_kind}
+use Rattle.paging_laws.proofs.MoveEnds.{headers_agree}
 use Rattle.run_records.proofs.ToldLaws.{block_silent, ewbstart_silent, track_silent}
 
 -- ---- the entries of turns
@@ -241,25 +236,11 @@ put_out taken (phases.Scan left) s t d d' told told' faults faults' e says = abs
 put_out taken (phases.Block next) s t d d' told told' faults faults' e says = absurd says
 put_out taken (phases.Tries next form block) s t d d' told told' faults faults' e says = absurd says
 
--- each page was added once
-few_added : (made : Making) (j : JobView) (past : List Entry) (told : Option (List Call)) (d : Driver) (m : Parts) (t : Turns)
-    → KeepsBook made j past told d m t → (g : Page) → times (pages_added past) g ≤ 1
-few_added made j past told d m t k g = subst (λ n. n ≤ 1) (sym (k.agrees.counted.once g)) (by_added (is_some (added past g)))
-  where
-    by_added : (b : Bool) → (if b then 1 else 0) ≤ 1
-    by_added true = omega arith
-    by_added false = omega arith
-
 -- the header of a page in its frame is the one that flat memory gives it
 pub header_held : (made : Making) (j : JobView) (past : List Entry) (told : Option (List Call)) (d : Driver) (m : Parts) (t : Turns)
-    (n : ℕ) (header : Header) → KeepsBook made j past told d m t → (page : IsHeaderIn (state_of m) n header)
-    → header_at past page.page ≡ Some header
-header_held made j past told d m t n header k page =
-    header_told past page.page page.enclave page.kind page.perm
-    (sym (enclave_seen k.agrees.follows.shape.columns k.flat page.page.enclave) ∙ page.made)
-    (sym (k.flat.pages page.page)
-    ∙ held_kind past n page.page page.kind page.perm (few_added made j past told d m t k page.page)
-    (sym (content_is k.agrees.follows.shape.columns n) ∙ page.held)) ∙ ap Some (sym page.headed)
+    (g : Page) (header : Header) → KeepsBook made j past told d m t → header_in (state_of m) g ≡ Some header
+    → header_at past g ≡ Some header
+header_held made j past told d m t g header k is = sym (headers_agree (state_of m) past k.agrees.follows.shape.columns k.flat g) ∙ is
 
 -- the record is sealed of its page
 module _ (made : Making) (j : JobView) (past : List Entry) (told : Option (List Call)) (d : Driver) (m m' : Parts) (t : Turns) (e : Entry)
@@ -268,30 +249,32 @@ module _ (made : Making) (j : JobView) (past : List Entry) (told : Option (List 
   abbrev s : State
   s = state_of m
 
-  abbrev page : IsHeaderIn s f.0 out.leaving.header
+  abbrev page : Page
   page = out.leaving.page
 
   abbrev version : ℕ
   version = out.leaving.start.version
 
   abbrev bytes : List ℕ
-  bytes = bytes_of (s.words f.0)
+  bytes = out.leaving.bytes
 
   tagged : (sealed s.key version out.leaving.header bytes).tag ≡ tag j.key version out.leaving.header (cipher s.key version bytes)
   tagged =
       ap (λ key. tag key version out.leaving.header (cipher s.key version bytes))
       (ap (λ (x : Making). x.key) k.agrees.follows.shape.making ∙ keys)
 
-  put_sealed : IsSealedRecord j.key past page.page version rec
+  put_sealed : IsSealedRecord j.key past page version rec
   put_sealed = record {
-    header = header_held made j past told d m t f.0 out.leaving.header k page ∙ ap Some (sym (ap (λ (x : Sealed). x.header) out.sealed));
+    header =
+        header_held made j past told d m t page out.leaving.header k out.leaving.headed
+        ∙ ap Some (sym (ap (λ (x : Sealed). x.header) out.sealed));
     tagged = subst (λ (x : Sealed). x.tag ≡ tag j.key version x.header x.cipher) (sym out.sealed) tagged;
   }
 
 -- .. which its entry tells
 put_tells : (key : List ℕ) (past : List Entry) (gifts : ℕ → Option Sealed) (s t : State) (e : Entry) (f : Frame) (page : Page)
     (rec : Sealed) (failed : Bool) (calls longer : List Call) (out : IsWrittenOut s actors.Reclaimer f e rec t)
-    → longer ≡ Put page rec failed ∷ calls → IsSealedRecord key past out.leaving.page.page out.leaving.start.version rec
+    → longer ≡ Put page rec failed ∷ calls → IsSealedRecord key past out.leaving.page out.leaving.start.version rec
     → TellsRecord key past gifts e.event longer
 put_tells key past gifts s t e f page rec failed calls longer out is sealed =
     subst (λ c. TellsRecord key past gifts e.event c) (sym is)

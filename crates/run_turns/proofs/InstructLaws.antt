@@ -1,22 +1,25 @@
 -- An instruction that is due, and its entry.
-use Rattle.std.proofs.Common.{◌≡◌, ◌+◌, ◌≤◌, ◌<◌, Bool, true, false, if◌then◌else◌, List, ◌∷◌, Option, Some}
+use Rattle.std.proofs.Common.{◌≡◌, ◌+◌, ◌≤◌, ◌<◌, ◌^◌, Bool, true, false, if◌then◌else◌, List, ◌∷◌, Option, Some}
 use Rattle.std.proofs.Common.{None, IfSome, length, vec_len, vec_capacity, inl, inr, refl, sym, ap, subst, ◌∙◌, arith}
 use Rattle.std.specs.Option.{option_map}
 use Rattle.std.proofs.lemmas.Bool.{false≢true}
 use Rattle.sgx_rules.specs.declared.entries.Action.{Action}
-use Rattle.sgx_rules.specs.declared.entries.Action.TheVariants.{Eld}
+use Rattle.sgx_rules.specs.declared.entries.Action.TheVariants.{Eld, EldStart, Epa}
 use Rattle.sgx_types.specs.declared.names.Actor.{Actor}
 use Rattle.sgx_types.specs.declared.names.Actor.TheVariants as actors
 use Rattle.sgx_rules.specs.declared.entries.Entry.{Entry}
 use Rattle.sgx_rules.specs.declared.entries.Event.{Event}
 use Rattle.sgx_rules.specs.declared.entries.Event.TheVariants.{Refused}
-use Rattle.job_grammar.specs.Jobs.{JobView}
+use Rattle.job_grammar.specs.Jobs.{JobView, va_pages}
 use Rattle.turn_rules.specs.Machines.{machine_of}
 use Rattle.turn_rules.specs.Script.{action_of}
 use Rattle.backing_store.specs.Calls.{Call}
 use Rattle.book_laws.specs.inner.Stores.{StoreMoves}
 use Rattle.cached_translations.specs.declared.processor.Mode.{Mode}
-use Rattle.paging_laws.specs.inner.Steps.{CanApply, IsStep}
+use Rattle.paging_laws.specs.inner.Steps.{CanApply, CanMove, IsStep}
+use Rattle.paging_laws.proofs.ColumnLaws.{vas_is}
+use Rattle.driver_laws.proofs.ArrayLaws.{arrays_few}
+use Rattle.sgx_rules.specs.Frames.{vas_made}
 use Rattle.paging_machine.specs.inner.Parts.{Parts, state_of}
 use Rattle.driver_rules.specs.Dues.{Due, IsNext, Makes, Stopped}
 use Rattle.driver_rules.specs.Passes.{pass, pass_after}
@@ -79,6 +82,22 @@ lawful c actor action k = by_actor actor k.due
         let both = cpu_makes (length c.machine.cpus) c.job (past_of c) cpu.0 cpu action due.1 within refl in
         record { can = both.0; plain = both.1.0; other = refl; among = within }
     by_actor actors.Reclaimer due = absurd due
+
+-- it loads no version array page, and makes one only where fewer were made than the job has
+pub can_move : (c : Course) (actor : Actor) (action : Action) → CanInstruct c actor action → CanMove (state_of c.machine) action
+can_move c actor action k = by_action action (lawful c actor action k).plain
+  where
+    few : (state_of c.machine).vas_made < 2 ^ 32
+    few =
+        let book = k.keeps.book in
+        let made = vas_is book.agrees.follows.shape.columns in
+        let low : vas_made (past_of c) ≤ va_pages c.job = arrays_few c.job (past_of c) book.agrees.built in
+        omega (arith, made, low, book.turns.valid.enough_frames, book.turns.valid.few_frames)
+
+    by_action : (x : Action) → is_plain x ≡ true → CanMove (state_of c.machine) x
+    by_action (Epa f) plain = few
+    by_action (EldStart f page slot) plain = absurd (false≢true plain)
+    by_action x plain = tt
 
 -- nothing was used up before an instruction that is due
 going_by : (j : JobView) (past : List Entry) (a : Actor) (action : Action) (due : Due)
@@ -164,7 +183,7 @@ instructed c d' m' actor action e k is carries cpus noted =
     let w = lawful c actor action k in
     let b = k.keeps.book in
     record {
-      next = plain_next made c.job past c.driver d' c.machine m' c.pass.taken.items c.pass.phase actor action e w.other w.plain b.agrees
+      next = plain_next made c.job past c.driver d' c.machine m' c.pass.taken.items c.pass.phase actor action e w.other w.plain b.turns.valid b.agrees
           k.keeps.stands (scripted c m' actor action e k.due is) is carries cpus noted.shows noted.counts;
       own = noted.own;
       enters = enters_apart (length c.machine.cpus) (state_of c.machine) actor action e (state_of m') w.can is;

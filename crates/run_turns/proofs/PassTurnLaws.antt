@@ -19,7 +19,8 @@ use Rattle.sgx_types.specs.declared.names.TheConstants.{LAST_EPOCH}
 use Rattle.sgx_rules.specs.declared.refusals.Refusal.{Refusal}
 use Rattle.sgx_rules.specs.declared.refusals.Refusal.TheVariants as why
 use Rattle.sgx_rules.specs.Epochs.{epoch, epoch_in}
-use Rattle.sgx_rules.specs.Eviction.{block_place, earlier_or, is_drained, keeps_back, kept_back, track_behind}
+use Rattle.sgx_rules.specs.Eviction.{block_place, is_drained, keeps_back, kept_back, track_behind}
+use Rattle.sgx_types.specs.Counts.{earlier_or}
 use Rattle.sgx_rules.specs.Processors.{stay}
 use Rattle.sgx_types.specs.Making.{Making}
 use Rattle.sgx_rules.specs.Slots.{next_version}

@@ -9,8 +9,7 @@ use Rattle.sgx_rules.specs.declared.entries.Entry.{Entry}
 use Rattle.sgx_rules.specs.declared.entries.Event.{Event}
 use Rattle.sgx_rules.specs.declared.entries.Event.TheVariants.{Did}
 use Rattle.sgx_types.specs.declared.record.Header.{Header}
-use Rattle.sgx_rules.specs.Flat.{flat, header_in, words_of}
-use Rattle.sgx_types.specs.Layouts.{bytes_of}
+use Rattle.sgx_rules.specs.PageBytes.{bytes_at, header_at}
 use Rattle.sgx_rules.specs.Rules.{Along}
 use Rattle.sgx_types.specs.Sealed.{Sealed}
 use Rattle.io_edges.specs.declared.plans.PlanLine.{PlanLine}
@@ -40,7 +39,7 @@ has_cipher key version plain (Some header) rec is = let same : sealed key versio
 -- where the records that were put are those of the flat bytes, so was the one of the last entry, and so were those before it
 one_put : (key : List ℕ) (past : List Entry) (actor : Actor) (event : Event) (calls : List Call) → ComesWith event calls
     → SealedRule key past (record { actor = actor; event = event })
-    → made_in past (before event calls) ++ made_more event calls ≡ made_after key event (flat past) (made_by key past)
+    → made_in past (before event calls) ++ made_more event calls ≡ made_after key event past (made_by key past)
     → PutsBytes key past event calls × (made_in past (before event calls) ≡ made_by key past)
 one_put key past actor (Did (Ewb f) (Moved page version tag)) [] c is same = absurd c
 one_put key past actor (Did (Ewb f) (Moved page version tag)) (Room g failed ∷ calls) c is same = absurd c
@@ -49,7 +48,7 @@ one_put key past actor (Did (Ewb f) (Moved page version tag)) (Put g rec failed 
     let both = same_from_push (made_in past calls) (made_by key past) (made_with version rec) (made_with version is.rec)
     (same ∙ ap (λ r. more_made version r (made_by key past)) is.made) in (
       ap (λ one. one.cipher) both.1
-          ∙ has_cipher key version (bytes_of (words_of (flat past) page)) (header_in (flat past) page) is.rec is.made,
+          ∙ has_cipher key version (bytes_at past page) (header_at past page) is.rec is.made,
       both.0,
     )
 one_put key past actor (Did (Ewb f) answer) calls c is same = absurd is

@@ -1,15 +1,16 @@
 -- The turns of the reclaimer, as the book shows them.
-use Rattle.std.proofs.Common.{◌≡◌, ℕ, zero, suc, ◌⊎◌, Bool, true, false, List, Option, Some, None, is_some, Result, Ok}
-use Rattle.std.proofs.Common.{Err, IfOk, OnErr, IfSome, reverse, slice_get, refl, sym, ap, ◌∙◌, inl, inr}
+use Rattle.std.proofs.Common.{◌≡◌, ℕ, zero, suc, Bool, true, false, List, Option, Some, None, is_some, Result, Ok}
+use Rattle.std.proofs.Common.{Err, IfOk, OnErr, IfSome, reverse, slice_get, refl, sym, ap, subst, ◌∙◌, inl, inr}
 use Rattle.std.specs.Option.{IsSomeAnd}
 use Rattle.std.proofs.lemmas.Bool.{false≢true}
 use Rattle.sgx_types.specs.declared.names.Actor.TheVariants as actors
 use Rattle.sgx_types.specs.declared.names.Memory.{Memory}
-use Rattle.sgx_types.specs.declared.names.Kind.{Kind}
 use Rattle.sgx_types.specs.declared.names.Page.{Page}
-use Rattle.sgx_types.specs.declared.names.Perm.{Perm}
-use Rattle.sgx_rules.specs.Flat.{bytes_at, page_words}
-use Rattle.sgx_rules.specs.Frames.{Holds, is_page}
+use Rattle.sgx_rules.specs.Flat.{page_words}
+use Rattle.sgx_rules.specs.PageBytes.{bytes_at}
+use Rattle.sgx_rules.specs.Frames.{is_page, page_there}
+use Rattle.sgx_types.specs.Pages.{is_own_page}
+use Rattle.sgx_rules.proofs.Contents.{IsHeld}
 use Rattle.sgx_types.specs.Layouts.{bytes_of}
 use Rattle.sgx_types.specs.Making.{Making}
 use Rattle.sgx_types.proofs.Pages.{same_page-refl}
@@ -17,7 +18,9 @@ use Rattle.sgx_rules.specs.inner.Starts.{BareStart}
 use Rattle.io_edges.specs.declared.plans.PlanLine.{PlanLine}
 use Rattle.seal_record.specs.declared.seal.SealWork.{SealWork}
 use Rattle.backing_store.specs.Calls.{Call}
-use Rattle.paging_laws.specs.inner.Steps.{SealsPage}
+use Rattle.paging_laws.specs.inner.Steps.{HasBytesOf, SealsPage}
+use Rattle.paging_laws.proofs.OutsideLaws.{own_bytes}
+use Rattle.driver_laws.proofs.RowLaws.{leaves_there}
 use Rattle.paging_laws.proofs.ColumnLaws.{content_is}
 use Rattle.paging_laws.proofs.SlotLaws.{started_as}
 use Rattle.paging_machine.specs.inner.Parts.{state_of}
@@ -51,13 +54,15 @@ seals_seen : (c : Course) (told : Option (List Call)) (spare : ℕ) (work : Seal
     → KeepsCourse c told spare → SealsFor c work → SealsPageOut (view_of c told plans out_of_memory) work
 seals_seen c told spare work plans out_of_memory k = by_phase c.pass.phase
   where
-    bytes_seen : (o : Option (List Call)) (n : ℕ) (g : Page) (kind : Kind) (perm : Perm) (w : SealWork)
-        → (state_of c.machine).content n ≡ Holds g kind perm → w.plain.items ≡ bytes_of ((state_of c.machine).words n)
+    bytes_seen : (o : Option (List Call)) (n : ℕ) (g : Page) (bytes : List ℕ) (w : SealWork) → IsHeld ((state_of c.machine).content n) g
+        → is_own_page g ≡ true → HasBytesOf (state_of c.machine) n ((state_of c.machine).content n) bytes → w.plain.items ≡ bytes
         → IfSome o (KeepsBytes (machine_of c.job) c.job (past_of c) c.machine)
         → IfSome o (λ calls. UnforgedRun c.job.key (past_of c) calls → w.plain.items ≡ bytes_at (past_of c) g)
-    bytes_seen None n g kind perm w held plain keeps = tt
-    bytes_seen (Some calls) n g kind perm w held plain keeps = λ unforged.
-        plain ∙ ap bytes_of (sym (ap page_words ((keeps unforged).standing.stands.memory.words n g kind perm held)))
+    bytes_seen None n g bytes w held own kept plain keeps = tt
+    bytes_seen (Some calls) n g bytes w held own kept plain keeps = λ unforged.
+        plain ∙ (subst (λ x. HasBytesOf (state_of c.machine) n x bytes) held.holds kept).0
+        ∙ ap bytes_of (sym (ap page_words ((keeps unforged).standing.stands.memory.words n g held.kind held.perm held.holds)))
+        ∙ sym (own_bytes (past_of c) g own)
 
     by_one : (o : Option Taken)
         → IsSomeAnd o (λ one. SealsPage (state_of c.machine) one.frame.0 work.key work.version work.header work.plain.items)
@@ -67,17 +72,21 @@ seals_seen c told spare work plans out_of_memory k = by_phase c.pass.phase
         let shape = k.book.agrees.follows.shape in
         let page = s.leaving.page in
         let its = started_as (state_of c.machine) (past_of c) shape.columns one.frame.0 s.leaving.start s.leaving.opened in
+        let there = leaves_there (past_of c) one.frame.0 its.start page k.book.agrees.sound its.opened
+        (ap page_there (sym (content_is shape.columns one.frame.0)) ∙ s.leaving.held) in
         record {
           key = s.key ∙ ap (λ (m : Making). m.key) shape.making;
           frame = one.frame.0;
           start = its.start;
           opened = its.opened;
           version = s.version ∙ sym (ap (λ (y : BareStart). y.version) its.same);
-          page = page.page;
-          held = ap (λ o. is_page o page.page) (sym (content_is shape.columns one.frame.0) ∙ page.held) ∙ same_page-refl page.page;
-          header = header_held (machine_of c.job) c.job (past_of c) told c.driver c.machine c.turns one.frame.0 s.leaving.header k.book page
+          page = page;
+          held = ap (λ o. is_page o page) there.0.holds ∙ same_page-refl page;
+          header = header_held (machine_of c.job) c.job (past_of c) told c.driver c.machine c.turns page s.leaving.header k.book s.leaving.headed
               ∙ ap Some (sym s.header);
-          bytes = bytes_seen told one.frame.0 page.page page.kind page.perm work page.held s.plain k.book.bytes;
+          bytes = bytes_seen told one.frame.0 page s.leaving.bytes work
+              (subst (λ x. IsHeld x page) (sym (content_is shape.columns one.frame.0)) there.0) there.1
+              s.leaving.kept s.plain k.book.bytes;
         }
 
     by_phase : (phase : Phase)

@@ -1,5 +1,5 @@
 -- An epoch or a version is refused only where it is used up.
-use Rattle.std.proofs.Common.{◌≡◌, ◌==◌, ◌^◌, ◌⊎◌, inl, inr, ℕ, Bool, true, false, if◌then◌else◌, refl, sym, subst}
+use Rattle.std.proofs.Common.{◌≡◌, ◌==◌, ◌^◌, inl, inr, ℕ, Bool, true, false, if◌then◌else◌, refl, sym, subst}
 use Rattle.std.proofs.Common.{List, [], ◌∷◌, Option, Some, None, MatchOption, is_some}
 use Rattle.std.proofs.lemmas.Bool.{eqb-true, false≢true}
 use Rattle.sgx_rules.specs.declared.entries.Action.{Action}
@@ -24,7 +24,7 @@ use Rattle.job_grammar.specs.Jobs.{JobView}
 use Rattle.turn_rules.specs.Machines.{machine_of}
 use Rattle.turn_rules.specs.Script.{frame_at}
 use Rattle.version_array.specs.inner.Keeper.{Keeper}
-use Rattle.paging_laws.specs.inner.State.{State, row_of, seat_enclave, sight}
+use Rattle.paging_laws.specs.inner.State.{State, row_of, seat_enclave, secs_sight, sight}
 use Rattle.paging_laws.specs.inner.Steps.{IsDone, IsStep, refused_by}
 use Rattle.driver_rules.specs.Dues.{Due, KicksAll, LooksAt, Makes, TriesOut, Waits}
 use Rattle.driver_rules.specs.Stops.{is_last_refusal, spends}
@@ -73,12 +73,12 @@ calm_row s a (EwbStart f slot) h = absurd (false≢true (sym h))
 calm_row s a (Add enclave number f kind perm init) h = by_enclave (enclave_sight_of (s.enclaves enclave))
   where
     by_enclave : (o : Option EnclaveSight)
-        → is_calm (add_row number kind perm init o (is_some (s.added (page_at enclave number))) (sight s f.0)) ≡ true
+        → is_calm (add_row number kind perm init o (secs_sight s enclave) (is_some (s.added (page_at enclave number))) (sight s f.0)) ≡ true
     by_enclave None = refl
     by_enclave (Some x) = refl
 calm_row s a (Init enclave expect) h = by_enclave (enclave_sight_of (s.enclaves enclave))
   where
-    by_enclave : (o : Option EnclaveSight) → is_calm (init_row o) ≡ true
+    by_enclave : (o : Option EnclaveSight) → is_calm (init_row o (secs_sight s enclave)) ≡ true
     by_enclave None = refl
     by_enclave (Some x) = refl
 calm_row s (actors.Cpu p) (Fill number f) h = by_seat (seat_enclave (s.inside p.0))

@@ -3,3 +3,4 @@ pub mod Kept
 pub mod Table
 pub mod Lending
 pub mod Sights
+pub mod Resident

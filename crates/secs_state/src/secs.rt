@@ -4,14 +4,15 @@ ghost use Rattle.std.specs.Prelude.{◌≡◌, ◌≢◌, ◌+◌, ◌-◌, ◌*
 ghost use Rattle.std.specs.Prelude.{OnSome};
 ghost use Rattle.sgx_types.specs.Lawful.{is_lawful};
 ghost use Rattle.secs_state.specs.inner.Secs.{IsSecs, page_count, created, added_at, is_busy_at, with_init, with_page, with_busy};
-ghost use Rattle.secs_state.specs.inner.Secs.{with_children};
+ghost use Rattle.secs_state.specs.inner.Secs.{with_children, with_frame};
 
-use sgx_types::names::{Kind, Memory, PAGE_BYTES, Perm};
+use sgx_types::names::{Frame, Kind, Memory, PAGE_BYTES, Perm};
 use std::alloc::Global;
 use std::marker::Model;
 
 /// The state of one enclave, as its SECS keeps it (Intel SDM volume 3D, SECS): its range in bytes, which pages were
-/// added with which kind and permissions, which TCS pages are busy, and how many pages are resident.
+/// added with which kind and permissions, which TCS pages are busy, how many pages are resident, and which frame holds the
+/// SECS page itself.
 #[derive(Drop)]
 pub struct Secs {
     enclave: u16,
@@ -22,6 +23,7 @@ pub struct Secs {
     pages: Vec<Option<(Kind, Perm)>>,
     busy: Vec<bool>,
     children: u32,
+    frame: Option<Frame>,
 }
 
 impl Model for Secs {
@@ -51,6 +53,7 @@ impl Secs {
             pages: vec![in alloc; None; count]?,
             busy: vec![in alloc; false; count]?,
             children: 0,
+            frame: None,
         })
     }
 
@@ -143,6 +146,20 @@ impl Secs {
         ensures { result ≡ self.now.children }
     {
         self.children
+    }
+
+    /// The frame that holds the SECS page, None exactly where no valid frame does.
+    pub fn frame(&self) -> Option<Frame>
+        ensures { result ≡ self.now.frame }
+    {
+        self.frame
+    }
+
+    /// Notes which frame holds the SECS page.
+    pub fn set_frame(&mut self, frame: Option<Frame>)
+        ensures { self.new ≡ with_frame self.old frame }
+    {
+        self.frame = frame;
     }
 
     /// Counts a page that became resident.

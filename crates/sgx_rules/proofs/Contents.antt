@@ -1,12 +1,13 @@
 -- What a frame holds, by one of the tests of it.
-use Rattle.std.proofs.Common.{◌≡◌, ◌||◌, Bool, true, false, Some, refl, ap}
+use Rattle.std.proofs.Common.{◌≡◌, ◌||◌, ℕ, Bool, true, false, Option, Some, None, refl, sym, ap, ◌∙◌}
 use Rattle.std.specs.Prelude.{is_some}
 use Rattle.sgx_types.specs.declared.names.Kind.{Kind}
 use Rattle.sgx_types.specs.declared.names.Page.{Page}
 use Rattle.sgx_types.specs.declared.names.Perm.{Perm}
-use Rattle.sgx_rules.specs.Frames.{Content, Free, IsVa, SecsOf, Holds, IsLoading, enclave_in, is_free, is_page}
+use Rattle.sgx_rules.specs.Frames.{Content, Free, IsVa, SecsOf, Holds, IsLoading, enclave_in, is_free, is_page, is_this}
+use Rattle.sgx_rules.specs.Frames.{page_there, stands}
 use Rattle.sgx_rules.specs.Table.{is_loading, is_secs, is_va, is_valid}
-use Rattle.sgx_types.proofs.Pages.{same_pages}
+use Rattle.sgx_types.proofs.Pages.{same_page-refl, same_pages}
 
 -- ---- a page
 
@@ -114,3 +115,42 @@ enclave_no_va Free h = refl
 enclave_no_va (IsVa number) h = cc
 enclave_no_va (SecsOf enclave) h = refl
 enclave_no_va (IsLoading page) h = refl
+
+-- ---- pages of whatever type
+
+-- a page is this one alone
+pub this_alone : (o : Option Page) (a b : Page) → is_this o a ≡ true → is_this o b ≡ true → a ≡ b
+this_alone None a b h k = cc
+this_alone (Some page) a b h k = sym (same_pages page a h) ∙ same_pages page b k
+
+-- a frame holds one page, of whatever type
+pub one_there : (c : Content) (a b : Page) → stands c a ≡ true → stands c b ≡ true → a ≡ b
+one_there c a b h k = this_alone (page_there c) a b h k
+
+-- .. the one that its content names
+pub there_is : (c : Content) (g : Page) → page_there c ≡ Some g → stands c g ≡ true
+there_is c g held = rw held (same_page-refl g)
+
+-- a frame that is not valid holds none
+pub empty_there : (c : Content) → is_valid c ≡ false → (g : Page) → stands c g ≡ false
+empty_there Free none g = refl
+empty_there (IsLoading page) none g = refl
+empty_there (IsVa number) none g = cc
+empty_there (SecsOf enclave) none g = cc
+empty_there (Holds page kind perm) none g = cc
+
+-- a frame that holds a TCS or REG page holds it
+pub own_there : (c : Content) (g : Page) → is_page c g ≡ true → stands c g ≡ true
+own_there (Holds page kind perm) g h = h
+own_there Free g h = cc
+own_there (IsVa number) g h = cc
+own_there (SecsOf enclave) g h = cc
+own_there (IsLoading page) g h = cc
+
+-- a frame that holds a version array page holds one of this number
+pub va_there : (c : Content) → is_va c ≡ true → (k : ℕ) × (c ≡ IsVa k)
+va_there (IsVa k) h = (k, refl)
+va_there Free h = cc
+va_there (SecsOf enclave) h = cc
+va_there (Holds page kind perm) h = cc
+va_there (IsLoading page) h = cc

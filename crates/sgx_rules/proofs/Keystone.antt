@@ -6,14 +6,13 @@ use Rattle.sgx_rules.specs.declared.entries.Entry.{Entry}
 use Rattle.sgx_rules.specs.declared.entries.Event.{Event}
 use Rattle.sgx_rules.specs.declared.entries.Event.TheVariants.{Did}
 use Rattle.sgx_rules.specs.declared.entries.Action.TheVariants.{Track, Block}
-use Rattle.sgx_types.specs.Counts.{count_below}
+use Rattle.sgx_types.specs.Counts.{earlier_or, count_below}
 use Rattle.sgx_rules.specs.Frames.{Before, Content, Put, put_by, made_before, content, enclave_in, held_after, is_put, is_block}
 use Rattle.sgx_rules.specs.Processors.{Move, Enters, Leaves, Keeps, Stay, move_by, is_by, stay, stay_after}
 use Rattle.sgx_rules.specs.Epochs.{epoch, is_track, epoch_in, last_track, is_before, is_in_before}
 use Rattle.sgx_rules.specs.inner.Epochs.{noted, noted_after, block_epoch}
 use Rattle.sgx_rules.specs.Epochs.{older_at}
-use Rattle.sgx_rules.specs.Eviction.{block_place, earlier_or, track_behind, keeps_back, number_kept_back, kept_back}
-use Rattle.sgx_rules.specs.Eviction.{kept_back_from}
+use Rattle.sgx_rules.specs.Eviction.{block_place, track_behind, keeps_back, number_kept_back, kept_back, kept_back_from}
 use Rattle.sgx_rules.specs.Eviction.{is_drained, is_drained_from}
 use Rattle.sgx_rules.specs.inner.ByEpochs.{notes, number_up_to, number_noting, up_to_block, kept_back_by_epochs, passed_block}
 use Rattle.sgx_rules.specs.inner.ByEpochs.{is_drained_by_epochs, IsTrackedBlock, EpochsTellPlaces}

@@ -16,6 +16,7 @@ use Rattle.sgx_types.specs.declared.names.Frame.{Frame}
 use Rattle.sgx_types.specs.declared.names.Kind.TheVariants as kinds
 use Rattle.sgx_types.specs.declared.names.Perm.{Perm}
 use Rattle.sgx_types.specs.declared.names.SlotAt.{SlotAt}
+use Rattle.sgx_types.specs.declared.names.VaSlot.{VaSlot}
 use Rattle.sgx_types.specs.Counts.{any_below, count_below}
 use Rattle.sgx_types.specs.Pages.{page_at}
 use Rattle.sgx_rules.specs.Frames.{Free, IsVa, IsLoading, Holds, content, is_sealing}
@@ -28,8 +29,11 @@ use Rattle.sgx_rules.specs.Starts.{open_start}
 abbrev frame : ℕ → Frame
 frame n = record { 0 = n }
 
-abbrev first_slot : SlotAt
-first_slot = record { frame = frame 0; index = 0 }
+abbrev first_at : SlotAt
+first_at = record { frame = frame 0; index = 0 }
+
+abbrev first_slot : VaSlot
+first_slot = record { va = 0; index = 0 }
 
 abbrev perm : Bool → Perm
 perm b = record { r = b; w = b; x = false }
@@ -101,7 +105,7 @@ newer_one = refl
 
 -- the slot is busy from the start to the commit, which leaves the version in it
 abbrev started : List Entry
-started = did Reclaimer (actions.EwbStart (frame 4) first_slot) (answers.Version 1) ∷ left
+started = did Reclaimer (actions.EwbStart (frame 4) first_at) (answers.Version 1) ∷ left
 
 abbrev out : List Entry
 out = did Reclaimer (actions.Ewb (frame 4)) (answers.Moved (page_at 1 2) 1 []) ∷ started
@@ -128,7 +132,7 @@ next_is_two = refl
 
 -- a reload into another frame; where it is refused the slot keeps its version, and else it is empty
 abbrev loading : List Entry
-loading = did (cpu 0) (actions.EldStart (frame 5) (page_at 1 2) first_slot) (answers.Version 1) ∷ out
+loading = did (cpu 0) (actions.EldStart (frame 5) (page_at 1 2) first_at) (answers.Version 1) ∷ out
 
 abbrev refused : List Entry
 refused = record { actor = cpu 0; event = Refused (actions.Eld (frame 5)) (why.MacFail [] []) } ∷ loading
@@ -153,7 +157,7 @@ not_busy_again = refl
 abbrev two_named : List Entry
 two_named =
     did Reclaimer (actions.Ewb (frame 4)) (answers.Moved (page_at 1 2) 1 [])
-    ∷ did Reclaimer (actions.EwbStart (frame 5) first_slot) (answers.Version 2)
+    ∷ did Reclaimer (actions.EwbStart (frame 5) first_at) (answers.Version 2)
     ∷ started
 
 busy_by_other : is_slot_busy 6 two_named first_slot ≡ true
@@ -167,7 +171,7 @@ not_busy_below = refl
 
 -- a start knows the place of its entry and its actor
 knows_place : open_start two_named 5
-    ≡ Some (record { slot = first_slot; version = 2; loads = None; place = 11; actor = Reclaimer })
+    ≡ Some (record { at = first_at; slot = first_slot; version = 2; loads = None; place = 11; actor = Reclaimer })
 knows_place = refl
 
 emptied : version_in reloaded first_slot ≡ 0

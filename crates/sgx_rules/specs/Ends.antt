@@ -3,21 +3,17 @@ use Rattle.std.specs.Prelude.{ℕ, ◌≡◌, List, Some, None}
 use Rattle.sgx_rules.specs.declared.entries.Answer.{Answer}
 use Rattle.sgx_rules.specs.declared.entries.Answer.TheVariants as answers
 use Rattle.sgx_rules.specs.declared.entries.Entry.{Entry}
-use Rattle.sgx_types.specs.declared.names.Kind.{Kind}
 use Rattle.sgx_types.specs.declared.names.Page.{Page}
-use Rattle.sgx_types.specs.declared.names.Perm.{Perm}
 use Rattle.sgx_rules.specs.declared.refusals.Refusal.{Refusal}
 use Rattle.sgx_rules.specs.declared.refusals.Refusal.TheVariants as why
-use Rattle.sgx_rules.specs.Flat.{header_at}
-use Rattle.sgx_rules.specs.Frames.{Holds, content}
+use Rattle.sgx_rules.specs.Frames.{content, page_there}
+use Rattle.sgx_rules.specs.PageBytes.{header_at}
 use Rattle.sgx_rules.specs.Starts.{Start, open_start}
 
 -- a done `ewb` ends the start of the page that its frame holds, and names that page
 pub record EndsOut (past : List Entry) (n : ℕ) (answer : Answer) : Type 0 where
   pub page : Page
-  pub kind : Kind
-  pub perm : Perm
-  pub held : content past n ≡ Holds page kind perm
+  pub held : page_there (content past n) ≡ Some page
   pub start : Start
   pub opened : open_start past n ≡ Some start
   pub writes : start.loads ≡ None

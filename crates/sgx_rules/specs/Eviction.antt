@@ -3,7 +3,7 @@
 use Rattle.std.specs.Prelude.{ℕ, ◌==◌, ◌&&◌, Bool, false, if◌then◌else◌, List, [], ◌∷◌, Option, Some, None, length}
 use Rattle.std.specs.Prelude.{nat_lt, is_some}
 use Rattle.sgx_rules.specs.declared.entries.Entry.{Entry}
-use Rattle.sgx_types.specs.Counts.{count_below}
+use Rattle.sgx_types.specs.Counts.{count_below, earlier_or}
 use Rattle.sgx_rules.specs.Frames.{put_by, made_before, content, enclave_in, is_put, is_block}
 use Rattle.sgx_rules.specs.Processors.{Stay, stay}
 use Rattle.sgx_rules.specs.Epochs.{is_track, is_in}
@@ -15,11 +15,6 @@ block_place (e ∷ past) n =
     if is_block e.event n then Some (length past)
     else if is_put (put_by e.event (made_before past)) n then None
     else block_place past n
-
--- the place that was found before, else this one where it is one
-abbrev pub earlier_or : Option ℕ → Bool → ℕ → Option ℕ
-earlier_or (Some k) is_one place = Some k
-earlier_or None is_one place = if is_one then Some place else None
 
 -- the place of the first track of an enclave behind a place
 abbrev pub track_behind : List Entry → ℕ → ℕ → Option ℕ

@@ -25,8 +25,8 @@ use Rattle.sgx_types.specs.Pages.{same_page, page_at}
 use Rattle.sgx_rules.specs.Frames.{Content, Free, Holds}
 use Rattle.sgx_types.specs.Layouts.{bytes_of}
 use Rattle.sgx_types.specs.Sealed.{header_of}
-use Rattle.sgx_rules.specs.Table.{Case, allowed, first_of_row, FrameSight, EnclaveSight, EnterSight, TcsSight, fault_of}
-use Rattle.sgx_rules.specs.Table.{create_row}
+use Rattle.sgx_rules.specs.Table.{Case, allowed, first_of_row, FrameSight, EnclaveSight, SecsSight, EnterSight, TcsSight}
+use Rattle.sgx_rules.specs.Table.{fault_of, create_row}
 use Rattle.sgx_rules.specs.Table.{add_row, extend_row, init_row, enter_row, resume_row, exit_row, aex_row, load_row, store_row}
 use Rattle.sgx_rules.specs.Table.{xadd_row}
 use Rattle.sgx_rules.specs.Table.{set_row, plus_row, pf_row, outload_row, outstore_row}
@@ -120,6 +120,10 @@ first_words (inits.Tcs ossa nssa) = slice_set (slice_set (replicate 512 0) 2 (os
 
 abbrev pub open_frame : FrameSight
 open_frame = record { is_beyond = false; content = Free; is_sealing = false; is_blocked = false }
+
+-- a SECS is always there
+abbrev pub settled : SecsSight
+settled = record { is_away = false; is_sealing = false }
 
 -- the frame of some page
 abbrev pub some_page : FrameSight
@@ -245,9 +249,9 @@ flat_cpu_row m p _ = allowed
 abbrev pub flat_build_row : FlatMemory → Action → List Case
 flat_build_row m (Create enclave f base size) = create_row enclave base size (is_some (m.enclaves enclave)) open_frame
 flat_build_row m (Add enclave number f kind perm init) =
-    add_row number kind perm init (enclave_sight m enclave) (is_some (m.pages (page_at enclave number))) open_frame
+    add_row number kind perm init (enclave_sight m enclave) settled (is_some (m.pages (page_at enclave number))) open_frame
 flat_build_row m (Extend f chunk) = extend_row chunk false some_page
-flat_build_row m (Init enclave expect) = init_row (enclave_sight m enclave)
+flat_build_row m (Init enclave expect) = init_row (enclave_sight m enclave) settled
 flat_build_row m _ = allowed
 
 -- flat memory takes an instruction that its row allows, and one of a processor only from a processor from 0 to 15
@@ -393,10 +397,6 @@ header_by (Some enclave) g (Some x) = Some (header_of enclave.base g x.kind x.pe
 abbrev pub header_in : FlatMemory → Page → Option Header
 header_in m g = header_by (m.enclaves g.enclave) g (m.pages g)
 
--- .. before a place
-abbrev pub header_at : List Entry → Page → Option Header
-header_at past g = header_in (flat past) g
-
--- a page's bytes in flat memory before a place
-abbrev pub bytes_at : List Entry → Page → List ℕ
-bytes_at past page = bytes_of (words_of (flat past) page)
+-- a TCS or REG page's bytes in flat memory before a place
+abbrev pub flat_bytes : List Entry → Page → List ℕ
+flat_bytes past page = bytes_of (words_of (flat past) page)

@@ -1,6 +1,7 @@
 -- What the entries before a place say of the EPC's frames. Entries stand newest first: `past` is what was done before.
 use Rattle.std.specs.Prelude.{ℕ, zero, suc, ◌+◌, ◌==◌, ◌&&◌, ◌||◌, not, Bool, true, false, if◌then◌else◌, List, []}
 use Rattle.std.specs.Prelude.{◌∷◌, Option, Some, None}
+use Rattle.sgx_types.specs.Counts.{count_below, least_below}
 use Rattle.sgx_rules.specs.declared.entries.Entry.{Entry}
 use Rattle.sgx_rules.specs.declared.entries.Event.{Event}
 use Rattle.sgx_rules.specs.declared.entries.Event.TheVariants.{Did, Refused}
@@ -9,7 +10,7 @@ use Rattle.sgx_rules.specs.declared.entries.Answer.TheVariants.{Moved}
 use Rattle.sgx_types.specs.declared.names.Page.{Page}
 use Rattle.sgx_types.specs.declared.names.Kind.{Kind}
 use Rattle.sgx_types.specs.declared.names.Perm.{Perm}
-use Rattle.sgx_types.specs.Pages.{same_page, page_at}
+use Rattle.sgx_types.specs.Pages.{is_own_page, is_secs_page, is_va_page, page_at, same_page, secs_page, va_page}
 
 -- what a frame holds: nothing, a version array page by its number (the first one made has 0), an enclave's SECS, a TCS or REG page
 -- as it was added, or nothing yet but the page that it waits for
@@ -52,11 +53,16 @@ pub record Put : Type 0 where
   pub frame : ℕ
   pub content : Content
 
--- a page that is back. One that was never added has no kind, and its frame goes on waiting for it: no list that keeps the rule
--- Refusal has such a reload, since a load starts only for a page that was added
+-- a TCS or REG page that is back. One that was never added has no kind, and its frame goes on waiting for it: no list that keeps
+-- the rule Refusal has such a reload, since a load starts only for a page that was added
+abbrev pub reloaded_as : Page → Option (Kind × Perm) → Content
+reloaded_as page None = IsLoading page
+reloaded_as page (Some k) = Holds page k.0 k.1
+
+-- a page that is back: a version array page by its number, the SECS of its enclave, or a page with its kind and permissions
 abbrev pub reloaded : Page → Option (Kind × Perm) → Content
-reloaded page None = IsLoading page
-reloaded page (Some k) = Holds page k.0 k.1
+reloaded page kind =
+    if is_va_page page then IsVa page.number else if is_secs_page page then SecsOf page.enclave else reloaded_as page kind
 
 -- the frame whose content an event puts or takes
 abbrev pub put_by : Event → Before → Option Put
@@ -120,6 +126,44 @@ abbrev pub is_page : Content → Page → Bool
 is_page (Holds page kind perm) g = same_page page g
 is_page _ g = false
 
+-- the page that a frame holds, of whatever type
+abbrev pub page_there : Content → Option Page
+page_there Free = None
+page_there (IsVa number) = Some (va_page number)
+page_there (SecsOf enclave) = Some (secs_page enclave)
+page_there (Holds page kind perm) = Some page
+page_there (IsLoading page) = None
+
+abbrev pub is_this : Option Page → Page → Bool
+is_this None g = false
+is_this (Some page) g = same_page page g
+
+-- the frame holds this page, of whatever type
+abbrev pub stands : Content → Page → Bool
+stands c g = is_this (page_there c) g
+
+-- ---- an enclave's SECS and its resident pages
+
+abbrev pub is_secs_of : Content → ℕ → Bool
+is_secs_of (SecsOf enclave) e = enclave == e
+is_secs_of _ e = false
+
+-- the frame that holds an enclave's SECS, the least one where it stands in two
+abbrev pub secs_frame : ℕ → (ℕ → Content) → ℕ → Option ℕ
+secs_frame frames held e = least_below (λ n. is_secs_of (held n) e) frames
+
+-- a TCS or REG page of the enclave is in the frame, or comes into it
+abbrev pub is_child : Content → ℕ → Bool
+is_child (Holds page kind perm) e = page.enclave == e
+is_child (IsLoading page) e = is_own_page page && (page.enclave == e)
+is_child _ e = false
+
+-- how many of so many frames hold or load a TCS or REG page of an enclave
+abbrev pub children : ℕ → (ℕ → Content) → ℕ → ℕ
+children frames held e = count_below (λ n. is_child (held n) e) frames
+
+-- ---- free frames
+
 abbrev pub is_free : Content → Bool
 is_free Free = true
 is_free _ = false
@@ -132,6 +176,15 @@ free_from held n (suc count) = if is_free (held n) then Some n else free_from he
 -- the least free frame of an EPC with so many
 abbrev pub least_free : ℕ → (ℕ → Content) → Option ℕ
 least_free frames held = free_from held 0 frames
+
+abbrev pub comes_back : Event → ℕ → Bool
+comes_back (Did (Eld f) (Moved page version tag)) number = same_page page (va_page number)
+comes_back _ number = false
+
+-- a version array page of this number was reloaded
+abbrev pub came_back : List Entry → ℕ → Bool
+came_back [] number = false
+came_back (e ∷ past) number = comes_back e.event number || came_back past number
 
 abbrev pub frame_after : Event → Page → Option ℕ → Option ℕ
 frame_after (Did (Add enclave number f kind perm init) answer) g before = if same_page (page_at enclave number) g then Some f.0 else before

@@ -10,4 +10,5 @@ pub mod Slots
 pub mod Starts
 pub mod Ends
 pub mod Fresh
+pub mod PageBytes
 pub mod inner

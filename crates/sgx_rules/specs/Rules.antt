@@ -21,12 +21,12 @@ use Rattle.sgx_rules.specs.declared.refusals.Refusal.{Refusal}
 use Rattle.sgx_rules.specs.declared.refusals.Refusal.TheVariants as why
 use Rattle.sgx_rules.specs.Ends.{EndsOut, IsBack, IsNotBack}
 use Rattle.sgx_types.specs.Pages.{page_at}
-use Rattle.sgx_rules.specs.Frames.{Content, Free, IsVa, SecsOf, Holds, IsLoading, content, is_sealing, is_page, vas_made}
+use Rattle.sgx_rules.specs.Frames.{Content, Free, SecsOf, Holds, content, is_child, is_sealing, is_page, stands, vas_made}
 use Rattle.sgx_types.specs.Making.{Making}
 use Rattle.sgx_rules.specs.Processors.{Stay, stay, BareTranslation, holds_number, translations}
 use Rattle.sgx_rules.specs.Table.{first_of_row}
 use Rattle.sgx_rules.specs.Eviction.{is_drained}
-use Rattle.sgx_rules.specs.Slots.{next_version, version_in}
+use Rattle.sgx_rules.specs.Slots.{next_version, version_at}
 use Rattle.sgx_rules.specs.Starts.{Start, open_start}
 use Rattle.sgx_rules.specs.Flat.{FlatMemory, flat, accepts, flat_answer, is_visible}
 use Rattle.sgx_rules.specs.Sights.{row_at}
@@ -68,7 +68,7 @@ HasForm past (Block f) answer = answer ≡ answers.Plain
 HasForm past (Track enclave) answer = answer ≡ answers.Plain
 HasForm past (EwbStart f slot) answer = (version : ℕ) × (answer ≡ answers.Version version)
 HasForm past (Ewb f) answer = EndsOut past f.0 answer
-HasForm past (EldStart f page slot) answer = answer ≡ answers.Version (version_in past slot)
+HasForm past (EldStart f page slot) answer = answer ≡ answers.Version (version_at past slot)
 HasForm past (Eld f) answer = IsBack past f.0 answer
 
 -- whether an expected digest differs only the measurement can tell
@@ -140,9 +140,9 @@ FitsRule frames past e = by_event e.event
     by_event (Did action answer) = NamesFrames frames action × TakesFree past action
     by_event _ = Unit {0}
 
--- no page stands in two frames
+-- no page stands in two frames, of whatever type
 abbrev pub NoPageTwice : List Entry → Type 0
-NoPageTwice past = (m n : ℕ) (g : Page) → is_page (content past m) g ≡ true → is_page (content past n) g ≡ true → m ≡ n
+NoPageTwice past = (m n : ℕ) (g : Page) → stands (content past m) g ≡ true → stands (content past n) g ≡ true → m ≡ n
 
 pub record Fits (frames : ℕ) (past : List Entry) : Type 0 where
   pub entries : Along (FitsRule frames) past
@@ -197,13 +197,12 @@ pub record EndsWriteOut (o : Option Start) (version : ℕ) : Type 0 where
   pub writes : start.loads ≡ None
   pub told : start.version ≡ version
 
--- what may start to go out of a frame, by what the frame holds: a TCS or REG page that is drained, and nothing else
+-- what may start to go out of a frame: a TCS or REG page that is drained, and a SECS while no frame holds or loads such a page of its
+-- enclave. Of what else a frame holds this rule says nothing
 abbrev pub GoesOut : List Entry → ℕ → Content → Type 0
-GoesOut past n Free = ⊥
-GoesOut past n (IsVa number) = ⊥
-GoesOut past n (SecsOf enclave) = ⊥
 GoesOut past n (Holds page kind perm) = is_drained past n ≡ true
-GoesOut past n (IsLoading page) = ⊥
+GoesOut past n (SecsOf enclave) = (m : ℕ) → is_child (content past m) enclave ≡ false
+GoesOut past n _ = Unit {0}
 
 -- a page that starts to go out is drained, and what ends is the one open start of its frame, with the version of it
 abbrev pub EvictRule : List Entry → Entry → Type 0

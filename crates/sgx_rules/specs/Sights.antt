@@ -1,5 +1,5 @@
 -- What the rows of the instruction table see, read from the entries before a place, and by it the row of each instruction.
-use Rattle.std.specs.Prelude.{ℕ, ◌==◌, ◌/◌, ◌^◌, Bool, false, if◌then◌else◌, List, Option, Some, None, nat_le, nat_lt}
+use Rattle.std.specs.Prelude.{ℕ, ◌==◌, ◌/◌, ◌^◌, ◌&&◌, Bool, true, false, if◌then◌else◌, List, Option, Some, None, nat_le, nat_lt}
 use Rattle.std.specs.Prelude.{is_some}
 use Rattle.sgx_rules.specs.declared.entries.Entry.{Entry}
 use Rattle.sgx_types.specs.declared.names.Actor.{Actor}
@@ -12,23 +12,27 @@ use Rattle.sgx_rules.specs.declared.entries.Action.TheVariants.{Ewb}
 use Rattle.sgx_rules.specs.declared.entries.Action.TheVariants.{EldStart, Eld}
 use Rattle.sgx_types.specs.declared.names.Kind.{Kind}
 use Rattle.sgx_types.specs.declared.names.Perm.{Perm}
+use Rattle.sgx_types.specs.declared.names.Page.{Page}
 use Rattle.sgx_types.specs.declared.names.SlotAt.{SlotAt}
 use Rattle.sgx_types.specs.declared.names.TheConstants.{LAST_EPOCH}
 use Rattle.sgx_rules.specs.Epochs.{epoch, epoch_in, older_at}
 use Rattle.sgx_rules.specs.Eviction.{is_drained, kept_back}
-use Rattle.sgx_types.specs.Pages.{page_at}
-use Rattle.sgx_rules.specs.Frames.{content, enclave_in, is_sealing, is_blocked}
+use Rattle.sgx_types.specs.Pages.{is_own_page, is_va_page}
+use Rattle.sgx_rules.specs.Frames.{Content, SecsOf, IsVa, children, content, enclave_in, is_sealing, is_blocked}
+use Rattle.sgx_types.specs.Pages.{is_secs_page, page_at}
+use Rattle.sgx_rules.specs.Frames.{secs_frame, vas_made}
 use Rattle.sgx_types.specs.Making.{Making}
 use Rattle.sgx_rules.specs.Processors.{Seat, Stay, stay, holds_number, translations}
-use Rattle.sgx_rules.specs.Slots.{is_slot_busy, next_version, version_in}
+use Rattle.sgx_rules.specs.Slots.{is_busy_at, is_va_in_use, next_version, version_at}
 use Rattle.sgx_rules.specs.Table.{Case, allowed, FrameSight, EnterSight, TrackSight, SlotSight, DrainSight, is_ready, epa_row}
 use Rattle.sgx_rules.specs.Table.{create_row}
+use Rattle.sgx_rules.specs.Table.{LoadSight, SecsSight, UseSight, is_made}
 use Rattle.sgx_rules.specs.Table.{add_row, extend_row, init_row, enter_row, resume_row, exit_row, aex_row, fill_row, load_row}
 use Rattle.sgx_rules.specs.Table.{store_row}
 use Rattle.sgx_rules.specs.Table.{xadd_row, set_row, plus_row, pf_row, outload_row, outstore_row, block_row, track_row}
 use Rattle.sgx_rules.specs.Table.{ewbstart_row}
 use Rattle.sgx_rules.specs.Table.{eldstart_row}
-use Rattle.sgx_rules.specs.Flat.{FlatMemory, FlatPage, flat, added_as, enclave_sight, fields_in}
+use Rattle.sgx_rules.specs.Flat.{FlatMemory, FlatPage, flat, added_as, enclave_sight, fields_in, settled}
 
 -- ---- frames and enclaves
 
@@ -40,6 +44,15 @@ sight_at frames past n = record {
   is_sealing = is_sealing past n;
   is_blocked = is_blocked past n;
 }
+
+-- an enclave's SECS by the frame that holds it, and by which frames are on their way out
+abbrev pub secs_seen : (ℕ → Bool) → Option ℕ → SecsSight
+secs_seen sealing None = record { is_away = true; is_sealing = false }
+secs_seen sealing (Some n) = record { is_away = false; is_sealing = sealing n }
+
+-- an enclave's SECS in one of so many frames
+abbrev pub secs_sight_at : ℕ → List Entry → ℕ → SecsSight
+secs_sight_at frames past enclave = secs_seen (is_sealing past) (secs_frame frames (content past) enclave)
 
 -- whether the enclave of the page in a frame is initialised
 abbrev pub is_closed : FlatMemory → Option ℕ → Bool
@@ -98,9 +111,10 @@ seat_of enclave tcs tf sf = record { enclave = enclave; tcs = tcs; tcs_frame = t
 -- ---- tracking and slots
 
 -- an enclave's tracking, where epochs count from the first
-abbrev pub track_sight_at : ℕ → List Entry → ℕ → TrackSight
-track_sight_at first past enclave = record {
+abbrev pub track_sight_at : ℕ → ℕ → List Entry → ℕ → TrackSight
+track_sight_at frames first past enclave = record {
   enclave = enclave_sight (flat past) enclave;
+  secs = secs_sight_at frames past enclave;
   older = older_at past enclave;
   is_spent = epoch first past enclave == LAST_EPOCH;
 }
@@ -109,8 +123,39 @@ abbrev pub slot_sight_at : ℕ → List Entry → SlotAt → SlotSight
 slot_sight_at frames past slot = record {
   frame = sight_at frames past slot.frame.0;
   is_beyond = nat_lt 511 slot.index;
-  is_busy = is_slot_busy frames past slot;
-  version = version_in past slot;
+  is_busy = is_busy_at frames past slot;
+  version = version_at past slot;
+}
+
+-- whether a slot of what a frame holds is busy, which only a version array page has
+abbrev pub is_in_use : ℕ → List Entry → Content → Bool
+is_in_use frames past (IsVa number) = is_va_in_use frames past number
+is_in_use frames past _ = false
+
+-- how many frames hold or load pages under what a frame holds, which only a SECS has
+abbrev pub children_under : ℕ → (ℕ → Content) → Content → ℕ
+children_under frames held (SecsOf enclave) = children frames held enclave
+children_under frames held _ = 0
+
+abbrev pub use_sight_at : ℕ → List Entry → ℕ → SlotAt → UseSight
+use_sight_at frames past n slot = record {
+  is_in_use = is_in_use frames past (content past n);
+  is_its_own = n == slot.frame.0;
+  children = children_under frames (content past) (content past n);
+}
+
+-- whether there is such a page: a version array page that was made, the SECS of an enclave that was created, or a page that was
+-- added to one
+abbrev pub is_known : FlatMemory → ℕ → Page → Bool
+is_known m vas g =
+    if is_va_page g then nat_lt g.number vas
+    else if is_secs_page g then is_made (enclave_sight m g.enclave)
+    else is_made (enclave_sight m g.enclave) && is_some (m.pages g)
+
+abbrev pub load_sight_at : ℕ → List Entry → Page → LoadSight
+load_sight_at frames past g = record {
+  is_known = is_known (flat past) (vas_made past) g;
+  secs = if is_own_page g then secs_sight_at frames past g.enclave else settled;
 }
 
 -- the tracking of the page in a frame, seen from its block
@@ -129,11 +174,11 @@ row_at k past actor (Epa f) = epa_row (sight_at k.frames past f.0)
 row_at k past actor (Create enclave f base size) =
     create_row enclave base size (is_some ((flat past).enclaves enclave)) (sight_at k.frames past f.0)
 row_at k past actor (Add enclave number f kind perm init) =
-    add_row number kind perm init (enclave_sight (flat past) enclave) (is_some ((flat past).pages (page_at enclave number)))
-    (sight_at k.frames past f.0)
+    add_row number kind perm init (enclave_sight (flat past) enclave) (secs_sight_at k.frames past enclave)
+    (is_some ((flat past).pages (page_at enclave number))) (sight_at k.frames past f.0)
 row_at k past actor (Extend f chunk) =
     extend_row chunk (is_closed (flat past) (enclave_in (content past f.0))) (sight_at k.frames past f.0)
-row_at k past actor (Init enclave expect) = init_row (enclave_sight (flat past) enclave)
+row_at k past actor (Init enclave expect) = init_row (enclave_sight (flat past) enclave) (secs_sight_at k.frames past enclave)
 row_at k past actor (Enter enclave tcs tf sf) =
     enter_row enclave tcs (enter_sight_at k.frames past (stay_of past actor) (seat_of enclave tcs tf.0 sf.0))
 row_at k past actor (Resume enclave tcs tf sf) =
@@ -150,12 +195,11 @@ row_at k past actor (Pf op off) = pf_row op off (is_some (stay_of past actor)) (
 row_at k past actor (OutLoad enclave off) = outload_row (is_some (stay_of past actor))
 row_at k past actor (OutStore enclave off value) = outstore_row (is_some (stay_of past actor))
 row_at k past actor (Block f) = block_row (sight_at k.frames past f.0)
-row_at k past actor (Track enclave) = track_row (track_sight_at k.first_epoch past enclave)
+row_at k past actor (Track enclave) = track_row (track_sight_at k.frames k.first_epoch past enclave)
 row_at k past actor (EwbStart f slot) =
-    ewbstart_row (sight_at k.frames past f.0) (slot_sight_at k.frames past slot) (drain_sight_at k.first_epoch past f.0)
-    (next_version k.first_version past == 2 ^ 64)
+    ewbstart_row (sight_at k.frames past f.0) (use_sight_at k.frames past f.0 slot) (slot_sight_at k.frames past slot)
+    (drain_sight_at k.first_epoch past f.0) (next_version k.first_version past == 2 ^ 64)
 row_at k past actor (Ewb f) = allowed
 row_at k past actor (EldStart f page slot) =
-    eldstart_row (sight_at k.frames past f.0) (enclave_sight (flat past) page.enclave) (is_some ((flat past).pages page))
-    (slot_sight_at k.frames past slot)
+    eldstart_row (sight_at k.frames past f.0) (load_sight_at k.frames past page) (slot_sight_at k.frames past slot)
 row_at k past actor (Eld f) = allowed

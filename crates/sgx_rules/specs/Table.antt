@@ -115,13 +115,20 @@ pub record EnclaveSight : Type 0 where
   pub size : ℕ
   pub is_init : Bool
 
-abbrev pub add_row : ℕ → Kind → Perm → PageInit → Option EnclaveSight → Bool → FrameSight → List Case
-add_row number kind perm init None is_added s =
+-- what is seen of an enclave's SECS: that no frame holds it, or that it is on its way out of its frame
+pub record SecsSight : Type 0 where
+  pub is_away : Bool
+  pub is_sealing : Bool
+
+abbrev pub add_row : ℕ → Kind → Perm → PageInit → Option EnclaveSight → SecsSight → Bool → FrameSight → List Case
+add_row number kind perm init None secs is_added s =
     when s.is_beyond why.BadRange
     otherwise when true why.Absent
     otherwise allowed
-add_row number kind perm init (Some enclave) is_added s =
+add_row number kind perm init (Some enclave) secs is_added s =
     when s.is_beyond why.BadRange
+    otherwise when secs.is_away why.Absent
+    otherwise when secs.is_sealing why.Conflict
     otherwise when enclave.is_init why.IsInit
     otherwise when (not (is_addable kind init)) why.BadKind
     otherwise when (not (is_lawful_perm kind perm)) why.BadPerm
@@ -142,9 +149,13 @@ extend_row chunk is_init s =
     otherwise allowed
 
 -- without the measurement, which is compared last
-abbrev pub init_row : Option EnclaveSight → List Case
-init_row None = when true why.Absent otherwise allowed
-init_row (Some enclave) = when enclave.is_init why.IsInit otherwise allowed
+abbrev pub init_row : Option EnclaveSight → SecsSight → List Case
+init_row None secs = when true why.Absent otherwise allowed
+init_row (Some enclave) secs =
+    when secs.is_away why.Absent
+    otherwise when secs.is_sealing why.Conflict
+    otherwise when enclave.is_init why.IsInit
+    otherwise allowed
 
 -- ---- entry and exit
 
@@ -312,20 +323,23 @@ block_row s =
     otherwise when s.is_blocked why.BlkState
     otherwise allowed
 
--- what `track` sees of its enclave: how many processors inside have an older epoch, and whether the epoch is the last
+-- what `track` sees of its enclave and of the enclave's SECS: how many processors inside have an older epoch, and whether the epoch is the last
 pub record TrackSight : Type 0 where
   pub enclave : Option EnclaveSight
+  pub secs : SecsSight
   pub older : ℕ
   pub is_spent : Bool
 
 abbrev pub track_row : TrackSight → List Case
 track_row s =
     when (not (is_made s.enclave)) why.Absent
+    otherwise when s.secs.is_away why.Absent
+    otherwise when s.secs.is_sealing why.Conflict
     otherwise when (not (s.older == 0)) (why.PrevTrk s.older)
     otherwise when s.is_spent why.EpochSpent
     otherwise allowed
 
--- what is seen of a slot: its frame, whether an EWB or ELDU that has started names it, and the version in it
+-- what is seen of a slot: its frame, whether it is busy, and the version in it
 pub record SlotSight : Type 0 where
   pub frame : FrameSight
   pub is_beyond : Bool
@@ -336,6 +350,11 @@ pub record SlotSight : Type 0 where
 abbrev pub is_out_of_range : FrameSight → SlotSight → Bool
 is_out_of_range s slot = s.is_beyond || slot.frame.is_beyond || slot.is_beyond
 
+-- a TCS or REG page is in the frame
+abbrev pub is_own : Content → Bool
+is_own (Holds page kind perm) = true
+is_own _ = false
+
 -- what is seen of the tracking of the page in a frame: the enclave's epoch, how many processors inside have an epoch at
 -- or below the block's, and whether none of its translations can be left
 pub record DrainSight : Type 0 where
@@ -343,25 +362,39 @@ pub record DrainSight : Type 0 where
   pub kept_back : ℕ
   pub is_drained : Bool
 
+-- what is seen of the uses of what a frame holds. Of a version array page: whether one of its slots is busy, and whether the slot
+-- that is to take its version is its own. Of a SECS: how many frames hold or load a TCS or REG page of its enclave
+pub record UseSight : Type 0 where
+  pub is_in_use : Bool
+  pub is_its_own : Bool
+  pub children : ℕ
+
 -- the start of EWB, by whether the last version was drawn
-abbrev pub ewbstart_row : FrameSight → SlotSight → DrainSight → Bool → List Case
-ewbstart_row s slot drain is_spent =
+abbrev pub ewbstart_row : FrameSight → UseSight → SlotSight → DrainSight → Bool → List Case
+ewbstart_row s uses slot drain is_spent =
     when (is_out_of_range s slot) why.BadRange
-    otherwise when (is_busy s || slot.is_busy) why.Conflict
+    otherwise when (is_busy s || slot.is_busy || uses.is_in_use) why.Conflict
     otherwise when (is_free s.content) why.PgInvld
-    otherwise when (is_secs s.content || is_va s.content || not (is_va slot.frame.content)) why.BadKind
-    otherwise when (not s.is_blocked) why.PageNotBlocked
-    otherwise when (not drain.is_drained) (why.NotTracked drain.epoch drain.kept_back)
+    otherwise when (not (is_va slot.frame.content) || uses.is_its_own) why.BadKind
+    otherwise when (not (uses.children == 0)) (why.ChildPresent uses.children)
+    otherwise when (is_own s.content && not s.is_blocked) why.PageNotBlocked
+    otherwise when (is_own s.content && not drain.is_drained) (why.NotTracked drain.epoch drain.kept_back)
     otherwise when (not (slot.version == 0)) (why.SlotOccupied slot.version)
     otherwise when is_spent why.VersionSpent
     otherwise allowed
 
--- the start of ELDU, by the page's enclave and whether the page was added
-abbrev pub eldstart_row : FrameSight → Option EnclaveSight → Bool → SlotSight → List Case
-eldstart_row s enclave is_added slot =
+-- what is seen of a page that is to be loaded: whether there is one of this name, and for a TCS or REG page the SECS of its enclave
+pub record LoadSight : Type 0 where
+  pub is_known : Bool
+  pub secs : SecsSight
+
+-- the start of ELDU
+abbrev pub eldstart_row : FrameSight → LoadSight → SlotSight → List Case
+eldstart_row s page slot =
     when (is_out_of_range s slot) why.BadRange
-    otherwise when (not (is_made enclave)) why.Absent
-    otherwise when (not is_added) why.Absent
+    otherwise when (not page.is_known) why.Absent
+    otherwise when page.secs.is_away why.Absent
+    otherwise when page.secs.is_sealing why.Conflict
     otherwise when (is_busy s || slot.is_busy) why.Conflict
     otherwise when (is_valid s.content) why.FrameBusy
     otherwise when (not (is_va slot.frame.content)) why.BadKind

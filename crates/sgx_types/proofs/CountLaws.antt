@@ -4,7 +4,7 @@ use Rattle.std.proofs.Common.{subst, ◌∙◌}
 use Rattle.std.proofs.Common.{◌⊎◌, inl, inr, ⊎_elim, arith}
 use Rattle.std.proofs.lemmas.Bool.{cases_lt, eq-eqb, eqb-true, eqb-false, false≢true}
 use Rattle.sgx_types.specs.Counts.{any_below, count_below}
-use Rattle.sgx_types.proofs.Truths.{tested}
+use Rattle.sgx_types.proofs.Truths.{apart, tested}
 
 -- 1 where a test passes, and else 0
 abbrev pub one_if : Bool → ℕ
@@ -173,3 +173,25 @@ pub any_below-agrees : (p q : ℕ → Bool) → ((k : ℕ) → p k ≡ q k) → 
 unfolding any_below
 any_below-agrees p q h zero = refl
 any_below-agrees p q h (suc n) = rw (h n) (rw (any_below-agrees p q h n))
+
+-- one number's test is changed
+pub count_below-put : (test : ℕ → Bool) (n f : ℕ) (b : Bool) → f < n
+    → count_below (λ k. cond (f == k) b (test k)) n + one_if (test f) ≡ count_below test n + one_if b
+unfolding count_below
+count_below-put test zero f b low = absurd (omega (arith, low))
+count_below-put test (suc n) f b low = by_place (f == n) refl (count_below-put test n f b)
+  where
+    by_place : (here : Bool) → (f == n) ≡ here
+        → (f < n → count_below (λ k. cond (f == k) b (test k)) n + one_if (test f) ≡ count_below test n + one_if b)
+        → (cond (cond (f == n) b (test n)) 1 0 + count_below (λ k. cond (f == k) b (test k)) n) + one_if (test f)
+        ≡ (cond (test n) 1 0 + count_below test n) + one_if b
+    by_place true here before =
+        let place : f ≡ n = eqb-true f n here in
+        let rest : count_below (λ k. cond (f == k) b (test k)) n ≡ count_below test n =
+        count_below-same (λ k. cond (f == k) b (test k)) test n
+        (λ k less. rw (apart f k (λ same. omega (arith, less, place, same))) refl) in
+        rw (here, rest, place) (omega arith)
+    by_place false other before =
+        let less : f < n = omega (arith, low, eqb-false f n other) in
+        let more = before less in
+        rw other (omega (arith, more))

@@ -2,4 +2,5 @@ pub mod Chunks
 pub mod CountLaws
 pub mod Pages
 pub mod Records
+pub mod LeastLaws
 pub mod Truths

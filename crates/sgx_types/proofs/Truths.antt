@@ -13,6 +13,16 @@ pub neither : (a b : Bool) → (a || b) ≡ false → (a ≡ false) × (b ≡ fa
 neither true b h = cc
 neither false b h = (refl, h)
 
+-- where one of two or the other is true, one is
+pub either : (a b : Bool) → (a || b) ≡ true → (a ≡ true) ⊎ (b ≡ true)
+either true b h = inl refl
+either false b h = inr h
+
+-- .. and it is so where the first is
+pub left_true : (a b : Bool) → a ≡ true → (a || b) ≡ true
+left_true true b h = refl
+left_true false b h = cc
+
 -- what is not untrue is true
 pub not_false : (b : Bool) → not b ≡ false → b ≡ true
 not_false true h = refl

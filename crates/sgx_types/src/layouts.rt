@@ -50,8 +50,8 @@ pub fn read_tcs(bytes: &[u8]) -> Result<TcsFields, BadLength>
     })
 }
 
-// The number that 8 bytes make.
-pub(crate) fn long_at(bytes: &[u8], index: usize) -> u64
+/// The number that 8 bytes make, the low byte first, by how many such numbers stand before it.
+pub fn long_at(bytes: &[u8], index: usize) -> u64
     requires { 8 * (index + 1) ≤ length bytes.now }
     ensures { result ≡ long_at bytes.now (8 * index) }
 {

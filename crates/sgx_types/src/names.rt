@@ -6,6 +6,9 @@ use std::alloc::{AllocError, AllocFailed};
 #[derive(Clone, Copy, Debug, PartialEq, Eq)]
 pub struct Frame(pub u32);
 
+/// An EPC has at most so many frames (this project's own).
+pub const MOST_FRAMES: u32 = 4096;
+
 /// The bytes of a page, and of a frame.
 pub const PAGE_BYTES: u64 = 4096;
 
@@ -43,8 +46,12 @@ impl<T: Drop> From<AllocFailed<T>> for Memory {
     }
 }
 
-/// A page of an enclave: the enclave's number from 1, and the page's offset from the enclave's base in pages of 4096
-/// bytes.
+/// The number of an enclave's SECS among the enclave's pages: 2^32 - 1, which no other page has (this project's own).
+pub const SECS_NUMBER: u32 = u32::MAX;
+
+/// A page that can leave the EPC. Of an enclave: the enclave's number from 1, and the page's offset from the enclave's base in
+/// pages of 4096 bytes, or `SECS_NUMBER` for its SECS. A version array page has enclave 0 and its number, from 0 in the order
+/// in which they were made.
 #[derive(Clone, Copy, Debug, PartialEq, Eq)]
 pub struct Page {
     pub enclave: u16,
@@ -77,9 +84,16 @@ pub enum Kind {
     Va,
 }
 
-/// A slot of a version array page: the frame that holds the page, and the slot's index from 0 to 511.
+/// Where an instruction finds a slot of a version array page: the frame that holds the page, and the slot's index from 0 to 511.
 #[derive(Clone, Copy, Debug, PartialEq, Eq)]
 pub struct SlotAt {
     pub frame: Frame,
+    pub index: u16,
+}
+
+/// A slot of a version array page, wherever the page is: the page's number, and the slot's index from 0 to 511.
+#[derive(Clone, Copy, Debug, PartialEq, Eq)]
+pub struct VaSlot {
+    pub va: u32,
     pub index: u16,
 }

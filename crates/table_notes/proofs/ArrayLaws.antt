@@ -1,11 +1,11 @@
 -- The version array pages that the keeper has, one entry longer.
-use Rattle.std.proofs.Common.{◌≡◌, ℕ, zero, suc, ◌+◌, ◌<◌, ◌≤◌, ◌||◌, not, Bool, true, false, if◌then◌else◌}
-use Rattle.std.proofs.Common.{List, [], ◌∷◌, Option, Some, None, length, nat_le, replicate, slice_get, take, refl, sym, ap, subst}
+use Rattle.std.proofs.Common.{◌≡◌, ℕ, zero, suc, ◌+◌, ◌<◌, ◌≤◌, ◌==◌, ◌&&◌, ◌||◌, not, Bool, true, false, if◌then◌else◌}
+use Rattle.std.proofs.Common.{List, [], ◌∷◌, Option, Some, None, length, get_or, nat_le, replicate, slice_get, take, refl, sym, ap, subst}
 use Rattle.std.proofs.Common.{◌∙◌, arith}
 use Rattle.std.specs.List.{count_by}
-use Rattle.std.proofs.lemmas.Bool.{false≢true}
+use Rattle.std.proofs.lemmas.Bool.{eqb-true, false≢true}
 use Rattle.std.proofs.lemmas.List.{length-replicate, length-take}
-use Rattle.std.proofs.lemmas.List.Sums.{count_by-le-length}
+use Rattle.std.proofs.lemmas.List.Sums.{count_by-le-length, sum_by-cons}
 use Rattle.sgx_rules.proofs.Rows.{none_refused}
 use Rattle.sgx_types.proofs.Truths.{neither}
 use Rattle.sgx_rules.specs.declared.entries.Action.{Action}
@@ -24,7 +24,8 @@ use Rattle.sgx_types.specs.declared.names.Kind.TheVariants as kinds
 use Rattle.sgx_types.specs.declared.names.Page.{Page}
 use Rattle.sgx_types.specs.declared.names.Perm.{Perm}
 use Rattle.sgx_rules.specs.declared.refusals.Refusal.{Refusal}
-use Rattle.sgx_types.specs.Pages.{page_at}
+use Rattle.sgx_types.specs.Pages.{is_own_page, is_va_page, page_at}
+use Rattle.sgx_types.specs.declared.names.TheConstants.{SECS_NUMBER}
 use Rattle.sgx_rules.specs.Frames.{Content, Free, added, content, free_from, is_free, least_free}
 use Rattle.sgx_rules.specs.Table.{epa_row, first_of_row, is_loading, is_valid}
 use Rattle.epcm_entry.specs.declared.entry_view.EntryView.{EntryView}
@@ -68,9 +69,12 @@ use Rattle.driver_tables.specs.inner.Counts.{page_counts}
 use Rattle.driver_tables.specs.inner.Tables.{IsNew}
 use Rattle.driver_tables.specs.declared.driver.Driver.{Driver}
 use Rattle.driver_tables.proofs.BuildLaws.{add_placed, arrays_before}
+use Rattle.driver_tables.proofs.CountLaws.{few_places}
+use Rattle.active_list.proofs.PlaceLaws.{place_within}
+use Rattle.job_grammar.specs.inner.Valid.{IsValid}
 use Rattle.table_notes.specs.inner.Arrays.{KeepsArrays, is_move}
 use Rattle.table_notes.specs.inner.Plain.{is_reclaimer}
-use Rattle.table_notes.proofs.EntryLaws.{ages, is_init}
+use Rattle.table_notes.proofs.EntryLaws.{AddsOwn, ages, is_init}
 
 -- ---- room
 
@@ -145,6 +149,28 @@ module _ (j : JobView) (past : List Entry) (a : Actor) (e n : ℕ) (f : Frame) (
       by_step : Builds j past a (Did (actions.Add e n f kind perm init) answer) → IsPlaced (0 ∷ page_counts j) (page_at e n)
       by_step (NoStep none builds_none) = absurd (false≢true (sym builds_none))
       by_step (ByStep is s) = by_build s.step s.frame s.there s.made
+
+-- it is a TCS or REG page, since a valid job has few pages
+own_placed : (j : JobView) (g : Page) → IsValid j → IsPlaced (0 ∷ page_counts j) g → is_own_page g ≡ true
+own_placed j g valid here = by_name (is_va_page g) (g.number == SECS_NUMBER) refl refl
+  where
+    by_name : (va secs : Bool) → is_va_page g ≡ va → (g.number == SECS_NUMBER) ≡ secs → (not va && not secs) ≡ true
+    by_name true secs is too =
+        let within : g.number < get_or (0 ∷ page_counts j) 0 0 =
+        subst (λ e. g.number < get_or (0 ∷ page_counts j) e 0) (eqb-true g.enclave 0 is) here.within in
+        absurd (omega (arith, within))
+    by_name false true is too =
+        let low = place_within (0 ∷ page_counts j) g here in
+        let sums = sum_by-cons (λ x. x) 0 (page_counts j) in
+        let last : g.number ≡ SECS_NUMBER = eqb-true g.number SECS_NUMBER too in
+        absurd (omega (arith, low, sums, last, few_places j valid))
+    by_name false false is too = refl
+
+pub adds_own : (j : JobView) (past : List Entry) (a : Actor) (action : Action) (answer : Answer) → is_reclaimer a ≡ false → IsValid j
+    → ScriptRule j past (did_by a action answer) → AddsOwn action
+adds_own j past a (actions.Add e n f kind perm init) answer other valid script =
+    own_placed j (page_at e n) valid (added_placed j past a e n f kind perm init answer other script)
+adds_own j past a action answer other valid script = tt
 
 -- ---- no version array page is refused
 

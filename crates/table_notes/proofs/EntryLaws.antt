@@ -17,7 +17,7 @@ use Rattle.sgx_types.specs.declared.names.Page.{Page}
 use Rattle.sgx_rules.specs.declared.refusals.Refusal.{Refusal}
 use Rattle.sgx_rules.specs.declared.refusals.Refusal.TheVariants as why
 use Rattle.sgx_rules.specs.Flat.{enclave_sight_of}
-use Rattle.sgx_types.specs.Pages.{page_at}
+use Rattle.sgx_types.specs.Pages.{is_own_page, page_at}
 use Rattle.sgx_rules.specs.Frames.{added}
 use Rattle.sgx_rules.specs.Table.{create_row, epa_row, first_of_row}
 use Rattle.sgx_rules.proofs.Contents.{free_there}
@@ -27,7 +27,7 @@ use Rattle.turn_rules.specs.declared.steps.BuildStep.{BuildStep}
 use Rattle.turn_rules.specs.declared.steps.BuildStep.TheVariants as builds
 use Rattle.measure_log.specs.Rule.{IsExpected, IsOther}
 use Rattle.paging_laws.specs.inner.Columns.{HasColumns}
-use Rattle.paging_laws.specs.inner.State.{State, after_init, row_of, sight}
+use Rattle.paging_laws.specs.inner.State.{State, after_init, row_of, secs_sight, sight}
 use Rattle.paging_laws.specs.inner.Steps.{IsDone, IsStep, answer_of, did_by, refused_by}
 use Rattle.paging_laws.proofs.BuildLaws.{adds}
 use Rattle.paging_laws.proofs.ColumnLaws.{added_is, content_is}
@@ -87,28 +87,34 @@ absent_is : (p : Place) → not (is_absent p) ≡ false → p ≡ Absent
 absent_is Absent h = refl
 absent_is _ h = absurd (false≢true (sym h))
 
+-- a page that is added is a TCS or REG page
+abbrev pub AddsOwn : Action → Type 0
+AddsOwn (Add enclave number f kind perm init) = is_own_page (page_at enclave number) ≡ true
+AddsOwn action = Unit {0}
+
 pub did_moves : (s : State) (past : List Entry) (a : Actor) (action : Action) (answer : Answer) → is_plain action ≡ true
-    → HasColumns s past → ((g : Page) → is_some (added past g) ≡ not (is_absent (place past g)))
+    → AddsOwn action → HasColumns s past → ((g : Page) → is_some (added past g) ≡ not (is_absent (place past g)))
     → first_of_row (row_of s a action) ≡ None → CanMove past (Did action answer)
-did_moves s past a (Epa f) answer plain columns seen row =
+did_moves s past a (Epa f) answer plain own columns seen row =
     let none = none_holds (epa_row (sight s f.0)) row in
     sym (content_is columns f.0) ∙ free_there (s.content f.0) (s.is_sealing f.0) none.1.0 none.1.1.0
-did_moves s past a (Create enclave f base size) answer plain columns seen row =
+did_moves s past a (Create enclave f base size) answer plain own columns seen row =
     let none = none_holds (create_row enclave base size (is_some (s.enclaves enclave)) (sight s f.0)) row in
     sym (content_is columns f.0) ∙ free_there (s.content f.0) (s.is_sealing f.0) none.1.1.0 none.1.1.1.0
-did_moves s past a (Add enclave number f kind perm init) answer plain columns seen row =
+did_moves s past a (Add enclave number f kind perm init) answer plain own columns seen row =
     let g : Page = page_at enclave number in
-    let one = adds number kind perm init (enclave_sight_of (s.enclaves enclave)) (is_some (s.added g)) (sight s f.0) row in (
+    let one = adds number kind perm init (enclave_sight_of (s.enclaves enclave)) (secs_sight s enclave) (is_some (s.added g)) (sight s f.0) row in (
       sym (content_is columns f.0) ∙ free_there (s.content f.0) (s.is_sealing f.0) one.idle one.empty,
       absent_is (place past g) (sym (seen g) ∙ ap is_some (sym (added_is columns g)) ∙ one.new),
+      own,
     )
-did_moves s past a (Block f) answer plain columns seen row = absurd (false≢true plain)
-did_moves s past a (Track enclave) answer plain columns seen row = absurd (false≢true plain)
-did_moves s past a (EwbStart f slot) answer plain columns seen row = absurd (false≢true plain)
-did_moves s past a (Ewb f) answer plain columns seen row = absurd (false≢true plain)
-did_moves s past a (EldStart f page slot) answer plain columns seen row = absurd (false≢true plain)
-did_moves s past a (Eld f) answer plain columns seen row = absurd (false≢true plain)
-did_moves s past a action answer plain columns seen row = tt
+did_moves s past a (Block f) answer plain own columns seen row = absurd (false≢true plain)
+did_moves s past a (Track enclave) answer plain own columns seen row = absurd (false≢true plain)
+did_moves s past a (EwbStart f slot) answer plain own columns seen row = absurd (false≢true plain)
+did_moves s past a (Ewb f) answer plain own columns seen row = absurd (false≢true plain)
+did_moves s past a (EldStart f page slot) answer plain own columns seen row = absurd (false≢true plain)
+did_moves s past a (Eld f) answer plain own columns seen row = absurd (false≢true plain)
+did_moves s past a action answer plain own columns seen row = tt
 
 -- ---- whose it is
 

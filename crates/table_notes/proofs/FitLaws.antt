@@ -1,5 +1,5 @@
 -- What the tables need of an entry is so where the instruction was done.
-use Rattle.std.proofs.Common.{◌≡◌, ℕ, ◌+◌, true, false, if◌then◌else◌, List, ◌∷◌, Option, None, IfSome, inl, inr}
+use Rattle.std.proofs.Common.{◌≡◌, ℕ, true, false, List, Option, None, IfSome, inl, inr}
 use Rattle.std.proofs.Common.{refl, sym, ap, subst, ◌∙◌}
 use Rattle.std.proofs.lemmas.Bool.{false≢true}
 use Rattle.sgx_rules.specs.declared.entries.Action.{Action}
@@ -41,7 +41,7 @@ use Rattle.table_notes.specs.inner.Arrays.{KeepsArrays}
 use Rattle.table_notes.specs.inner.Noted.{CanNoteTables}
 use Rattle.table_notes.specs.inner.Noting.{Fits, FitsBoth, FitsEvent, offset_inside_of}
 use Rattle.table_notes.specs.inner.Plain.{is_reclaimer}
-use Rattle.table_notes.proofs.ArrayLaws.{added_placed, array_room}
+use Rattle.table_notes.proofs.ArrayLaws.{added_placed, adds_own, array_room}
 use Rattle.table_notes.proofs.EntryLaws.{IsEntryOf, builder_builds, did_moves, entry_by}
 use Rattle.table_notes.proofs.NameLaws.{There, names_done}
 use Rattle.table_notes.proofs.UseLaws.{UsesBoth, UsesOne, enter_use, fill_use, load_use, resume_use, store_use, xadd_use}
@@ -69,7 +69,7 @@ module _ (made : Making) (j : JobView) (past : List Entry) (d : Driver) (m : Par
   array_fits a f answer other script row before = record {
     room = array_room j d.slots past a f answer other script agrees.built arrays;
     fresh = agrees.shows.slots.frames f.0
-        ∙ ap is_va (did_moves (state_of m) past a (actions.Epa f) answer refl agrees.follows.shape.columns agrees.sound.added row);
+        ∙ ap is_va (did_moves (state_of m) past a (actions.Epa f) answer refl tt agrees.follows.shape.columns agrees.sound.added row);
   }
 
   page_fits : (a : Actor) (e n : ℕ) (f : Frame) (kind : Kind) (perm : Perm) (init : PageInit) (answer : Answer) → is_reclaimer a ≡ false
@@ -81,7 +81,9 @@ module _ (made : Making) (j : JobView) (past : List Entry) (d : Driver) (m : Par
         (added_placed j past a e n f kind perm init answer other script);
     absent =
         let can =
-        did_moves (state_of m) past a (actions.Add e n f kind perm init) answer refl agrees.follows.shape.columns agrees.sound.added row in
+        did_moves (state_of m) past a (actions.Add e n f kind perm init) answer refl
+        (adds_own j past a (actions.Add e n f kind perm init) answer other shows.valid script)
+        agrees.follows.shape.columns agrees.sound.added row in
         not_listed past d.active.pages (active past) (page_at e n) agrees.shows.list
         (agrees.sound.list (page_at e n) ∙ ap once_here can.1);
     counts = agrees.shows.counts;

@@ -64,8 +64,8 @@ use Rattle.table_notes.specs.inner.Arrays.{KeepsArrays}
 use Rattle.table_notes.specs.inner.Noted.{AreNoted, CanNoteTables}
 use Rattle.table_notes.specs.inner.Noting.{Does, DoesEvent, HasArray, offset_inside_of, touching, with_page}
 use Rattle.table_notes.specs.inner.Plain.{is_plain, is_reclaimer}
-use Rattle.table_notes.proofs.ArrayLaws.{added_placed, array_first, arrays_go_on, arrays_made, none_refused_array}
-use Rattle.table_notes.proofs.EntryLaws.{IsEntryOf, builder_builds, did_moves, entry_by, is_init}
+use Rattle.table_notes.proofs.ArrayLaws.{added_placed, adds_own, array_first, arrays_go_on, arrays_made, none_refused_array}
+use Rattle.table_notes.proofs.EntryLaws.{AddsOwn, IsEntryOf, builder_builds, did_moves, entry_by, is_init}
 use Rattle.table_notes.proofs.NameLaws.{names_done}
 use Rattle.table_notes.proofs.UseLaws.{UsesBoth, UsesOne, enter_use, fill_use, load_use, resume_use, store_use, xadd_use}
 
@@ -192,16 +192,16 @@ module _ (made : Making) (j : JobView) (past : List Entry) (d : Driver) (m : Par
 
   -- ---- the builder
 
-  can : (a : Actor) (action : Action) (answer : Answer) → is_plain action ≡ true
+  can : (a : Actor) (action : Action) (answer : Answer) → is_plain action ≡ true → AddsOwn action
       → first_of_row (row_of (state_of m) a action) ≡ None → CanMove past (Did action answer)
-  can a action answer plain row =
-      did_moves (state_of m) past a action answer plain agrees.follows.shape.columns agrees.sound.added row
+  can a action answer plain own row =
+      did_moves (state_of m) past a action answer plain own agrees.follows.shape.columns agrees.sound.added row
 
   array_noted : (f : Frame) (answer : Answer) (new : Driver) → ScriptRule j past (did_by actors.Builder (actions.Epa f) answer)
       → first_of_row (row_of (state_of m) actors.Builder (actions.Epa f)) ≡ None → HasArray d f new
       → AreNoted j past d (did_by actors.Builder (actions.Epa f) answer) new
   array_noted f answer new script row has = record {
-    shows = shows_array j d new past f answer (can actors.Builder (actions.Epa f) answer refl row)
+    shows = shows_array j d new past f answer (can actors.Builder (actions.Epa f) answer refl tt row)
         (array_first j past actors.Builder f answer refl script agrees.built) has.slots has.others tables;
     counts = has.slots.counted;
     own = ap (λ (x : Driver). x.active.own) has.others;
@@ -246,7 +246,9 @@ module _ (made : Making) (j : JobView) (past : List Entry) (d : Driver) (m : Par
       })
     where
       moves : CanMove past (Did (actions.Add e n f kind perm init) answer)
-      moves = can actors.Builder (actions.Add e n f kind perm init) answer refl row
+      moves =
+          can actors.Builder (actions.Add e n f kind perm init) answer refl
+          (adds_own j past actors.Builder (actions.Add e n f kind perm init) answer refl shows.valid script) row
 
       all_made : length d.slots.frames ≡ va_pages j
       all_made =
@@ -274,7 +276,7 @@ module _ (made : Making) (j : JobView) (past : List Entry) (d : Driver) (m : Par
       page_noted e n f kind perm init answer new script row does
   builder_noted (actions.Create e f base size) answer new script row builds before does =
       same_noted actors.Builder (actions.Create e f base size) answer new refl refl script (λ x is. cc)
-      (shows_created j d past e f base size answer (can actors.Builder (actions.Create e f base size) answer refl row) tables) does
+      (shows_created j d past e f base size answer (can actors.Builder (actions.Create e f base size) answer refl tt row) tables) does
   builder_noted (actions.Extend f chunk) answer new script row builds before does =
       same_noted actors.Builder (actions.Extend f chunk) answer new refl refl script (λ x is. cc)
       (shows_builders j d past (Did (actions.Extend f chunk) answer) refl refl refl tables) does

@@ -335,7 +335,7 @@ module _ (a : Auditing) (e : Entry) (can : CanAsk a e) where
           by_start : (o : Option starts.Start) → start_of o ≡ (state_of a.machine).start f.0 → page_loaded o ≡ Some page → LoadsPage
           by_start None at h = absurd cc
           by_start (Some o) at h =
-              let k = bare_of (open_start past f.0) (record { slot = o.slot; version = o.version; loads = o.loads })
+              let k = bare_of (open_start past f.0) (record { at = o.at; slot = o.slot; version = o.version; loads = o.loads })
               (sym (opened (Some o) at)) in
               record { begun = k.start; at = k.opened; its = ap (λ (y : BareStart). y.loads) k.same ∙ h }
 

@@ -1,5 +1,5 @@
 -- What the definitions of places come to, by whose each frame is.
-use Rattle.std.specs.Prelude.{◌≡◌, ℕ, ◌<◌, ◌≤◌, ◌==◌, ◌||◌, Bool, true, false, List, [], ◌∷◌, Option, Some, None, IsSome}
+use Rattle.std.specs.Prelude.{◌≡◌, ℕ, ◌<◌, ◌≤◌, ◌==◌, ◌||◌, Bool, true, false, List, [], ◌∷◌, Option, Some, None, is_some}
 use Rattle.sgx_rules.specs.declared.entries.Entry.{Entry}
 use Rattle.sgx_rules.specs.declared.entries.Event.{Event}
 use Rattle.sgx_rules.specs.declared.entries.Event.TheVariants.{Did}
@@ -8,7 +8,7 @@ use Rattle.sgx_rules.specs.declared.entries.Answer.TheVariants.{Moved}
 use Rattle.sgx_rules.specs.Frames.{Content, Free, IsVa, SecsOf, Holds, IsLoading, added}
 use Rattle.sgx_types.specs.declared.names.Kind.{Kind}
 use Rattle.sgx_types.specs.declared.names.Perm.{Perm}
-use Rattle.sgx_types.specs.Pages.{page_at}
+use Rattle.sgx_types.specs.Pages.{is_own_page, is_va_page, page_at}
 use Rattle.sgx_types.specs.declared.names.Page.{Page}
 use Rattle.trace_places.specs.declared.change.Tenant.{Tenant}
 use Rattle.trace_places.specs.declared.change.Tenant.TheVariants.{Has, Awaits}
@@ -69,9 +69,10 @@ tenant_by (SecsOf enclave) = Some (Has (page_at enclave 4294967295))
 tenant_by (Holds page kind perm) = Some (Has page)
 tenant_by (IsLoading page) = Some (Awaits page)
 
--- a load that ends brings a page that was added
+-- a load that ends brings a page that there can be: a TCS or REG page that was added, a SECS, or a version array page with a number of 4 bytes
 abbrev pub IsOfAdded : (Page → Option (Kind × Perm)) → Event → Type 0
-IsOfAdded was (Did (Eld f) (Moved page version tag)) = IsSome (was page)
+IsOfAdded was (Did (Eld f) (Moved page version tag)) =
+    (is_own_page page ≡ true → is_some (was page) ≡ true) × (is_va_page page ≡ true → va_number page.number ≡ Some page.number)
 IsOfAdded was event = Unit {0}
 
 -- .. as each one did

@@ -1,24 +1,41 @@
 -- What the check does not find by itself of the traces of a small job.
 use Rattle.std.proofs.Common.{◌≡◌, ℕ, ◌+◌, ◌==◌, Bool, true, false, if◌then◌else◌, List, [], ◌∷◌, Option, Some}
-use Rattle.std.proofs.Common.{None, refl, sym, ◌∙◌, arith}
+use Rattle.std.proofs.Common.{None, refl, sym, ap, ◌∙◌, arith}
 use Rattle.std.specs.Int.{is_power_of_two}
 use Rattle.std.proofs.lemmas.Bool.{eqb-true}
 use Rattle.std.proofs.lemmas.List.Elements.{All-head}
 use lib.Count.{ones}
+use Rattle.sgx_types.specs.Counts.{least_below}
 use Rattle.sgx_rules.specs.declared.entries.Entry.{Entry}
 use Rattle.sgx_types.specs.declared.names.Page.{Page}
-use Rattle.sgx_types.specs.Pages.{page_at, same_page}
-use Rattle.sgx_rules.specs.Frames.{Content, Put, content, held_after, is_page, is_sealing, made_before, put_by}
+use Rattle.sgx_types.specs.Pages.{is_secs_page, is_va_page, page_at, same_page, secs_page, va_page}
+use Rattle.sgx_types.proofs.Pages.{same_pages}
+use Rattle.sgx_rules.specs.Frames.{Content, Put, content, held_after, is_sealing, made_before, put_by, stands}
 use Rattle.sgx_rules.specs.Processors.{BareTranslation}
-use Rattle.sgx_rules.specs.Rules.{Along, AtEachPlace, FlatRule, NoPageTwice, NoneStale, IsCurrent}
+use Rattle.sgx_rules.specs.Rules.{Along, AtEachPlace, FlatRule, NoPageTwice, NoneStale, IsCurrent, RefusalRule}
+use Rattle.turn_rules.specs.Machines.{machine_of}
 use Rattle.worked_traces.specs.inner.Traces.{first_trace, first_build, fill, enter, frame_beyond, frame_twice, page_twice}
 use Rattle.worked_traces.specs.inner.Traces.{adds_exchanged}
-use Rattle.worked_traces.specs.inner.Traces.{epa_by_reclaimer, no_fill, fill_from_other_frame}
+use Rattle.worked_traces.specs.inner.Traces.{epa_by_reclaimer, first_job, no_fill, fill_from_other_frame, other_cssa, other_value}
 
 -- the count of a number's bits stays closed elsewhere
 pub first_size_is_lawful : is_power_of_two 0x10000 ≡ true
 unfolding ones
 first_size_is_lawful = refl
+
+-- ---- entries that keep the table, which looks for the SECS of an enclave below the number of frames
+
+pub first_trace_table : Along (RefusalRule (machine_of first_job)) first_trace
+unfolding least_below ones
+first_trace_table = search arith
+
+pub other_cssa_table : Along (RefusalRule (machine_of first_job)) other_cssa
+unfolding least_below ones
+other_cssa_table = search arith
+
+pub other_value_table : Along (RefusalRule (machine_of first_job)) other_value
+unfolding least_below ones
+other_value_table = search arith
 
 -- ---- entries that answer as flat memory
 
@@ -50,14 +67,17 @@ pub fill_from_other_frame_flat : Along FlatRule fill_from_other_frame
 unfolding ones
 fill_from_other_frame_flat = search arith
 
--- ---- no page in two frames: page k comes into frame k + 2 alone
+-- ---- no page in two frames: the version array comes into frame 0 alone, the SECS into frame 1, and page k into frame k + 2
+
+home : Page → ℕ
+home g = if is_va_page g then 0 else if is_secs_page g then 1 else g.number + 2
 
 InPlace : (ℕ → Content) → Type 0
-InPlace held = (n : ℕ) (g : Page) → is_page (held n) g ≡ true → n ≡ g.number + 2
+InPlace held = (n : ℕ) (g : Page) → stands (held n) g ≡ true → n ≡ home g
 
 abbrev IsPutInPlace : Option Put → Type 0
 IsPutInPlace None = Unit {0}
-IsPutInPlace (Some put) = (g : Page) → is_page put.content g ≡ true → put.frame ≡ g.number + 2
+IsPutInPlace (Some put) = (g : Page) → stands put.content g ≡ true → put.frame ≡ home g
 
 abbrev PutsInPlace : List Entry → Entry → Type 0
 PutsInPlace past e = IsPutInPlace (put_by e.event (made_before past))
@@ -67,7 +87,7 @@ unfolding InPlace
 after_put None held here before n g = before n g
 after_put (Some put) held here before n g = by_frame (put.frame == n) (eqb-true put.frame n)
   where
-    by_frame : (b : Bool) → (b ≡ true → put.frame ≡ n) → is_page (if b then put.content else held n) g ≡ true → n ≡ g.number + 2
+    by_frame : (b : Bool) → (b ≡ true → put.frame ≡ n) → stands (if b then put.content else held n) g ≡ true → n ≡ home g
     by_frame true same holds = sym (same refl) ∙ here g holds
     by_frame false same holds = before n g holds
 
@@ -84,14 +104,31 @@ pages_once : (past : List Entry) → Along PutsInPlace past → AtEachPlace NoPa
 pages_once [] along = once [] along
 pages_once (e ∷ past) along = (once (e ∷ past) along, pages_once past along.1)
 
-page_in_place : (k : ℕ) (g : Page) → same_page (page_at 1 k) g ≡ true → k + 2 ≡ g.number + 2
-page_in_place k g same = grind arith
+array_home : (g : Page) → same_page (va_page 0) g ≡ true → 0 ≡ home g
+unfolding home
+array_home g same = ap home (same_pages (va_page 0) g same)
+
+secs_home : (g : Page) → same_page (secs_page 1) g ≡ true → 1 ≡ home g
+unfolding home
+secs_home g same = ap home (same_pages (secs_page 1) g same)
+
+tcs_home : (g : Page) → same_page (page_at 1 0) g ≡ true → 2 ≡ home g
+unfolding home
+tcs_home g same = ap home (same_pages (page_at 1 0) g same)
+
+ssa_home : (g : Page) → same_page (page_at 1 1) g ≡ true → 3 ≡ home g
+unfolding home
+ssa_home g same = ap home (same_pages (page_at 1 1) g same)
+
+sevens_home : (g : Page) → same_page (page_at 1 2) g ≡ true → 4 ≡ home g
+unfolding home
+sevens_home g same = ap home (same_pages (page_at 1 2) g same)
 
 pub first_trace_pages : AtEachPlace NoPageTwice first_trace
-first_trace_pages = pages_once first_trace (search (arith, page_in_place))
+first_trace_pages = pages_once first_trace (search (array_home, secs_home, tcs_home, ssa_home, sevens_home))
 
 pub adds_exchanged_pages : AtEachPlace NoPageTwice adds_exchanged
-adds_exchanged_pages = pages_once adds_exchanged (search (arith, page_in_place))
+adds_exchanged_pages = pages_once adds_exchanged (search (array_home, secs_home, tcs_home, ssa_home, sevens_home))
 
 pub page_twice_not_pages : ¬ AtEachPlace NoPageTwice page_twice
 page_twice_not_pages h = absurd (omega (arith, h.1.1.1.1.1.0 4 5 (page_at 1 2) refl refl))

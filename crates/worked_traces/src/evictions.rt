@@ -58,6 +58,7 @@ pub fn a_second_start_from_a_slot_breaks_the_table()
     ensures { ¬ Along (RefusalRule (machine_of first_job)) second_start }
 {}
 
+#[tactic(auto, using(crate::proofs::EvictionLaws::enter_by_reclaimer_table))]
 pub fn an_enter_by_the_reclaimer_keeps_the_table()
     ensures { Along (RefusalRule (machine_of first_job)) enter_by_reclaimer }
 {}

@@ -10,6 +10,7 @@ pub fn the_first_trace_keeps_the_script()
     ensures { Script first_job first_trace }
 {}
 
+#[tactic(auto, using(crate::proofs::TraceLaws::first_trace_table))]
 pub fn the_first_trace_keeps_the_table()
     ensures { Along (RefusalRule (machine_of first_job)) first_trace }
 {}
@@ -28,7 +29,7 @@ pub fn the_first_trace_has_nothing_stale()
     ensures { Stale first_trace }
 {}
 
-#[tactic(auto, using(crate::proofs::TraceLaws::first_trace_laws))]
+#[tactic(auto, using(crate::proofs::TraceLaws::first_trace_laws), unfolding(sgx_types::specs::Counts::least_below))]
 pub fn the_first_trace_keeps_the_rules()
     ensures { KeepsRules (machine_of first_job) first_trace }
 {}

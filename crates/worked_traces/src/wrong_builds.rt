@@ -46,7 +46,7 @@ pub fn exchanged_adds_break_the_script()
     ensures { ¬ Along (ScriptRule first_job) adds_exchanged }
 {}
 
-#[tactic(auto, using(crate::proofs::TraceLaws::adds_exchanged_laws))]
+#[tactic(auto, using(crate::proofs::TraceLaws::adds_exchanged_laws), unfolding(sgx_types::specs::Counts::least_below))]
 pub fn exchanged_adds_keep_the_rules()
     ensures { KeepsRules (machine_of first_job) adds_exchanged }
 {}
@@ -55,7 +55,7 @@ pub fn an_epa_by_the_reclaimer_breaks_the_script()
     ensures { ¬ Along (ScriptRule first_job) epa_by_reclaimer }
 {}
 
-#[tactic(auto, using(crate::proofs::TraceLaws::epa_by_reclaimer_laws))]
+#[tactic(auto, using(crate::proofs::TraceLaws::epa_by_reclaimer_laws), unfolding(sgx_types::specs::Counts::least_below))]
 pub fn an_epa_by_the_reclaimer_keeps_the_rules()
     ensures { KeepsRules (machine_of first_job) epa_by_reclaimer }
 {}

@@ -24,6 +24,7 @@ pub fn another_cssa_answers_unlike_flat_memory()
     ensures { ¬ Along FlatRule other_cssa }
 {}
 
+#[tactic(auto, using(crate::proofs::TraceLaws::other_cssa_table))]
 pub fn another_cssa_keeps_the_table()
     ensures { Along (RefusalRule (machine_of first_job)) other_cssa }
 {}
@@ -67,6 +68,7 @@ pub fn another_value_answers_unlike_flat_memory()
     ensures { ¬ Along FlatRule other_value }
 {}
 
+#[tactic(auto, using(crate::proofs::TraceLaws::other_value_table))]
 pub fn another_value_keeps_the_table()
     ensures { Along (RefusalRule (machine_of first_job)) other_value }
 {}
@@ -104,7 +106,7 @@ pub fn a_run_without_an_exit_keeps_the_script()
     ensures { Along (ScriptRule first_job) no_exit }
 {}
 
-#[tactic(auto, using(crate::proofs::TraceLaws::first_trace_laws))]
+#[tactic(auto, using(crate::proofs::TraceLaws::first_trace_laws), unfolding(sgx_types::specs::Counts::least_below))]
 pub fn a_run_without_an_exit_keeps_the_rules()
     ensures { KeepsRules (machine_of first_job) no_exit }
 {}

@@ -8,10 +8,11 @@ use Rattle.sgx_rules.specs.declared.entries.Event.{Event}
 use Rattle.sgx_rules.specs.declared.entries.Event.TheVariants.{Did}
 use Rattle.sgx_types.specs.declared.names.Frame.{Frame}
 use Rattle.sgx_types.specs.declared.names.Page.{Page}
+use Rattle.sgx_types.specs.declared.names.TheConstants.{SECS_NUMBER}
 use Rattle.sgx_types.specs.declared.record.Header.{Header}
 use Rattle.sgx_rules.specs.declared.refusals.Refusal.{Refusal}
 use Rattle.sgx_rules.specs.declared.refusals.Refusal.TheVariants as why
-use Rattle.sgx_rules.specs.Flat.{header_at}
+use Rattle.sgx_rules.specs.PageBytes.{header_at}
 use Rattle.sgx_types.specs.Making.{Making}
 use Rattle.sgx_types.specs.Sealed.{Sealed}
 use Rattle.sgx_rules.specs.Starts.{Start, open_start}
@@ -57,6 +58,11 @@ pub record HasLeft (s : State) (e : Entry) (f : Frame) (work : UnsealedWork) (t 
   pub told : e.event ≡ Did (Ewb f) (Moved page work.version work.rec.tag)
   pub key : work.key ≡ s.key
   pub goes_on : GoesOnWith s e (made_with work.version work.rec ∷ []) t
+
+-- an event tells of a page that has the number of a SECS
+abbrev pub tells_secs : Event → Bool
+tells_secs (Did action (Moved page version tag)) = page.number == SECS_NUMBER
+tells_secs _ = false
 
 abbrev pub TakesOut : State → Entry → Frame → State → Out → Type 0
 TakesOut s e f t (outs.Broken rule) = Breaks s e rule

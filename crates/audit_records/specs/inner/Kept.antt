@@ -8,7 +8,7 @@ use Rattle.sgx_rules.specs.declared.entries.Entry.{Entry}
 use Rattle.sgx_rules.specs.declared.entries.Event.{Event}
 use Rattle.sgx_rules.specs.declared.entries.Event.TheVariants.{Did}
 use Rattle.sgx_types.specs.declared.names.Page.{Page}
-use Rattle.sgx_types.specs.declared.names.SlotAt.{SlotAt}
+use Rattle.sgx_types.specs.declared.names.VaSlot.{VaSlot}
 use Rattle.sgx_types.specs.Pages.{same_page}
 use Rattle.sgx_types.specs.Sealed.{Sealed}
 use Rattle.seal_record.specs.declared.unseal.UnsealedWork.{UnsealedWork}
@@ -52,7 +52,7 @@ pub record HasRecord (key : List ℕ) (past : List Entry) (version : ℕ) (kept 
 
 -- .. for each page that is outside, under the version in its slot
 abbrev pub KeepsRecords : List ℕ → List Entry → Records → Type 0
-KeepsRecords key past kept = (g : Page) (slot : SlotAt) (v : ℕ) → copy past g ≡ Some (InSlot slot v) → HasRecord key past v (kept g)
+KeepsRecords key past kept = (g : Page) (slot : VaSlot) (v : ℕ) → copy past g ≡ Some (InSlot slot v) → HasRecord key past v (kept g)
 
 -- a record is kept, and it is the one that the end of the load into this frame asks for
 pub record HasOwnRecord (key : List ℕ) (past : List Entry) (n : ℕ) (kept : Option Sealed) : Type 0 where

@@ -40,7 +40,7 @@ pub record IsStarted (old : Driver) (slot : SlotAt) (new : Driver) : Type 0 wher
 
 -- a page that has gone out is away in the slot of the start that it ends
 abbrev pub with_gone : Option Start → Answer → Driver → Driver
-with_gone (Some start) (Moved page version tag) d = record d { states = with_state d.states page (states.Away start.slot) }
+with_gone (Some start) (Moved page version tag) d = record d { states = with_state d.states page (states.Away start.at) }
 with_gone start answer d = d
 
 -- a page is loading, and the record is kept for the processor that loads it
@@ -54,7 +54,7 @@ forgetting d cpu = record d { kept = slice_set d.kept cpu.0 None }
 
 -- the page of a load has come back from the slot of the load's start
 abbrev pub HasEnded : Actor → Frame → Option Start → Answer → Driver → Driver → Type 0
-HasEnded (actors.Cpu cpu) f (Some start) (Moved page version tag) old new = IsLoaded (forgetting old cpu) page f start.slot new
+HasEnded (actors.Cpu cpu) f (Some start) (Moved page version tag) old new = IsLoaded (forgetting old cpu) page f start.at new
 HasEnded actor f start answer old new = new ≡ old
 
 -- a page that was to be loaded is away again
@@ -111,7 +111,7 @@ FitsBegun (actors.Cpu cpu) page d = FitsLoad d cpu page
 FitsBegun actor page d = Unit {0}
 
 abbrev pub FitsEnded : Actor → Option Start → Answer → Driver → Type 0
-FitsEnded (actors.Cpu cpu) (Some start) (Moved page version tag) d = FitsEnd d cpu page start.slot
+FitsEnded (actors.Cpu cpu) (Some start) (Moved page version tag) d = FitsEnd d cpu page start.at
 FitsEnded actor start answer d = Unit {0}
 
 abbrev pub FitsAway : Cpu → Option Page → Driver → Type 0

@@ -9,8 +9,8 @@ use Rattle.sgx_types.specs.declared.names.Page.{Page}
 use Rattle.sgx_types.specs.declared.names.SlotAt.{SlotAt}
 use Rattle.sgx_types.specs.Pages.{same_page}
 use Rattle.sgx_rules.specs.Frames.{content}
-use Rattle.sgx_rules.specs.Slots.{version_in}
-use Rattle.sgx_rules.specs.inner.Slots.{IsIdle}
+use Rattle.driver_laws.specs.inner.ByFrame.{version_in}
+use Rattle.driver_laws.specs.inner.ByFrame.{IsIdle}
 use Rattle.sgx_rules.specs.Table.{is_va}
 use Rattle.version_array.specs.inner.Keeper.{Keeper, is_added, is_out}
 use Rattle.job_grammar.specs.Jobs.{JobView, va_pages}

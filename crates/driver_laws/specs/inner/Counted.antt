@@ -7,12 +7,13 @@ use Rattle.sgx_rules.specs.declared.entries.Event.{Event}
 use Rattle.sgx_rules.specs.declared.entries.Event.TheVariants.{Did}
 use Rattle.sgx_types.specs.declared.names.Page.{Page}
 use Rattle.sgx_types.specs.Pages.{page_at}
-use Rattle.sgx_rules.specs.Frames.{added}
+use Rattle.sgx_rules.specs.Frames.{added, vas_made}
 use Rattle.version_array.specs.inner.Keeper.{Keeper, count_out}
 use Rattle.job_grammar.specs.Jobs.{JobView}
 use Rattle.turn_rules.specs.declared.steps.BuildStep.{BuildStep}
 use Rattle.turn_rules.specs.declared.steps.BuildStep.TheVariants as builds
 use Rattle.turn_rules.specs.Script.{build_of, built}
+use Rattle.driver_laws.specs.inner.Keeps.{is_va_step}
 use Rattle.driver_laws.specs.inner.Sound.{slot_of, times}
 
 abbrev pub with_added : Event → List Page → List Page
@@ -39,9 +40,10 @@ abbrev pub is_add_step : BuildStep → Bool
 is_add_step (builds.Add enclave number kind perm init) = true
 is_add_step _ = false
 
--- no more pages were added than the builder's steps till now add
-abbrev pub AddsAreBuilt : JobView → List Entry → Type 0
-AddsAreBuilt j past = length (pages_added past) ≤ count_by is_add_step (take (built past) (build_of j))
+-- no more pages were added, and no more version array pages made, than the builder's steps till now add and make
+pub record AddsAreBuilt (j : JobView) (past : List Entry) : Type 0 where
+  pub adds : length (pages_added past) ≤ count_by is_add_step (take (built past) (build_of j))
+  pub arrays : vas_made past ≤ count_by is_va_step (take (built past) (build_of j))
 
 -- a write-out takes a slot, the end of a load gives one back, and every other entry leaves as many out
 abbrev pub CountMoves : Event → ℕ → ℕ → Type 0

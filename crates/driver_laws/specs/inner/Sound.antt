@@ -1,13 +1,14 @@
 -- What the entries give of places, the list and the slots as long as each entry is the driver's: a page is in the frame in which it
--- stands, the list has each page that is here once, and no two pages have one slot.
+-- stands, the list has each page that is here once, no two pages have one slot, and version array pages and SECS stay in their frames.
 use Rattle.std.specs.Prelude.{ℕ, ◌≡◌, ◌==◌, ◌+◌, Bool, true, false, not, if◌then◌else◌, List, [], ◌∷◌, Option}
 use Rattle.std.specs.Prelude.{Some, None, is_some}
 use Rattle.sgx_rules.specs.declared.entries.Entry.{Entry}
 use Rattle.sgx_types.specs.declared.names.Page.{Page}
 use Rattle.sgx_types.specs.declared.names.SlotAt.{SlotAt}
-use Rattle.sgx_types.specs.Pages.{same_page}
-use Rattle.sgx_rules.specs.Frames.{Content, added, content, is_page}
-use Rattle.sgx_rules.specs.Slots.{slot_of as slot_of_start, version_in}
+use Rattle.sgx_types.specs.Pages.{is_own_page, same_page}
+use Rattle.sgx_rules.specs.inner.Enclaves.{created}
+use Rattle.sgx_rules.specs.Frames.{Content, SecsOf, added, came_back, content, is_page}
+use Rattle.driver_laws.specs.inner.ByFrame.{SlotsByFrame, slot_of as slot_of_start, version_in}
 use Rattle.sgx_rules.specs.Starts.{Start, is_load_of, open_start}
 use Rattle.sgx_rules.specs.Fresh.{Out, last_out}
 use Rattle.sgx_rules.specs.Table.{is_loading}
@@ -33,7 +34,7 @@ slot_loading _ n = None
 -- the slot of a start that loads this page
 abbrev pub load_slot : Option Start → Page → Option SlotAt
 load_slot None g = None
-load_slot (Some start) g = slot_if (is_load_of (Some start) g) start.slot
+load_slot (Some start) g = slot_if (is_load_of (Some start) g) start.at
 
 abbrev pub is_load_start : Option Start → Bool
 is_load_start None = false
@@ -108,9 +109,22 @@ is_absent _ = false
 abbrev pub AddedAreThere : (Page → Place) → (Page → Bool) → Type 0
 AddedAreThere at is_added = (g : Page) → is_added g ≡ not (is_absent (at g))
 
+-- what is added is a TCS or REG page
+abbrev pub AddedAreOwn : (Page → Bool) → Type 0
+AddedAreOwn is_added = (g : Page) → is_added g ≡ true → is_own_page g ≡ true
+
+-- the SECS of each enclave that was created stands in a frame
+abbrev pub SecsAreIn : (ℕ → Bool) → (ℕ → Content) → Type 0
+SecsAreIn is_made held = (e : ℕ) → is_made e ≡ true → (n : ℕ) × (held n ≡ SecsOf e)
+
 pub record IsSound (past : List Entry) : Type 0 where
   pub places : PlacesAreFrames (place past) (content past) (open_start past)
   pub list : ListIsHere (active past) (place past)
   pub apart : SlotsAreApart (place past) (open_start past)
   pub versions : SlotsHaveVersions (place past) (last_out past) (version_in past)
+  pub own : AddedAreOwn (λ g. is_some (added past g))
   pub added : AddedAreThere (place past) (λ g. is_some (added past g))
+  pub slots : SlotsByFrame past
+  pub secs : SecsAreIn (λ e. is_some (created past e)) (content past)
+  -- no version array page came back
+  pub home : (number : ℕ) → came_back past number ≡ false

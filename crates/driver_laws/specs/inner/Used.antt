@@ -9,7 +9,7 @@ use Rattle.sgx_rules.specs.declared.entries.Event.TheVariants.{Did}
 use Rattle.sgx_types.specs.declared.names.Page.{Page}
 use Rattle.sgx_types.specs.declared.names.SlotAt.{SlotAt}
 use Rattle.sgx_rules.specs.Frames.{is_sealing}
-use Rattle.sgx_rules.specs.Slots.{version_in}
+use Rattle.driver_laws.specs.inner.ByFrame.{version_in}
 use Rattle.sgx_rules.specs.declared.refusals.Refusal.TheVariants as why
 use Rattle.sgx_rules.specs.Table.{Case, DrainSight, allowed, when, ◌otherwise◌}
 use Rattle.sgx_rules.specs.Starts.{Start, open_start, version_told}
@@ -29,7 +29,7 @@ WritesHaveDrawn opened = (n : ℕ) (x : Start) → opened n ≡ Some x → x.loa
 -- an open start of a load has found the version that its slot holds
 abbrev pub LoadsHaveFound : (ℕ → Option Start) → (SlotAt → ℕ) → Type 0
 LoadsHaveFound opened version =
-    (n : ℕ) (x : Start) (g : Page) → opened n ≡ Some x → x.loads ≡ Some g → x.version ≡ version x.slot
+    (n : ℕ) (x : Start) (g : Page) → opened n ≡ Some x → x.loads ≡ Some g → x.version ≡ version x.at
 
 pub record SlotsAreUsed (past : List Entry) : Type 0 where
   pub filled : SlotsAreFilled (place past) (version_in past)
@@ -53,9 +53,9 @@ SealingAreOpen past = (n : ℕ) → is_sealing past n ≡ is_write_start (open_s
 
 pub record StartsAlone (past : List Entry) : Type 0 where
   -- no two open starts name one slot
-  pub apart : (m n : ℕ) (x y : Start) → open_start past m ≡ Some x → open_start past n ≡ Some y → x.slot ≡ y.slot → m ≡ n
+  pub apart : (m n : ℕ) (x y : Start) → open_start past m ≡ Some x → open_start past n ≡ Some y → x.at ≡ y.at → m ≡ n
   -- none names that of a page that is away
-  pub away : (n : ℕ) (x : Start) (g : Page) → open_start past n ≡ Some x → place past g ≡ Away x.slot → ⊥
+  pub away : (n : ℕ) (x : Start) (g : Page) → open_start past n ≡ Some x → place past g ≡ Away x.at → ⊥
 
 -- ---- what is left to refuse
 

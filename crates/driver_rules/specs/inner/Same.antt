@@ -16,7 +16,7 @@ use Rattle.sgx_types.specs.declared.names.Kind.{Kind}
 use Rattle.sgx_types.specs.declared.names.Kind.TheVariants as kinds
 use Rattle.sgx_types.specs.declared.names.Perm.{Perm}
 use Rattle.sgx_types.specs.Pages.{same_page}
-use Rattle.sgx_types.specs.Pages.{same_slot}
+use Rattle.sgx_types.specs.Pages.{same_place}
 
 abbrev pub same_bool : Bool → Bool → Bool
 same_bool true b = b
@@ -82,8 +82,8 @@ same_action (OutLoad e off) (OutLoad e' off') = (e == e') && (off == off')
 same_action (OutStore e off v) (OutStore e' off' v') = (e == e') && ((off == off') && (v == v'))
 same_action (Block f) (Block f') = f.0 == f'.0
 same_action (Track e) (Track e') = e == e'
-same_action (EwbStart f slot) (EwbStart f' slot') = (f.0 == f'.0) && same_slot slot slot'
+same_action (EwbStart f slot) (EwbStart f' slot') = (f.0 == f'.0) && same_place slot slot'
 same_action (Ewb f) (Ewb f') = f.0 == f'.0
-same_action (EldStart f page slot) (EldStart f' page' slot') = (f.0 == f'.0) && (same_page page page' && same_slot slot slot')
+same_action (EldStart f page slot) (EldStart f' page' slot') = (f.0 == f'.0) && (same_page page page' && same_place slot slot')
 same_action (Eld f) (Eld f') = f.0 == f'.0
 same_action _ _ = false

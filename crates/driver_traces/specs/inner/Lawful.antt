@@ -22,15 +22,14 @@ use Rattle.sgx_rules.specs.declared.refusals.Refusal.{Refusal}
 use Rattle.sgx_rules.specs.declared.refusals.Refusal.TheVariants as why
 use Rattle.sgx_rules.specs.Eviction.{is_drained}
 use Rattle.sgx_rules.specs.Flat.{accepts, flat, flat_answer, is_visible}
-use Rattle.sgx_types.specs.Pages.{same_page}
-use Rattle.sgx_rules.specs.Frames.{Content, Holds, content, is_free, vas_made}
+use Rattle.sgx_rules.specs.Frames.{Content, Holds, content, is_free, is_this, stands, vas_made}
 use Rattle.sgx_rules.specs.Fresh.{Out, last_out}
 use Rattle.sgx_types.specs.Making.{Making}
 use Rattle.sgx_rules.specs.Processors.{holds_number, translations}
 use Rattle.sgx_rules.specs.Rules.{case_of, seen_answer}
 use Rattle.sgx_rules.specs.Sights.{row_at}
-use Rattle.sgx_rules.specs.Slots.{next_version, version_in}
-use Rattle.sgx_rules.specs.Starts.{Start, loads_page, open_start}
+use Rattle.sgx_rules.specs.Slots.{next_version, version_at, version_in}
+use Rattle.sgx_rules.specs.Starts.{Start, open_start}
 use Rattle.sgx_rules.specs.Table.{first_of_row}
 use Rattle.job_grammar.specs.Jobs.{JobView}
 use Rattle.turn_rules.specs.Machines.{machine_of}
@@ -46,13 +45,13 @@ case_at k past actor action = first_of_row (row_at k past actor action)
 
 -- this page is in the frame, and its write-out has started
 abbrev pub is_ended_out : Content → Option Start → Page → Bool
-is_ended_out (Holds held kind perm) (Some start) page = same_page held page && is_none start.loads
-is_ended_out _ _ page = false
+is_ended_out held None page = false
+is_ended_out held (Some start) page = stands held page && is_none start.loads
 
 -- a load of this page has started
 abbrev pub is_ended_in : Option Start → Page → Bool
 is_ended_in None page = false
-is_ended_in (Some start) page = loads_page start.loads page
+is_ended_in (Some start) page = is_this start.loads page
 
 abbrev pub is_formed : List Entry → Action → Answer → Bool
 is_formed past (Epa f) (answers.Va k) = k == vas_made past
@@ -77,7 +76,7 @@ is_formed past (Block f) answers.Plain = true
 is_formed past (Track enclave) answers.Plain = true
 is_formed past (EwbStart f slot) (answers.Version version) = true
 is_formed past (Ewb f) (answers.Moved page version tag) = is_ended_out (content past f.0) (open_start past f.0) page
-is_formed past (EldStart f page slot) (answers.Version version) = version == version_in past slot
+is_formed past (EldStart f page slot) (answers.Version version) = version == version_at past slot
 is_formed past (Eld f) (answers.Moved page version tag) = is_ended_in (open_start past f.0) page
 is_formed past action answer = false
 

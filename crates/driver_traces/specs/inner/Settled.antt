@@ -5,8 +5,9 @@ use Rattle.std.specs.Prelude.{length, nat_lt}
 use Rattle.sgx_types.specs.declared.names.Actor.{Actor}
 use Rattle.sgx_types.specs.declared.names.Actor.TheVariants as actors
 use Rattle.sgx_rules.specs.declared.entries.Entry.{Entry}
+use Rattle.sgx_types.specs.declared.names.Page.{Page}
 use Rattle.sgx_types.specs.Pages.{page_at, same_page}
-use Rattle.sgx_rules.specs.Frames.{Content, Holds, Put, content, is_page, is_sealing, made_before, put_by}
+use Rattle.sgx_rules.specs.Frames.{Content, Holds, Put, content, is_page, is_sealing, made_before, page_there, put_by, stands}
 use Rattle.sgx_rules.specs.Processors.{BareTranslation, Stay, stay, translations}
 use Rattle.job_grammar.specs.Jobs.{JobView}
 use Rattle.driver_rules.specs.inner.Decided.{all_along}
@@ -27,10 +28,14 @@ is_put_below frames (Some put) = nat_lt put.frame frames
 abbrev pub puts_below : ℕ → List Entry → Entry → Bool
 puts_below frames past e = is_put_below frames (put_by e.event (made_before past))
 
--- both hold the same page
+-- the frame holds this page, if any
+abbrev pub has_same : Option Page → Content → Bool
+has_same None held = false
+has_same (Some page) held = stands held page
+
+-- both hold the same page, of whatever type
 abbrev pub holds_same : Content → Content → Bool
-holds_same (Holds page kind perm) held = is_page held page
-holds_same _ held = false
+holds_same one held = has_same (page_there one) held
 
 abbrev pub are_apart : List Entry → ℕ → ℕ → Bool
 are_apart past m n = (m == n) || not (holds_same (content past m) (content past n))

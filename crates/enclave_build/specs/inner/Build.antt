@@ -1,8 +1,9 @@
 -- What the instructions that build an enclave see of it, and what each leaves.
-use Rattle.std.specs.Prelude.{ℕ, ◌+◌, ◌-◌, ◌*◌, ◌^◌, Bool, true, not, List, [], ◌++◌, Option, Some, None, Result, Ok}
-use Rattle.std.specs.Prelude.{Err, min}
+use Rattle.std.specs.Prelude.{ℕ, ◌+◌, ◌*◌, Bool, true, not, List, [], ◌++◌, Option, Some, None, Result, Ok}
+use Rattle.std.specs.Prelude.{Err, length}
 use Rattle.std.specs.Str.{bytes_eq}
 use Rattle.sgx_types.specs.declared.lawful.PageInit.{PageInit}
+use Rattle.sgx_types.specs.declared.names.TheConstants.{SECS_NUMBER}
 use Rattle.sgx_types.specs.declared.names.Page.{Page}
 use Rattle.sgx_types.specs.declared.names.Kind.{Kind}
 use Rattle.sgx_types.specs.declared.names.Kind.TheVariants as kinds
@@ -10,11 +11,13 @@ use Rattle.sgx_types.specs.declared.names.Perm.{Perm}
 use Rattle.sgx_rules.specs.declared.refusals.Refusal.{Refusal}
 use Rattle.sgx_rules.specs.declared.refusals.Refusal.TheVariants as why
 use Rattle.sgx_types.specs.Pages.{no_perm, page_at}
-use Rattle.sgx_rules.specs.Frames.{Content, Holds}
-use Rattle.sgx_rules.specs.Table.{Case, allowed, when, ◌otherwise◌, EnclaveSight, init_row}
+use Rattle.sgx_rules.specs.Frames.{Content, Holds, secs_frame}
+use Rattle.sgx_rules.specs.Table.{Case, allowed, when, ◌otherwise◌, EnclaveSight, SecsSight, init_row}
+use Rattle.sgx_rules.specs.Sights.{secs_seen}
 use Rattle.sgx_rules.specs.Flat.{first_words}
 use Rattle.epcm_entry.specs.inner.Epc.{EpcFrame, with_page, with_words, bytes_at, entry_at}
-use Rattle.epcm_entry.specs.inner.Sights.{held}
+use Rattle.epcm_entry.specs.inner.EntryView.{goes_out}
+use Rattle.epcm_entry.specs.inner.Sights.{held, held_in}
 use Rattle.secs_state.specs.inner.Secs.{SecsState, with_children}
 use Rattle.secs_state.specs.inner.Secs.{with_page as with_noted}
 use Rattle.measure_log.specs.declared.measure.Measure.{Measure}
@@ -32,11 +35,20 @@ refusal_in_build (Ok x) = None
 refusal_in_build (Err (ends.Refused refusal)) = Some refusal
 refusal_in_build (Err ends.Memory) = None
 
+-- ---- an enclave's SECS
+
+abbrev pub secs_sight : List EpcFrame → ℕ → SecsSight
+secs_sight epc enclave = secs_seen (λ n. goes_out (entry_at epc n)) (secs_frame (length epc) (held_in epc) enclave)
+
+-- the cases that a SECS gives
+abbrev pub secs_row : SecsSight → List Case
+secs_row s = when s.is_away why.Absent otherwise when s.is_sealing why.Conflict otherwise allowed
+
 -- ---- ECREATE
 
 -- the frame is the SECS of an enclave
 abbrev pub with_secs : List EpcFrame → ℕ → ℕ → List EpcFrame
-with_secs epc f enclave = with_page epc f (page_at enclave 0) kinds.Secs no_perm
+with_secs epc f enclave = with_page epc f (page_at enclave SECS_NUMBER) kinds.Secs no_perm
 
 -- ---- EADD
 
@@ -44,9 +56,9 @@ with_secs epc f enclave = with_page epc f (page_at enclave 0) kinds.Secs no_perm
 abbrev pub with_added : List EpcFrame → ℕ → Page → Kind → Perm → PageInit → List EpcFrame
 with_added epc f page kind perm init = with_words (with_page epc f page kind perm) f (first_words init)
 
--- the page is added and resident; a count at the end of its type stands still
+-- the page is added and resident
 abbrev pub with_resident : SecsState → ℕ → Kind → Perm → SecsState
-with_resident secs number kind perm = with_children (with_noted secs number kind perm) (min (secs.children + 1) (2 ^ 32 - 1))
+with_resident secs number kind perm = with_children (with_noted secs number kind perm) (secs.children + 1)
 
 -- the log goes on by a block
 abbrev pub Appends : Measure → Measure → List ℕ → Type 0
@@ -71,8 +83,8 @@ is_expected None made = true
 is_expected (Some wanted) made = bytes_eq wanted made
 
 -- the row of `init`, with the measurement as its last case
-abbrev pub measured_row : EnclaveSight → Option (List ℕ) → List ℕ → List Case
-measured_row enclave expect made = init_row (Some enclave) ++ (when (not (is_expected expect made)) (why.BadMeasure made) otherwise allowed)
+abbrev pub measured_row : EnclaveSight → SecsSight → Option (List ℕ) → List ℕ → List Case
+measured_row enclave secs expect made = init_row (Some enclave) secs ++ (when (not (is_expected expect made)) (why.BadMeasure made) otherwise allowed)
 
 -- a refusal but for the measurement
 abbrev pub unless_measured : Option Refusal → Option Refusal

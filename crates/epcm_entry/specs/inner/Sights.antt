@@ -23,6 +23,10 @@ held views.Free = Free
 held (views.Loading page) = IsLoading page
 held (views.Valid page kind perm blocked sealing) = content_of page kind perm
 
+-- what a frame holds
+abbrev pub held_in : List EpcFrame → ℕ → Content
+held_in epc n = held (entry_at epc n)
+
 -- what a row sees of a frame
 abbrev pub sight_in : List EpcFrame → ℕ → FrameSight
 sight_in epc n = record {

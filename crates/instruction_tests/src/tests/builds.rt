@@ -5,13 +5,13 @@ mod world;
 
 use self::rows::Row;
 use self::rows::Step::*;
-use self::rows::Told::{self, Created, Digest, Done, Is, Number, Refused};
+use self::rows::Told::{self, Created, Digest, Done, Is, Number, Refused, Stands};
 use self::world::play;
 use super::perms::{NONE, READ, READ_WRITE, WRITE};
 use epcm_entry::entry_view::EntryView;
 use sgx_rules::refusals::Refusal;
 use sgx_types::lawful::PageInit;
-use sgx_types::names::{Kind, Page};
+use sgx_types::names::{Frame, Kind, Page};
 use std::test::Fail;
 
 // Of five frames 0 is being loaded, 1 holds the SECS of an enclave of 16 pages, and the others are free.
@@ -191,8 +191,32 @@ const ADDS: &[Row] = &[
 #[test]
 fn adds_a_page_or_tells_why_not(rt: HostRuntime) -> Result<(), Fail> {
     play(&rt, rt.alloc(), &[BEGUN, ADDS])?;
+    play(&rt, rt.alloc(), &[BEGUN, ADDS_WITHOUT_SECS])?;
     Ok(())
 }
+
+// The SECS starts to go out of its frame, and is out.
+const ADDS_WITHOUT_SECS: &[Row] = &[
+    (SecsFrame, Stands(Some(Frame(1)))),
+    (Seal(1), Done),
+    (
+        Add(1, 5, Kind::Va, WRITE, ZEROS),
+        Refused(Refusal::BadRange),
+    ),
+    (
+        Add(1, 3, Kind::Va, WRITE, ZEROS),
+        Refused(Refusal::Conflict),
+    ),
+    (Init(None), Refused(Refusal::Conflict)),
+    (Clear(1), Done),
+    (SecsFrame, Stands(None)),
+    (
+        Add(1, 5, Kind::Va, WRITE, ZEROS),
+        Refused(Refusal::BadRange),
+    ),
+    (Add(1, 3, Kind::Va, WRITE, ZEROS), Refused(Refusal::Absent)),
+    (Init(None), Refused(Refusal::Absent)),
+];
 
 const EXTENDS: &[Row] = &[
     (Add(0, 2, Kind::Tcs, NONE, TCS), Done),

@@ -42,6 +42,10 @@ pub enum Instruction {
     StartOut(u32, u16),
     // Of a page into a frame, by a slot of frame 0.
     StartIn(u32, u32, u16),
+    // By a slot of any frame.
+    StartOutBy(u32, u32, u16),
+    // Of any page, by a slot of any frame.
+    StartInBy(Page, u32, u32, u16),
     // In full.
     Whole(Action),
 }
@@ -102,6 +106,21 @@ impl Instruction {
                 frame: Frame(frame),
                 page: Page { enclave: 1, number },
                 slot: slot(index),
+            },
+            Instruction::StartOutBy(frame, array, index) => Action::EwbStart {
+                frame: Frame(frame),
+                slot: SlotAt {
+                    frame: Frame(array),
+                    index,
+                },
+            },
+            Instruction::StartInBy(page, frame, array, index) => Action::EldStart {
+                frame: Frame(frame),
+                page,
+                slot: SlotAt {
+                    frame: Frame(array),
+                    index,
+                },
             },
             Instruction::Whole(action) => action,
         }

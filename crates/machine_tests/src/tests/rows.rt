@@ -52,6 +52,8 @@ pub enum Row {
     EndOut(u32, Answer),
     // .. with sealed work of which one byte is not the page's.
     EndOutOther(u32, Answer),
+    // The record that is kept and the one beside it change places.
+    Swap,
     // The end of the load of a frame, with the record that was kept.
     EndIn(u32, Result<Answer, Refusal>),
     // The reclaimer kicks a processor: the machine is what it was.
@@ -80,6 +82,13 @@ pub enum Reader {
     // How many processors are inside an enclave with an epoch at or below one.
     Older(u16, u64),
     IsInit(u16),
+    // How many pages of an enclave are resident.
+    Children(u16),
+    // Whether a slot of the version array page in a frame is in use.
+    AnyBusy(u32),
+    // How many version array pages were made, and whether one of a number is in a frame or comes into one.
+    Arrays,
+    HasArray(u32),
     // Whether an access of a page can succeed, by the enclave and the number of the page.
     Lawful(u16, u32, AccessOp),
 }

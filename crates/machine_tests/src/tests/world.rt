@@ -1,7 +1,8 @@
 //! A machine, and how a table is played on it.
 
 ghost use Rattle.std.specs.Prelude.{◌≡◌, ◌≤◌, IsTrue};
-ghost use Rattle.paging_laws.specs.inner.Steps.{CanApply};
+ghost use Rattle.paging_laws.specs.inner.Steps.{CanApply, CanMove};
+ghost use Rattle.paging_machine.specs.inner.Parts.{state_of};
 
 use super::instructions::Instruction;
 use super::rows::{DONE, FIRST, RECLAIMER, Reader, Row, Told};
@@ -23,6 +24,7 @@ pub struct World {
     machine: Box<Machine>,
     cpus: u8,
     record: Option<Record>,
+    beside: Option<Record>,
 }
 
 impl Model for World {
@@ -46,6 +48,7 @@ impl World {
             machine,
             cpus,
             record: None,
+            beside: None,
         })
     }
 
@@ -83,6 +86,12 @@ impl World {
                 });
                 Ok(())
             }
+            Row::Swap => {
+                let kept = self.record.take();
+                self.record = self.beside.take();
+                self.beside = kept;
+                Ok(())
+            }
             Row::Tells(reader, want) => {
                 let told = self.told(rt, reader);
                 assert_eq!(rt; told, want, "row {at}");
@@ -102,6 +111,7 @@ impl World {
         want: Result<Answer, Refusal>,
     ) -> Result<(), Memory> {
         assert!(rt; can_apply(self.cpus, actor, action), "row {at}");
+        assert!(rt; can_move(&self.machine, action), "row {at}");
         let entry = self.machine.apply(alloc, actor, &action)?;
         let event = event(action, want);
         assert_eq!(rt; entry, Entry { actor, event }, "row {at}");
@@ -225,6 +235,18 @@ impl World {
                 Told::Count(machine.older(enclave, epoch))
             }
             Reader::IsInit(enclave) => Told::Is(machine.is_init(enclave)),
+            Reader::Children(enclave) => {
+                assert!(rt; 1 <= enclave && enclave <= 8);
+                Told::Count(machine.children(enclave))
+            }
+            Reader::AnyBusy(frame) => {
+                assert!(rt; machine.holds_array(Frame(frame)));
+                Told::Is(machine.any_busy(Frame(frame)))
+            }
+            Reader::Arrays => {
+                Told::Count(u32::try_from(machine.arrays_made()).unwrap_or(u32::MAX))
+            }
+            Reader::HasArray(number) => Told::Is(machine.has_array(number)),
             Reader::Lawful(enclave, number, op) => {
                 Told::Is(machine.lawful(Page { enclave, number }, op))
             }
@@ -257,6 +279,16 @@ fn tag_of(answer: Answer) -> Option<[u8; 32]> {
     match answer {
         Answer::Moved { tag, .. } => Some(tag),
         _ => None,
+    }
+}
+
+fn can_move(machine: &Machine, action: Action) -> bool
+    ensures { IsTrue result → CanMove (state_of machine.now) action }
+{
+    match action {
+        Action::Epa { .. } => machine.arrays_made() < 1 << 32,
+        Action::EldStart { page, .. } => page.enclave != 0 || !machine.has_array(page.number),
+        _ => true,
     }
 }
 

@@ -1,6 +1,6 @@
 -- What the rules give of versions, starts and records: each version is drawn once, each slot has one start, and each record is one
 -- page's.
-use Rattle.std.specs.Prelude.{ℕ, ◌≡◌, ◌<◌, ◌≤◌, true, List, [], ◌∷◌, Some, None, is_some}
+use Rattle.std.specs.Prelude.{ℕ, ◌≡◌, ◌<◌, ◌≤◌, true, List, [], ◌∷◌, Some, None, false}
 use Rattle.std.specs.List.{Any}
 use Rattle.sgx_rules.specs.declared.entries.Action.TheVariants.{Ewb}
 use Rattle.sgx_rules.specs.declared.entries.Answer.TheVariants.{Moved}
@@ -8,9 +8,10 @@ use Rattle.sgx_rules.specs.declared.entries.Entry.{Entry}
 use Rattle.sgx_rules.specs.declared.entries.Event.{Event}
 use Rattle.sgx_rules.specs.declared.entries.Event.TheVariants.{Did}
 use Rattle.sgx_types.specs.declared.names.Page.{Page}
-use Rattle.sgx_rules.specs.Frames.{IsLoading, added, content}
+use Rattle.sgx_rules.specs.inner.Enclaves.{is_there}
+use Rattle.sgx_rules.specs.Frames.{IsLoading, IsVa, content, is_sealing}
 use Rattle.sgx_rules.specs.Rules.{Along, EvictRule, FlatRule, RefusalRule}
-use Rattle.sgx_rules.specs.Flat.{header_at}
+use Rattle.sgx_rules.specs.PageBytes.{header_at}
 use Rattle.sgx_types.specs.Pages.{same_slot}
 use Rattle.sgx_rules.specs.Slots.{is_slot_busy, next_version, version_in}
 use Rattle.sgx_rules.specs.Starts.{Start, open_start}
@@ -60,7 +61,13 @@ pub record DrawnOnce (first : ℕ) (past : List Entry) : Type 0 where
 
 -- ---- starts
 
--- an open start, of one of so many frames, has its slot for itself: of a load the slot has its version and the page was added, of a
+-- a slot is found still where a start found it, in a version array page that is not on its way out
+pub record IsFound (past : List Entry) (x : Start) : Type 0 where
+  pub held : content past x.at.frame.0 ≡ IsVa x.slot.va
+  pub index : x.at.index ≡ x.slot.index
+  pub stays : is_sealing past x.at.frame.0 ≡ false
+
+-- an open start, of one of so many frames, has its slot for itself: of a load the slot has its version and there is such a page, of a
 -- write-out it is empty
 pub record StartsApart (frames : ℕ) (past : List Entry) : Type 0 where
   pub below : (n : ℕ) (x : Start) → open_start past n ≡ Some x → n < frames
@@ -68,9 +75,11 @@ pub record StartsApart (frames : ℕ) (past : List Entry) : Type 0 where
   pub alone : (m n : ℕ) (x y : Start) → open_start past m ≡ Some x → open_start past n ≡ Some y → same_slot x.slot y.slot ≡ true → m ≡ n
   pub found : (n : ℕ) (x : Start) (g : Page) → open_start past n ≡ Some x → x.loads ≡ Some g
       → (version_in past x.slot ≡ x.version) × (0 < x.version)
-  pub added : (n : ℕ) (x : Start) (g : Page) → open_start past n ≡ Some x → x.loads ≡ Some g → is_some (added past g) ≡ true
+  pub there : (n : ℕ) (x : Start) (g : Page) → open_start past n ≡ Some x → x.loads ≡ Some g → is_there past g ≡ true
   pub loading : (n : ℕ) (x : Start) (g : Page) → open_start past n ≡ Some x → x.loads ≡ Some g → content past n ≡ IsLoading g
   pub empty : (n : ℕ) (x : Start) → open_start past n ≡ Some x → x.loads ≡ None → version_in past x.slot ≡ 0
+  pub leaving : (n : ℕ) (x : Start) → open_start past n ≡ Some x → x.loads ≡ None → is_sealing past n ≡ true
+  pub where_found : (n : ℕ) (x : Start) → open_start past n ≡ Some x → IsFound past x
 
 -- ---- records
 

@@ -2,15 +2,14 @@
 use Rattle.std.specs.Prelude.{ℕ, ◌≡◌, not, true, List, nat_lt}
 use Rattle.sgx_rules.specs.declared.entries.Entry.{Entry}
 use Rattle.sgx_types.specs.declared.names.Page.{Page}
-use Rattle.sgx_types.specs.declared.names.SlotAt.{SlotAt}
 use Rattle.sgx_rules.specs.inner.Enclaves.{IsTaken}
 use Rattle.sgx_rules.specs.Epochs.{older_at}
 use Rattle.sgx_rules.specs.inner.Epochs.{newer_at}
 use Rattle.sgx_rules.specs.Rules.{Along, EvictRule, Fits, FitsRule, RisingRule, Stale}
-use Rattle.sgx_rules.specs.Slots.{is_slot_busy}
+use Rattle.sgx_rules.specs.PageBytes.{ArraysRest}
 use Rattle.sgx_rules.specs.inner.Starts.{LoadsAreApart}
 use Rattle.sgx_types.specs.Making.{Making}
-use Rattle.paging_laws.specs.inner.Columns.{HasColumns}
+use Rattle.paging_laws.specs.inner.Columns.{HasBusy, HasColumns}
 use Rattle.paging_laws.specs.inner.State.{State, making_of, number_noting}
 
 -- a TCS page is busy exactly where a processor is inside by it
@@ -25,8 +24,7 @@ pub record IsShaped (made : Making) (s : State) (past : List Entry) : Type 0 whe
   pub older : (e : ℕ) → number_noting s e (λ m. nat_lt m (s.epoch e)) ≡ older_at past e
   pub newer : (e : ℕ) → number_noting s e (λ m. not (nat_lt m (s.epoch e))) ≡ newer_at past e
   pub busy : (g : Page) → IsBusyBy s past g
-  -- a slot is busy exactly where an open start of one of the machine's frames names it
-  pub slot_busy : (slot : SlotAt) → s.is_slot_busy slot ≡ is_slot_busy s.frames past slot
+  pub slots_busy : HasBusy s past
 
 -- a machine of the shape of its entries, by which frames are the EPC's and taken where they are free, no translation is stale, only
 -- drained pages go out, and versions rise
@@ -36,6 +34,7 @@ pub record ShapeWithRules (made : Making) (s : State) (past : List Entry) : Type
   pub stale : Stale past
   pub evict : Along EvictRule past
   pub rising : Along (RisingRule made.first_version) past
+  pub rest : ArraysRest past
 
 -- no page stands in two frames, and none is loaded that stands in one
 pub record FitsApart (frames : ℕ) (past : List Entry) : Type 0 where

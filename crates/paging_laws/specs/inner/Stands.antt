@@ -7,8 +7,8 @@ use Rattle.sgx_types.specs.declared.names.Page.{Page}
 use Rattle.sgx_types.specs.declared.names.Kind.{Kind}
 use Rattle.sgx_types.specs.declared.names.Kind.TheVariants as kinds
 use Rattle.sgx_types.specs.declared.names.Perm.{Perm}
-use Rattle.sgx_types.specs.Pages.{page_at}
-use Rattle.sgx_rules.specs.Frames.{Content, Holds, content, enclave_in, is_page, page_of}
+use Rattle.sgx_types.specs.Pages.{is_va_page, page_at}
+use Rattle.sgx_rules.specs.Frames.{Content, Holds, content, enclave_in, is_page, page_there}
 use Rattle.sgx_rules.specs.Processors.{Seat, Stay, stay}
 use Rattle.sgx_rules.specs.Table.{TcsSight, is_reg, is_tcs}
 use Rattle.sgx_rules.specs.Flat.{FlatCpu, FlatEnclave, FlatMemory, Inside, added_as, flat, tcs_fields}
@@ -18,7 +18,7 @@ use Rattle.measure_log.specs.declared.measure.Measure.{Measure}
 use Rattle.measure_log.specs.inner.Measure.{HoldsLog}
 use Rattle.measure_log.specs.Rule.{log, MeasureRule}
 use Rattle.cached_translations.specs.declared.cache.Translation.{Translation}
-use Rattle.paging_laws.specs.inner.Columns.{HasColumns}
+use Rattle.paging_laws.specs.inner.Columns.{HasAllVersions, HasColumns}
 use Rattle.paging_laws.specs.inner.State.{State, making_of}
 
 abbrev pub inside_of_stay : Option Stay → Option Inside
@@ -64,6 +64,7 @@ pub record Shows (s : State) (past : List Entry) (m : FlatMemory) : Type 0 where
 -- the state stands for the entries, with the flat memory that they make
 pub record Stands (s : State) (past : List Entry) : Type 0 where
   pub columns : HasColumns s past
+  pub versions : HasAllVersions s past
   pub memory : Shows s past (flat past)
 
 -- ---- what every state keeps
@@ -114,9 +115,9 @@ IsMeasured s = (e : ℕ) → is_some (s.enclaves e) ≡ true → is_some (s.meas
 abbrev pub IsFramed : State → Type 0
 IsFramed s = (n : ℕ) (g : Page) (kind : Kind) (perm : Perm) → s.content n ≡ Holds g kind perm → is_some (s.added g) ≡ true
 
--- the enclave of each page in a frame was created
+-- the enclave of each page in a frame was created, a SECS's too
 abbrev pub HasEnclaves : State → Type 0
-HasEnclaves s = (n : ℕ) (g : Page) → page_of (s.content n) ≡ Some g → is_some (s.enclaves g.enclave) ≡ true
+HasEnclaves s = (n : ℕ) (g : Page) → page_there (s.content n) ≡ Some g → is_va_page g ≡ false → is_some (s.enclaves g.enclave) ≡ true
 
 -- a state that stands for entries which keep the rules
 pub record StandsWithRules (s : State) (past : List Entry) : Type 0 where

@@ -1,6 +1,6 @@
 -- The machine's state as functions of a frame, an enclave, a page and a processor, what an instruction sees of it, and
 -- what each instruction does to it.
-use Rattle.std.specs.Prelude.{ℕ, ◌==◌, ◌+◌, ◌-◌, ◌/◌, ◌^◌, ◌&&◌, Bool, true, false, if◌then◌else◌, List, []}
+use Rattle.std.specs.Prelude.{ℕ, ◌==◌, ◌+◌, ◌-◌, ◌/◌, ◌^◌, ◌&&◌, ◌||◌, Bool, true, false, if◌then◌else◌, List, []}
 use Rattle.std.specs.Prelude.{Option, Some, None, nat_le, nat_lt, is_some, slice_index, slice_set}
 use Rattle.sgx_types.specs.declared.names.Actor.{Actor}
 use Rattle.sgx_types.specs.declared.names.Actor.TheVariants as actors
@@ -14,27 +14,32 @@ use Rattle.sgx_types.specs.declared.names.Kind.{Kind}
 use Rattle.sgx_types.specs.declared.names.Page.{Page}
 use Rattle.sgx_types.specs.declared.names.Perm.{Perm}
 use Rattle.sgx_types.specs.declared.names.SlotAt.{SlotAt}
-use Rattle.sgx_types.specs.Counts.{count_below}
+use Rattle.sgx_types.specs.Counts.{any_below, count_below}
 use Rattle.sgx_types.specs.Making.{Making}
 use Rattle.sgx_rules.specs.Epochs.{epoch_of}
-use Rattle.sgx_types.specs.Pages.{same_page, page_at}
+use Rattle.sgx_types.specs.Pages.{is_own_page, is_secs_page, is_va_page, same_page, page_at}
 use Rattle.sgx_rules.specs.Frames.{Content, Free, IsVa, SecsOf, Holds, IsLoading, enclave_in}
+use Rattle.sgx_rules.specs.Frames.{secs_frame}
 use Rattle.sgx_rules.specs.Processors.{Seat}
-use Rattle.sgx_rules.specs.Table.{Case, allowed, FrameSight, EnterSight, TrackSight, SlotSight, DrainSight, is_ready, epa_row}
-use Rattle.sgx_rules.specs.Table.{create_row}
+use Rattle.sgx_rules.specs.Table.{Case, allowed, FrameSight, EnterSight, TrackSight, SlotSight, DrainSight, LoadSight, SecsSight}
+use Rattle.sgx_rules.specs.Table.{UseSight}
+use Rattle.sgx_rules.specs.Table.{is_made, is_own, is_ready, is_va, epa_row, create_row}
 use Rattle.sgx_rules.specs.Table.{add_row, extend_row, init_row, enter_row, resume_row, exit_row, aex_row, fill_row, load_row}
 use Rattle.sgx_rules.specs.Table.{store_row}
 use Rattle.sgx_rules.specs.Table.{xadd_row, set_row, plus_row, pf_row, outload_row, outstore_row, block_row, track_row}
 use Rattle.sgx_rules.specs.Table.{ewbstart_row}
 use Rattle.sgx_rules.specs.Table.{eldstart_row}
-use Rattle.epcm_entry.specs.inner.Words.{zero_words}
+use Rattle.epcm_entry.specs.inner.Words.{words_of, zero_words}
 use Rattle.cached_translations.specs.declared.cache.Translation.{Translation}
 use Rattle.cached_translations.specs.inner.Translations.{translation_of, with_translation}
 use Rattle.measure_log.specs.declared.measure.Measure.{Measure}
-use Rattle.sgx_rules.specs.Flat.{FlatEnclave, enclave_sight_of, marked, tcs_fields, with_cssa, first_words, word_index, sum_of}
-use Rattle.sgx_rules.specs.Sights.{seat_of}
-use Rattle.sgx_types.specs.Pages.{same_slot}
+use Rattle.sgx_rules.specs.Flat.{FlatEnclave, enclave_sight_of, marked, settled, tcs_fields, with_cssa, first_words, word_index}
+use Rattle.sgx_rules.specs.Flat.{sum_of}
+use Rattle.sgx_rules.specs.Sights.{children_under, seat_of, secs_seen}
+use Rattle.sgx_types.specs.Pages.{same_place}
+use Rattle.sgx_rules.specs.Starts.{slot_in}
 use Rattle.sgx_rules.specs.inner.Starts.{BareStart}
+use Rattle.sgx_types.specs.declared.names.VaSlot.{VaSlot}
 use Rattle.sgx_types.specs.declared.names.TheConstants.{LAST_EPOCH}
 
 pub record State : Type 0 where
@@ -56,8 +61,9 @@ pub record State : Type 0 where
   -- the epoch that a processor inside noted when it entered, and 0 of one outside
   pub noted : ℕ → ℕ
   pub epoch : ℕ → ℕ
+  -- of the version array page in a frame the versions in its slots, 0 where there is no such page, and which slots open starts name
   pub version_in : SlotAt → ℕ
-  pub is_slot_busy : SlotAt → Bool
+  pub is_slot_named : SlotAt → Bool
   pub next_version : ℕ
   -- the open start of a frame
   pub start : ℕ → Option BareStart
@@ -89,7 +95,7 @@ fresh frames cpus key first_epoch first_version = record {
   noted = λ p. 0;
   epoch = λ e. first_epoch;
   version_in = λ slot. 0;
-  is_slot_busy = λ slot. false;
+  is_slot_named = λ slot. false;
   next_version = first_version;
   start = λ n. None;
   cpus = cpus;
@@ -145,21 +151,60 @@ is_noting enclave test (Some seat) m = (seat.enclave == enclave) && test m
 abbrev pub number_noting : State → ℕ → (ℕ → Bool) → ℕ
 number_noting s enclave test = count_below (λ p. is_noting enclave test (s.inside p) (s.noted p)) 16
 
+-- an enclave's SECS
+abbrev pub secs_sight : State → ℕ → SecsSight
+secs_sight s enclave = secs_seen s.is_sealing (secs_frame s.frames s.content enclave)
+
 -- what `track` sees
 abbrev pub track_sight : State → ℕ → TrackSight
 track_sight s enclave = record {
   enclave = enclave_sight_of (s.enclaves enclave);
+  secs = secs_sight s enclave;
   older = number_noting s enclave (λ m. nat_lt m (s.epoch enclave));
   is_spent = s.epoch enclave == LAST_EPOCH;
 }
+
+-- the slot of this index in a frame
+abbrev pub place_at : ℕ → ℕ → SlotAt
+place_at n index = record { frame = record { 0 = n }; index = index }
+
+-- a slot of the version array page in a frame is busy where an open start names it, and while the page is on its way out
+abbrev pub is_busy_at : State → SlotAt → Bool
+is_busy_at s slot = is_va (s.content slot.frame.0) && (s.is_slot_named slot || s.is_sealing slot.frame.0)
+
+abbrev pub version_at : State → SlotAt → ℕ
+version_at s slot = if is_va (s.content slot.frame.0) then s.version_in slot else 0
 
 abbrev pub slot_sight : State → SlotAt → SlotSight
 slot_sight s slot = record {
   frame = sight s slot.frame.0;
   is_beyond = nat_lt 511 slot.index;
-  is_busy = s.is_slot_busy slot;
-  version = s.version_in slot;
+  is_busy = is_busy_at s slot;
+  version = version_at s slot;
 }
+
+-- an open start names a slot of what a frame holds
+abbrev pub is_in_use : State → ℕ → Bool
+is_in_use s n = is_va (s.content n) && any_below (λ index. s.is_slot_named (place_at n index)) 512
+
+-- the uses of what a frame holds
+abbrev pub use_sight : State → ℕ → SlotAt → UseSight
+use_sight s n slot = record {
+  is_in_use = is_in_use s n;
+  is_its_own = n == slot.frame.0;
+  children = children_under s.frames s.content (s.content n);
+}
+
+-- whether there is such a page
+abbrev pub is_known : State → Page → Bool
+is_known s g =
+    if is_va_page g then nat_lt g.number s.vas_made
+    else if is_secs_page g then is_made (enclave_sight_of (s.enclaves g.enclave))
+    else is_made (enclave_sight_of (s.enclaves g.enclave)) && is_some (s.added g)
+
+-- a page that is to be loaded
+abbrev pub load_sight : State → Page → LoadSight
+load_sight s g = record { is_known = is_known s g; secs = if is_own_page g then secs_sight s g.enclave else settled }
 
 abbrev pub number_up_to : State → Option ℕ → Option ℕ → ℕ
 number_up_to s (Some enclave) (Some b) = number_noting s enclave (λ m. nat_le m b)
@@ -215,14 +260,15 @@ abbrev pub row_of : State → Actor → Action → List Case
 row_of s actor (Epa f) = epa_row (sight s f.0)
 row_of s actor (Create enclave f base size) = create_row enclave base size (is_some (s.enclaves enclave)) (sight s f.0)
 row_of s actor (Add enclave number f kind perm init) =
-    add_row number kind perm init (enclave_sight_of (s.enclaves enclave)) (is_some (s.added (page_at enclave number))) (sight s f.0)
+    add_row number kind perm init (enclave_sight_of (s.enclaves enclave)) (secs_sight s enclave) (is_some (s.added (page_at enclave number)))
+    (sight s f.0)
 row_of s actor (Extend f chunk) = extend_row chunk (is_closed s (enclave_in (s.content f.0))) (sight s f.0)
-row_of s actor (Init enclave expect) = init_row (enclave_sight_of (s.enclaves enclave))
+row_of s actor (Init enclave expect) = init_row (enclave_sight_of (s.enclaves enclave)) (secs_sight s enclave)
 row_of s actor (Block f) = block_row (sight s f.0)
 row_of s actor (Track enclave) = track_row (track_sight s enclave)
-row_of s actor (EwbStart f slot) = ewbstart_row (sight s f.0) (slot_sight s slot) (drain_sight s f.0) (is_version_spent s)
-row_of s actor (EldStart f page slot) =
-    eldstart_row (sight s f.0) (enclave_sight_of (s.enclaves page.enclave)) (is_some (s.added page)) (slot_sight s slot)
+row_of s actor (EwbStart f slot) =
+    ewbstart_row (sight s f.0) (use_sight s f.0 slot) (slot_sight s slot) (drain_sight s f.0) (is_version_spent s)
+row_of s actor (EldStart f page slot) = eldstart_row (sight s f.0) (load_sight s page) (slot_sight s slot)
 row_of s (actors.Cpu p) action = cpu_row_of s p.0 action
 row_of s actor action = allowed
 
@@ -234,8 +280,13 @@ with_content s f c = record s {
   blocked = λ n. if f == n then None else s.blocked n;
 }
 
+-- the slots of a new version array page are empty
 abbrev pub after_epa : State → ℕ → State
-after_epa s f = record (with_content s f (IsVa s.vas_made)) { vas_made = s.vas_made + 1 }
+after_epa s f = record (with_content s f (IsVa s.vas_made)) {
+  vas_made = s.vas_made + 1;
+  version_in = λ slot. if f == slot.frame.0 then 0 else s.version_in slot;
+  is_slot_named = λ slot. if f == slot.frame.0 then false else s.is_slot_named slot;
+}
 
 abbrev pub after_create : State → ℕ → ℕ → ℕ → ℕ → Measure → State
 after_create s enclave f base size begun = record (with_content s f (SecsOf enclave)) {
@@ -344,36 +395,46 @@ after_block s f = record s { blocked = λ n. if f == n then Some (epoch_in s n) 
 abbrev pub after_track : State → ℕ → State
 after_track s enclave = record s { epoch = λ e. if enclave == e then s.epoch e + 1 else s.epoch e }
 
--- a start of a frame names a slot, which is busy
+-- the slot that is found in a frame; where the frame holds no version array page, the first one of the first
+abbrev pub slot_of_found : Option VaSlot → VaSlot
+slot_of_found None = record { va = 0; index = 0 }
+slot_of_found (Some slot) = slot
+
+-- a start with the slot that it found, under this version
+abbrev pub started : State → SlotAt → ℕ → Option Page → BareStart
+started s at version loads =
+    record { at = at; slot = slot_of_found (slot_in (s.content at.frame.0) at.index); version = version; loads = loads }
+
+-- a start of a frame names a slot
 abbrev pub with_start : State → ℕ → BareStart → State
 with_start s f start = record s {
   start = λ n. if f == n then Some start else s.start n;
-  is_slot_busy = λ slot. if same_slot start.slot slot then true else s.is_slot_busy slot;
+  is_slot_named = λ slot. if same_place start.at slot then true else s.is_slot_named slot;
 }
 
 -- the page in a frame is on its way out, and a version is drawn
 abbrev pub after_ewbstart : State → ℕ → SlotAt → State
-after_ewbstart s f slot = record (with_start s f (record { slot = slot; version = s.next_version; loads = None })) {
+after_ewbstart s f slot = record (with_start s f (started s slot s.next_version None)) {
   is_sealing = λ n. if f == n then true else s.is_sealing n;
   next_version = s.next_version + 1;
 }
 
 -- a frame waits for the page whose version is in the slot
 abbrev pub after_eldstart : State → ℕ → Page → SlotAt → State
-after_eldstart s f page slot = record (with_start s f (record { slot = slot; version = s.version_in slot; loads = Some page })) {
+after_eldstart s f page slot = record (with_start s f (started s slot (version_at s slot) (Some page))) {
   content = λ n. if f == n then IsLoading page else s.content n;
   blocked = λ n. if f == n then None else s.blocked n;
 }
 
--- the start of a frame has ended, and its slot is not busy any more
+-- the start of a frame has ended, and names its slot no more
 abbrev pub without_start : State → ℕ → BareStart → State
 without_start s f start = record s {
   start = λ n. if f == n then None else s.start n;
-  is_slot_busy = λ slot. if same_slot start.slot slot then false else s.is_slot_busy slot;
+  is_slot_named = λ slot. if same_place start.at slot then false else s.is_slot_named slot;
 }
 
 abbrev pub with_version : State → SlotAt → ℕ → State
-with_version s at version = record s { version_in = λ slot. if same_slot at slot then version else s.version_in slot }
+with_version s at version = record s { version_in = λ slot. if same_place at slot then version else s.version_in slot }
 
 -- a frame is free, and its words are 0
 abbrev pub with_free : State → ℕ → State
@@ -384,16 +445,25 @@ with_free s f = record s {
   words = λ n. if f == n then zero_words else s.words n;
 }
 
--- the page in a frame is out, and its version in the slot
-abbrev pub after_ewb : State → ℕ → BareStart → State
-after_ewb s f start = with_version (with_free (without_start s f start) f) start.slot start.version
+-- the slots of the version array page in a frame go with it
+abbrev pub with_slots_gone : State → ℕ → Bool → State
+with_slots_gone s f is_array = record s { version_in = λ slot. if is_array && (slot.frame.0 == f) then 0 else s.version_in slot }
 
--- a page is back in a frame, as what it was added, with these words, and no version is in the slot
-abbrev pub after_eld : State → ℕ → BareStart → Page → Kind → Perm → List ℕ → State
-after_eld s f start page kind perm words = record (with_version (without_start s f start) start.slot 0) {
-  content = λ n. if f == n then Holds page kind perm else s.content n;
+-- what a frame held is out, and its version in the slot
+abbrev pub after_ewb : State → ℕ → BareStart → State
+after_ewb s f start =
+    with_version (with_slots_gone (with_free (without_start s f start) f) f (is_va (s.content f))) start.at start.version
+
+-- a page is back in a frame, with the words that its bytes make, or a version array page with its slots, and no version is in the slot
+-- of its start. Nothing of a SECS is kept in its frame
+abbrev pub after_eld : State → ℕ → BareStart → Content → List ℕ → State
+after_eld s f start back plain = record (with_version (without_start s f start) start.at 0) {
+  content = λ n. if f == n then back else s.content n;
   blocked = λ n. if f == n then None else s.blocked n;
-  words = λ n. if f == n then words else s.words n;
+  words = λ n. if is_own back && (f == n) then words_of plain else s.words n;
+  version_in = λ slot.
+      if is_va back && (slot.frame.0 == f) then slice_index (words_of plain) slot.index
+      else if same_place start.at slot then 0 else s.version_in slot;
 }
 
 -- a load is refused: its frame is free, and its slot keeps the version

@@ -1,6 +1,6 @@
 -- One instruction of the machine, or the commit of one: its entry and the state after it, exactly by its row.
-use Rattle.std.specs.Prelude.{ℕ, ◌≡◌, ◌<◌, ◌+◌, ◌*◌, ◌/◌, ◌⊎◌, Bool, true, List, Option, Some, MatchOption}
-use Rattle.std.specs.Prelude.{unwrap_or}
+use Rattle.std.specs.Prelude.{ℕ, ◌≡◌, ◌<◌, ◌+◌, ◌*◌, ◌/◌, ◌^◌, ◌⊎◌, Bool, true, false, if◌then◌else◌, List, Option, Some, None}
+use Rattle.std.specs.Prelude.{MatchOption, length, map, unwrap_or}
 use Rattle.std.specs.Option.{IsSomeAnd}
 use Rattle.sgx_rules.specs.declared.entries.Entry.{Entry}
 use Rattle.sgx_rules.specs.declared.entries.Event.TheVariants.{Did, Refused}
@@ -21,13 +21,16 @@ use Rattle.sgx_types.specs.declared.names.Frame.{Frame}
 use Rattle.sgx_types.specs.declared.names.Kind.{Kind}
 use Rattle.sgx_types.specs.declared.names.Page.{Page}
 use Rattle.sgx_types.specs.declared.names.Perm.{Perm}
-use Rattle.sgx_types.specs.Pages.{page_at, no_perm}
-use Rattle.sgx_rules.specs.Frames.{Holds, page_of}
+use Rattle.sgx_types.specs.Pages.{is_secs_page, is_va_page, page_at, no_perm}
+use Rattle.sgx_rules.specs.Frames.{Content, IsVa, SecsOf, Holds, page_of, page_there, reloaded}
+use Rattle.sgx_rules.specs.PageBytes.{secs_bytes, secs_header, va_header}
+use Rattle.std.specs.List.{range_with_len}
+use Rattle.page_history.specs.inner.Away.{array_in}
 use Rattle.sgx_types.specs.declared.record.Header.{Header}
 use Rattle.sgx_rules.specs.Table.{Case, first_of_row, perm_in, fault_of}
 use Rattle.sgx_rules.specs.Flat.{FlatEnclave, all_ones, is_processors, sum_of}
 use Rattle.sgx_rules.specs.Sights.{seat_of}
-use Rattle.sgx_types.specs.Layouts.{flags_of, bytes_of}
+use Rattle.sgx_types.specs.Layouts.{flags_of, bytes_of, zeros}
 use Rattle.sgx_types.specs.Sealed.{Sealed, header_of}
 use Rattle.sgx_rules.specs.inner.Starts.{BareStart}
 use Rattle.epcm_entry.specs.inner.Words.{words_of}
@@ -37,8 +40,8 @@ use Rattle.measure_log.specs.declared.measure.Measure.{Measure}
 use Rattle.measure_log.specs.Blocks.{ecreate_block, eadd_block, eextend_block, chunk_of}
 use Rattle.measure_log.specs.inner.Measure.{HoldsLog, TakesIn, FinishesTo}
 use Rattle.measure_log.specs.Rule.{IsExpected, IsOther}
-use Rattle.paging_laws.specs.inner.State.{State, row_of, added_inside, cssa_in, saved_word, word_at, with_acc, after_epa}
-use Rattle.paging_laws.specs.inner.State.{after_create, after_add}
+use Rattle.paging_laws.specs.inner.State.{State, is_known, place_at, row_of, version_at, added_inside, cssa_in, saved_word}
+use Rattle.paging_laws.specs.inner.State.{word_at, with_acc, after_epa, after_create, after_add}
 use Rattle.paging_laws.specs.inner.State.{after_extend, after_init, after_enter, after_resume, after_exit, after_aex, after_fill}
 use Rattle.paging_laws.specs.inner.State.{after_store}
 use Rattle.paging_laws.specs.inner.State.{after_xadd, after_block, after_track, after_ewbstart, after_eldstart, after_ewb}
@@ -77,6 +80,12 @@ CanApply cpus (actors.Cpu p) (OutLoad enclave off) = p.0 < cpus
 CanApply cpus (actors.Cpu p) (OutStore enclave off value) = p.0 < cpus
 CanApply cpus _ _ = ⊥
 
+-- the pages that may be loaded, and made, whoever asks: a version array page that no frame holds or waits for, and fewer than 2 ^ 32
+abbrev pub CanMove : State → Action → Type 0
+CanMove s (Epa f) = s.vas_made < 2 ^ 32
+CanMove s (EldStart f page slot) = is_va_page page ≡ true → (n : ℕ) → array_in (s.content n) ≡ Some page.number → ⊥
+CanMove s _ = Unit {0}
+
 -- the instructions of processors alone: those that programs see, and the fill of a translation
 abbrev pub is_of_cpus : Action → Bool
 is_of_cpus (Fill number f) = true
@@ -99,7 +108,7 @@ answer_of s (actors.Cpu p) (Plus value) = answers.Value (sum_of (s.acc p.0) valu
 answer_of s (actors.Cpu p) (Pf op off) = answers.Pf (fault_of (added_inside s (s.inside p.0) (off / 4096)))
 answer_of s (actors.Cpu p) (OutLoad enclave off) = answers.Value all_ones
 answer_of s actor (EwbStart f slot) = answers.Version s.next_version
-answer_of s actor (EldStart f page slot) = answers.Version (s.version_in slot)
+answer_of s actor (EldStart f page slot) = answers.Version (version_at s slot)
 answer_of s actor action = answers.Plain
 
 -- the state after an instruction that its row allows, but for those that measure
@@ -166,24 +175,52 @@ IsStep s actor action e s' = MatchOption (first_of_row (row_of s actor action)) 
 
 -- ---- the commits
 
--- the header of the page in a frame
-pub record IsHeaderIn (s : State) (f : ℕ) (header : Header) : Type 0 where
-  pub page : Page
-  pub kind : Kind
-  pub perm : Perm
-  pub held : s.content f ≡ Holds page kind perm
+-- the header of a page, by what the state knows of its enclave
+abbrev pub header_by : Option FlatEnclave → Option (Kind × Perm) → Page → Option Header
+header_by (Some enclave) (Some x) g = Some (header_of enclave.base g x.0 x.1)
+header_by _ _ g = None
+
+abbrev pub header_in : State → Page → Option Header
+header_in s g =
+    if is_va_page g then Some (va_header g.number)
+    else if is_secs_page g then Some (secs_header g.enclave)
+    else header_by (s.enclaves g.enclave) (s.added g) g
+
+-- the digest of an enclave's measurement where it is initialised, and zero before
+abbrev pub IsDigest : Bool → Option Measure → List ℕ → Type 0
+IsDigest false measure digest = digest ≡ zeros 32
+IsDigest true measure digest = IsSomeAnd measure (λ m. FinishesTo m digest)
+
+-- the bytes of an enclave's SECS
+pub record HasSecsBytes (s : State) (e : ℕ) (plain : List ℕ) : Type 0 where
   pub enclave : FlatEnclave
-  pub made : s.enclaves page.enclave ≡ Some enclave
-  pub headed : header ≡ header_of enclave.base page kind perm
+  pub made : s.enclaves e ≡ Some enclave
+  pub digest : List ℕ
+  pub finished : IsDigest enclave.is_init (s.measure e) digest
+  pub bytes : plain ≡ secs_bytes enclave digest
+
+-- the versions in the slots of the version array page in a frame
+abbrev pub slots_in : State → ℕ → List ℕ
+slots_in s f = map (λ index. s.version_in (place_at f index)) (range_with_len 0 512)
+
+-- the bytes of what a frame holds: of its slots or of the frame's words, which are those of the bytes, or of the SECS
+abbrev pub HasBytesOf : State → ℕ → Content → List ℕ → Type 0
+HasBytesOf s f (IsVa number) bytes = (bytes ≡ bytes_of (slots_in s f)) × (words_of bytes ≡ slots_in s f)
+HasBytesOf s f (SecsOf enclave) bytes = HasSecsBytes s enclave bytes
+HasBytesOf s f (Holds page kind perm) bytes = (bytes ≡ bytes_of (s.words f)) × (words_of bytes ≡ s.words f)
+HasBytesOf s f _ bytes = ⊥
 
 -- a page that has started to go out of a frame
 pub record IsLeaving (s : State) (f : ℕ) : Type 0 where
   pub start : BareStart
   pub opened : s.start f ≡ Some start
+  pub page : Page
+  pub held : page_there (s.content f) ≡ Some page
   pub header : Header
-  pub page : IsHeaderIn s f header
-  -- its words are those of its bytes
-  pub words : words_of (bytes_of (s.words f)) ≡ s.words f
+  pub headed : header_in s page ≡ Some header
+  pub bytes : List ℕ
+  pub sized : length bytes ≡ 4096
+  pub kept : HasBytesOf s f (s.content f) bytes
 
 -- what is sealed of it: its bytes, under the machine's key, the version that was drawn and the page's header
 pub record SealsPage (s : State) (f : ℕ) (by : List ℕ) (under : ℕ) (headed : Header) (bytes : List ℕ) : Type 0 where
@@ -191,13 +228,13 @@ pub record SealsPage (s : State) (f : ℕ) (by : List ℕ) (under : ℕ) (headed
   pub key : by ≡ s.key
   pub version : under ≡ leaving.start.version
   pub header : headed ≡ leaving.header
-  pub plain : bytes ≡ bytes_of (s.words f)
+  pub plain : bytes ≡ leaving.bytes
 
 -- the commit of EWB: the page is out
 pub record IsWrittenOut (s : State) (actor : Actor) (f : Frame) (e : Entry) (rec : Sealed) (s' : State) : Type 0 where
   pub leaving : IsLeaving s f.0
-  pub sealed : rec ≡ sealed s.key leaving.start.version leaving.header (bytes_of (s.words f.0))
-  pub entry : e ≡ did_by actor (Ewb f) (answers.Moved leaving.page.page leaving.start.version rec.tag)
+  pub sealed : rec ≡ sealed s.key leaving.start.version leaving.header leaving.bytes
+  pub entry : e ≡ did_by actor (Ewb f) (answers.Moved leaving.page leaving.start.version rec.tag)
   pub state : s' ≡ after_ewb s f.0 leaving.start
 
 -- a page for which a frame waits
@@ -206,13 +243,9 @@ pub record IsComing (s : State) (f : ℕ) : Type 0 where
   pub opened : s.start f ≡ Some start
   pub page : Page
   pub loads : start.loads ≡ Some page
-  pub kind : Kind
-  pub perm : Perm
-  pub added : s.added page ≡ Some (kind, perm)
-  pub enclave : FlatEnclave
-  pub made : s.enclaves page.enclave ≡ Some enclave
+  pub known : is_known s page ≡ true
   pub header : Header
-  pub headed : header ≡ header_of enclave.base page kind perm
+  pub headed : header_in s page ≡ Some header
 
 -- the row of the commit of ELDU, where this record was brought
 abbrev pub commit_row : (s : State) (f : ℕ) → IsComing s f → Sealed → List Case
@@ -223,5 +256,5 @@ pub record IsReloaded (s : State) (actor : Actor) (f : Frame) (rec : Sealed) (e 
   pub coming : IsComing s f.0
   pub row : MatchOption (first_of_row (commit_row s f.0 coming rec))
       ((e ≡ did_by actor (Eld f) (answers.Moved coming.page coming.start.version rec.tag))
-      × (s' ≡ after_eld s f.0 coming.start coming.page coming.kind coming.perm (words_of (cipher s.key coming.start.version rec.cipher))))
+      × (s' ≡ after_eld s f.0 coming.start (reloaded coming.page (s.added coming.page)) (cipher s.key coming.start.version rec.cipher)))
       (λ refusal. (e ≡ refused_by actor (Eld f) refusal) × (s' ≡ after_failed_eld s f.0 coming.start))

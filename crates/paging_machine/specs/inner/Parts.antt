@@ -19,8 +19,7 @@ use Rattle.cached_translations.specs.declared.processor.Mode.TheVariants.{Outsid
 use Rattle.measure_log.specs.declared.measure.Measure.{Measure}
 use Rattle.track_epoch.specs.inner.Tracking.{Tracking, starting_at}
 use Rattle.track_epoch.specs.inner.Tracks.{track_of}
-use Rattle.version_array.specs.declared.va_page.VaSlot.{VaSlot}
-use Rattle.version_array.specs.inner.Slots.{is_busy_at as is_slot_busy_at, pages_made, version_in}
+use Rattle.version_array.specs.inner.Slots.{VaArrays, is_busy_at as is_slot_busy_at, version_in}
 use Rattle.sgx_rules.specs.inner.Starts.{BareStart}
 use Rattle.paging_machine.specs.declared.starts.Start as starts
 use Rattle.paging_laws.specs.inner.State.{State}
@@ -32,7 +31,7 @@ pub record Parts : Type 0 where
   pub secs : List (Option SecsState)
   pub measures : List (Option Measure)
   pub tracks : List Tracking
-  pub va : List (Option (List VaSlot))
+  pub va : VaArrays
   pub versions : ℕ
   pub starts : List (Option starts.Start)
   pub cpus : List Processor
@@ -88,7 +87,7 @@ epoch_from first (Some t) = t.epoch
 
 abbrev pub start_of : Option starts.Start → Option BareStart
 start_of None = None
-start_of (Some x) = Some (record { slot = x.slot; version = x.version; loads = x.loads })
+start_of (Some x) = Some (record { at = x.at; slot = x.slot; version = x.version; loads = x.loads })
 
 -- ---- the making
 
@@ -99,7 +98,7 @@ made frames cpus key start_epoch start_version = record {
   secs = empty_table;
   measures = replicate 9 None;
   tracks = replicate 8 (starting_at start_epoch);
-  va = [];
+  va = record { pages = []; made = 0 };
   versions = start_version;
   starts = replicate frames None;
   cpus = replicate cpus idle;
@@ -119,7 +118,7 @@ state_of d = record {
   words = λ n. words_at d.epc n;
   enclaves = λ e. enclave_of (enclave_at d.secs e);
   added = λ g. added_in (enclave_at d.secs g.enclave) g.number;
-  vas_made = pages_made d.va;
+  vas_made = d.va.made;
   is_busy = λ g. is_busy_in (enclave_at d.secs g.enclave) g.number;
   measure = λ e. slice_index_or d.measures e None;
   inside = λ p. seat_of_mode (cpu_at d p).mode;
@@ -127,8 +126,8 @@ state_of d = record {
   cache = λ p. (cpu_at d p).cache;
   noted = λ p. noted_by (cpu_at d p).mode;
   epoch = λ e. epoch_from d.start_epoch (track_of d.tracks e);
-  version_in = λ slot. version_in d.va slot;
-  is_slot_busy = λ slot. is_slot_busy_at d.va slot;
+  version_in = λ slot. version_in d.va.pages slot;
+  is_slot_named = λ slot. is_slot_busy_at d.va.pages slot;
   next_version = d.versions;
   start = λ n. start_of (slice_index_or d.starts n None);
   cpus = length d.cpus;

@@ -1,13 +1,18 @@
 -- What is true of every machine.
-use Rattle.std.specs.Prelude.{ℕ, ◌≡◌, ◌≤◌, Bool, List, Option, Some, length, count_by}
+use Rattle.std.specs.Prelude.{ℕ, ◌≡◌, ◌≤◌, ◌==◌, if◌then◌else◌, Bool, List, Option, Some, length, count_by}
+use Rattle.sgx_types.specs.declared.names.Kind.TheVariants as kinds
+use Rattle.sgx_types.specs.declared.names.TheConstants.{MOST_FRAMES, SECS_NUMBER}
+use Rattle.epcm_entry.specs.declared.entry_view.EntryView.{EntryView}
+use Rattle.epcm_entry.specs.declared.entry_view.EntryView.TheVariants.{Valid}
+use Rattle.epcm_entry.specs.inner.Epc.{EpcFrame, entry_at}
 use Rattle.secs_state.specs.inner.Secs.{SecsState, IsSecs}
 use Rattle.secs_state.specs.inner.Table.{enclave_at}
 use Rattle.track_epoch.specs.inner.Tracking.{Tracking}
 use Rattle.track_epoch.specs.inner.Tracks.{track_of}
 use Rattle.cached_translations.specs.declared.processor.Processor.{Processor}
 use Rattle.enclave_access.specs.inner.Access.{LeadsBelow}
-use Rattle.evict_reload.specs.inner.Sights.{AreVaPages}
-use Rattle.version_array.specs.inner.Slots.{IsVaTable}
+use Rattle.evict_reload.specs.inner.Sights.{AreCountedIn, AreVaPages, HaveEnclaves}
+use Rattle.version_array.specs.inner.Slots.{IsVaTable, VaArrays}
 use Rattle.paging_laws.specs.inner.Guarded.{IsGuarded}
 use Rattle.paging_machine.specs.declared.machine.Machine.TheInside.{Inside}
 use Rattle.paging_machine.specs.inner.Parts.{Parts, is_noted, state_of}
@@ -48,14 +53,31 @@ abbrev pub IsTracked : List Tracking → List Processor → Type 0
 IsTracked tracks cpus = (e : ℕ) (t : Tracking) → track_of tracks e ≡ Some t → (test : ℕ → Bool)
     → count_by test t.noted ≡ count_by (λ (c : Processor). is_noted e test c.mode) cpus
 
+-- an entry names a version array page by its number alone, and a SECS by its enclave
+abbrev pub IsNamedFor : EntryView → Type 0
+IsNamedFor (Valid page kinds.Va perm blocked sealing) = page.enclave ≡ 0
+IsNamedFor (Valid page kinds.Secs perm blocked sealing) = page.number ≡ SECS_NUMBER
+IsNamedFor _ = Unit {0}
+
+-- of what is in frames: the frames that hold a version array page are those of the table, which has a place for each frame once one was
+-- made; there are at most 4096 frames; each enclave counts its resident pages and knows the frame of its SECS; and what is in a frame, or
+-- comes into one, is of an enclave that was created, and has a name of its kind
+pub record AreHeld (epc : List EpcFrame) (secs : List (Option SecsState)) (va : VaArrays) : Type 0 where
+  pub pages : AreVaPages epc va.pages
+  pub places : length va.pages ≡ (if va.made == 0 then 0 else MOST_FRAMES)
+  pub small : length epc ≤ MOST_FRAMES
+  pub counted : AreCountedIn epc secs
+  pub owned : HaveEnclaves epc secs
+  pub named : (n : ℕ) → IsNamedFor (entry_at epc n)
+
 pub record IsWhole (m : Inside) : Type 0 where
   pub processors : length m.cpus.items ≤ 16
   pub places : length m.measures.items ≡ 9
   pub table : IsTable m.secs
   pub track_places : length m.tracks ≡ 8
   pub tracked : IsTracked m.tracks m.cpus.items
-  pub slots : IsVaTable m.va
-  pub pages : AreVaPages m.epc m.va
+  pub slots : IsVaTable m.va.pages
+  pub held : AreHeld m.epc m.secs m.va
   pub start_places : length m.starts.items ≡ length m.epc
   pub measured : IsMeasured (state_of (parts_of m))
   pub framed : IsFramed (state_of (parts_of m))

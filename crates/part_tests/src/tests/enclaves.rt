@@ -3,7 +3,7 @@
 use secs_state::secs::Secs;
 use secs_state::table::SecsTable;
 use sgx_types::lawful::is_lawful;
-use sgx_types::names::{Kind, Memory, Perm};
+use sgx_types::names::{Frame, Kind, Memory, Perm};
 use std::alloc::Global;
 use std::process::Abort;
 use std::test::Fail;
@@ -65,6 +65,9 @@ fn keeps_each_page_by_its_number(rt: HostRuntime) -> Result<(), Fail> {
     secs.child_added();
     secs.child_left();
     assert_eq!(rt; secs.children(), 1);
+    assert_eq!(rt; secs.frame(), None);
+    secs.set_frame(Some(Frame(9)));
+    assert_eq!(rt; secs.frame(), Some(Frame(9)));
     Ok(())
 }
 

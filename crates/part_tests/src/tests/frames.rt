@@ -3,7 +3,7 @@
 use epcm_entry::entry_view::EntryView;
 use epcm_entry::epc::Epc;
 use sgx_rules::refusals::Refusal;
-use sgx_types::names::{Frame, Kind, Page, Perm};
+use sgx_types::names::{Frame, Kind, Page, Perm, SECS_NUMBER};
 use std::alloc::Global;
 use std::process::Abort;
 use std::test::Fail;
@@ -111,5 +111,50 @@ fn claims_a_frame_once(rt: HostRuntime) -> Result<(), Fail> {
         sealing: true,
     };
     assert_eq!(rt; epc.entry(Frame(0)), sealing);
+    Ok(())
+}
+
+// The SECS of an enclave in a frame that holds nothing.
+fn hold_secs(rt: &impl Abort, epc: &mut Epc, number: u32, enclave: u16) {
+    let frame = Frame(number);
+    assert!(rt; number < epc.frames());
+    assert_eq!(rt; epc.entry(frame), EntryView::Free);
+    let page = Page {
+        enclave,
+        number: SECS_NUMBER,
+    };
+    epc.set(frame, page, Kind::Secs, Perm::NONE);
+    assert!(rt; number < epc.frames());
+    assert!(rt; epc.entry(frame).is_secs_of(enclave) && !epc.entry(frame).is_secs_of(3));
+}
+
+// Frames that are cleared, and then the frames of the SECS of the enclaves 1 to 3.
+const SECS_ROWS: &[(Option<u32>, Found)] = &[
+    (None, (Some(Frame(2)), Some(Frame(1)), None)),
+    (Some(2), (Some(Frame(3)), Some(Frame(1)), None)),
+    (Some(3), (None, Some(Frame(1)), None)),
+];
+
+type Found = (Option<Frame>, Option<Frame>, Option<Frame>);
+
+fn finds_each(rt: &impl Abort, epc: &mut Epc) {
+    for (cleared, want) in SECS_ROWS {
+        if let Some(number) = *cleared {
+            free(rt, epc, number);
+        }
+        let found = (epc.secs_frame(1), epc.secs_frame(2), epc.secs_frame(3));
+        assert_eq!(rt; found, *want);
+    }
+}
+
+// Of two frames with the SECS of an enclave it is the first.
+#[test]
+fn finds_the_frame_of_a_secs(rt: HostRuntime) -> Result<(), Fail> {
+    let mut epc = Epc::new(rt.alloc(), 4)?;
+    hold_page(&rt, &mut epc, 0);
+    hold_secs(&rt, &mut epc, 3, 1);
+    hold_secs(&rt, &mut epc, 2, 1);
+    hold_secs(&rt, &mut epc, 1, 2);
+    finds_each(&rt, &mut epc);
     Ok(())
 }

@@ -63,7 +63,7 @@ const LAST: SlotAt = SlotAt {
 
 #[tactic(auto, using(version_array::proofs::TableLaws::slot_kept))]
 fn use_slot(rt: &impl Abort, table: &mut VaTable, at: SlotAt)
-    requires { IsSlot table.old at }
+    requires { IsSlot table.old.pages at }
 {
     assert_eq!(rt; table.slot(at), 0);
     table.write(at, 7);

@@ -7,7 +7,7 @@ use Rattle.sgx_types.specs.declared.names.Actor.TheVariants as actors
 use Rattle.sgx_rules.specs.declared.entries.Entry.{Entry}
 use Rattle.sgx_types.specs.declared.names.Cpu.{Cpu}
 use Rattle.sgx_types.specs.declared.names.Page.{Page}
-use Rattle.sgx_rules.specs.Flat.{bytes_at, header_at}
+use Rattle.sgx_rules.specs.PageBytes.{bytes_at, header_at}
 use Rattle.sgx_rules.specs.Frames.{content, is_page}
 use Rattle.sgx_rules.specs.Rules.{Along, EvictRule, Fits, RisingRule, Stale}
 use Rattle.sgx_rules.specs.Starts.{Start, open_start}

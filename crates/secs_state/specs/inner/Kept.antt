@@ -11,6 +11,7 @@ secs_of s = record {
   pages = s.pages.items;
   busy = s.busy.items;
   children = s.children;
+  frame = s.frame;
 }
 
 abbrev pub IsKept : Inside → Type 0

@@ -1,6 +1,7 @@
 -- The state of one enclave as contracts see it: its pages and the marks of its TCS pages stand in lists by page number.
 use Rattle.std.specs.Prelude.{◌≡◌, ℕ, ◌/◌, Bool, true, false, List, length, replicate, Option, None, Some, slice_index_or}
 use Rattle.std.specs.Prelude.{slice_set}
+use Rattle.sgx_types.specs.declared.names.Frame.{Frame}
 use Rattle.sgx_types.specs.declared.names.Kind.{Kind}
 use Rattle.sgx_types.specs.declared.names.Perm.{Perm}
 use Rattle.sgx_types.specs.Lawful.{is_lawful}
@@ -13,6 +14,7 @@ pub record SecsState : Type 0 where
   pub pages : List (Option (Kind × Perm))
   pub busy : List Bool
   pub children : ℕ
+  pub frame : Option Frame
 
 -- how many pages a range of this size has
 abbrev pub page_count : ℕ → ℕ
@@ -28,6 +30,7 @@ created enclave base size = record {
   pages = replicate (page_count size) None;
   busy = replicate (page_count size) false;
   children = 0;
+  frame = None;
 }
 
 -- the kind and the permissions with which a page was added
@@ -49,6 +52,10 @@ with_page secs number kind perm = record secs { pages = slice_set secs.pages num
 -- a page's mark
 abbrev pub with_busy : SecsState → ℕ → Bool → SecsState
 with_busy secs number mark = record secs { busy = slice_set secs.busy number mark }
+
+-- the frame that holds its SECS, if one does
+abbrev pub with_frame : SecsState → Option Frame → SecsState
+with_frame secs frame = record secs { frame = frame }
 
 -- the number of resident pages
 abbrev pub with_children : SecsState → ℕ → SecsState

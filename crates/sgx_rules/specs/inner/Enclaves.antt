@@ -1,6 +1,7 @@
--- The enclaves by the entries before a place: which were created and initialised, by which TCS pages processors are inside, and
+-- The enclaves by the entries before a place: which were created and initialised, which pages there are, by which TCS pages processors are inside, and
 -- that flat memory has them.
-use Rattle.std.specs.Prelude.{ℕ, ◌≡◌, ◌==◌, false, if◌then◌else◌, List, [], ◌∷◌, Option, Some, None}
+use Rattle.std.specs.Prelude.{ℕ, ◌≡◌, ◌==◌, Bool, false, if◌then◌else◌, List, [], ◌∷◌, Option, Some, None}
+use Rattle.std.specs.Prelude.{is_some, nat_lt}
 use Rattle.std.specs.Option.{IsSomeAnd}
 use Rattle.sgx_rules.specs.declared.entries.Entry.{Entry}
 use Rattle.sgx_rules.specs.declared.entries.Event.{Event}
@@ -8,8 +9,8 @@ use Rattle.sgx_rules.specs.declared.entries.Event.TheVariants.{Did}
 use Rattle.sgx_rules.specs.declared.entries.Action.TheVariants.{Create, Init}
 use Rattle.sgx_types.specs.declared.names.Page.{Page}
 use Rattle.sgx_rules.specs.Flat.{FlatEnclave, added_as, flat, marked}
-use Rattle.sgx_types.specs.Pages.{page_at}
-use Rattle.sgx_rules.specs.Frames.{added}
+use Rattle.sgx_types.specs.Pages.{is_secs_page, is_va_page, page_at}
+use Rattle.sgx_rules.specs.Frames.{added, vas_made}
 use Rattle.sgx_rules.specs.Processors.{stay}
 
 abbrev pub created_by : Event → ℕ → Option FlatEnclave → Option FlatEnclave
@@ -22,6 +23,14 @@ created_by _ n before = before
 abbrev pub created : List Entry → ℕ → Option FlatEnclave
 created [] n = None
 created (e ∷ past) n = created_by e.event n (created past n)
+
+-- whether there is such a page: a version array page that was made, the SECS of an enclave that was created, or a page that was
+-- added
+abbrev pub is_there : List Entry → Page → Bool
+is_there past g =
+    if is_va_page g then nat_lt g.number (vas_made past)
+    else if is_secs_page g then is_some (created past g.enclave)
+    else is_some (added past g)
 
 -- a processor is inside by this TCS page
 pub record IsTaken (past : List Entry) (g : Page) : Type 0 where

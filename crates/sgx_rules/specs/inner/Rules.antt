@@ -4,7 +4,7 @@ use Rattle.sgx_rules.specs.declared.entries.Entry.{Entry}
 use Rattle.sgx_rules.specs.declared.entries.Event.{Event}
 use Rattle.sgx_rules.specs.declared.entries.Event.TheVariants.{Did}
 use Rattle.sgx_rules.specs.declared.entries.Action.TheVariants.{EldStart}
-use Rattle.sgx_rules.specs.Frames.{content, is_page}
+use Rattle.sgx_rules.specs.Frames.{content, stands}
 use Rattle.sgx_types.specs.Making.{Making}
 use Rattle.sgx_rules.specs.Starts.{open_start, is_load_of}
 use Rattle.sgx_rules.specs.Flat.{flat}
@@ -18,7 +18,7 @@ LoadsAwayRule past e = by_event e.event
   where
     by_event : Event → Type 0
     by_event (Did (EldStart f page slot) answer) =
-        (n : ℕ) → (is_page (content past n) page ≡ false) × (is_load_of (open_start past n) page ≡ false)
+        (n : ℕ) → (stands (content past n) page ≡ false) × (is_load_of (open_start past n) page ≡ false)
     by_event _ = Unit {0}
 
 -- ---- the rules of the machine together

@@ -1,7 +1,8 @@
-use Rattle.std.proofs.Common.{◌<◌, length, sym, ap, ◌∙◌, arith}
+use Rattle.std.proofs.Common.{◌<◌, ◌≤◌, length, sym, ap, ◌∙◌, arith}
 use Rattle.std.proofs.lemmas.List.{length-map}
+use Rattle.driver_rules.specs.Turns.{cpu_due}
 use Rattle.turn_tables.specs.inner.Due.{building_in, due_in}
-use Rattle.audit_dues.proofs.NextLaws.{builder_keeps, built_is, cpu_keeps, next_is}
+use Rattle.audit_dues.proofs.NextLaws.{builder_keeps, built_is, cpu_keeps, next_is, none_keeps}
 use Rattle.audit_dues.proofs.script.keeps_script.Goals as goal
 
 pub returns-in-Builder : goal.returns-in-Builder
@@ -11,6 +12,13 @@ returns-in-Builder c = λ made past a o s.
     c.is_build_step.ensures ∙ built_is due c.args.entry.now.event
     ∙ builder_keeps j past c.args.entry.now (building_in due) (sym s.spent ∙ c.if-turns.false) c.in-Builder.is
     (c.builder_due-due.ensures made past a o s)
+
+pub returns-then-from-scripts : goal.returns-then-from-scripts
+returns-then-from-scripts c = λ made past a o s.
+    let j = c.args.job.now in
+    let scripts = simp length-map at (ap length c.scripts.ensures) in
+    let high : length j.scripts ≤ c.in-Cpu.cpu.0 = omega (arith, scripts, c.from.ensures, c.if-from-scripts.true) in
+    none_keeps j past c.args.entry.now (cpu_due j past c.in-Cpu.cpu.0) (sym s.spent ∙ c.if-turns.false) c.in-Cpu.cpu c.in-Cpu.is high
 
 pub returns-else-from-scripts : goal.returns-else-from-scripts
 returns-else-from-scripts c = λ made past a o s.

@@ -1,4 +1,4 @@
-use Rattle.std.proofs.Common.{◌≡◌, ◌∙◌, ap, subst, sym}
+use Rattle.std.proofs.Common.{◌∙◌, ap, subst, sym}
 use Rattle.paging_machine.specs.inner.Parts.{state_of}
 use Rattle.audit_machine.specs.inner.Asked.{Breaks}
 use Rattle.audit_machine.specs.inner.Outside.{rule_outside}

@@ -1,7 +1,7 @@
 use Rattle.std.proofs.Common.{refl}
 use lib.Count.{ones}
 use Rattle.sgx_types.specs.declared.names.Actor.TheVariants.{Builder, Reclaimer}
-use Rattle.sgx_types.specs.Counts.{any_below, count_below}
+use Rattle.sgx_types.specs.Counts.{any_below, count_below, least_below}
 use Rattle.run_history.specs.declared.rules.Rule.TheVariants as rules
 use Rattle.driver_traces.specs.inner.Faults.{first_of}
 use Rattle.driver_traces.specs.inner.KickTrace.{kick_job, kick_trace}
@@ -10,7 +10,7 @@ use Rattle.driver_traces.proofs.FaultLaws.{fails_at_last}
 use Rattle.driver_traces.proofs.whole_traces.each_place_fails_first_by_its_rule.Goals as goal
 
 pub returns : goal.returns
-unfolding any_below count_below ones
+unfolding any_below count_below least_below ones
 returns c = record {
   script = fails_at_last kick_job (first_of 4 kick_trace) (init Builder) rules.Script refl;
   refusal = fails_at_last kick_job (first_of 11 kick_trace) (block Reclaimer 2) rules.Refusal refl;

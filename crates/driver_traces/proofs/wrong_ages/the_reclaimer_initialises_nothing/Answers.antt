@@ -1,5 +1,6 @@
 use Rattle.std.proofs.Common.{refl}
 use lib.Count.{ones}
+use Rattle.sgx_types.specs.Counts.{least_below}
 use Rattle.sgx_types.specs.declared.names.Actor.TheVariants.{Reclaimer}
 use Rattle.driver_traces.specs.inner.Faults.{first_of}
 use Rattle.driver_traces.specs.inner.MeasuredTrace.{measured_job, measured_trace}
@@ -7,5 +8,5 @@ use Rattle.driver_traces.proofs.FaultLaws.{init_breaks_age}
 use Rattle.driver_traces.proofs.wrong_ages.the_reclaimer_initialises_nothing.Goals as goal
 
 pub returns : goal.returns
-unfolding ones
+unfolding least_below ones
 returns c = init_breaks_age measured_job (first_of 33 measured_trace) Reclaimer refl refl refl refl refl

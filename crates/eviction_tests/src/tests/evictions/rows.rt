@@ -10,7 +10,7 @@ pub type Row = (Step, Told);
 // Frames, and the numbers of enclaves, pages and slots, stand in the order of the instruction's arguments.
 #[derive(Clone, Copy)]
 pub enum Step {
-    // A version array page in a frame.
+    // The next version array page in a frame.
     PutVa(u32),
     // Another page of enclave 1 in a frame.
     Put(u32, u32, Kind),
@@ -22,21 +22,28 @@ pub enum Step {
     Enter,
     // A frame, and the frame and the index of its slot.
     StartOut(u32, u32, u16),
-    // A frame, the index of a slot of frame 0, and the version to seal under. The record is kept.
-    EndOut(u32, u16, u64),
+    // A frame, the frame and the index of its slot, and the version to seal under. The record is kept.
+    EndOut(u32, u32, u16, u64),
     // A frame, the enclave and the number of its page, and the frame and the index of the slot.
     StartIn(u32, u16, u32, u32, u16),
-    // A frame, the page's number, the index of a slot of frame 0, and the version to open the kept record under.
-    EndIn(u32, u32, u16, u64),
+    // A frame, the enclave and the number of its page, the frame and the index of the slot, and the version to open the kept record
+    // under.
+    EndIn(u32, u16, u32, u32, u16, u64),
+    // The record that is kept and the one beside it change places.
+    Swap,
     // The last version is drawn.
     SpendVersions,
     Entry(u32),
     // Whether each word of a frame is this.
     IsFilled(u32, u64),
-    // The version in a slot of frame 0.
-    Version(u16),
-    // Whether a slot of frame 0 is busy.
-    IsBusy(u16),
+    // The version in a slot, by the frame and the index.
+    Version(u32, u16),
+    // Whether a slot is busy.
+    IsBusy(u32, u16),
+    // How many pages of enclave 1 are resident.
+    Children,
+    // The header of a page, by its enclave and its number.
+    HeaderOf(u16, u32),
 }
 
 #[derive(Clone, Copy, Debug, PartialEq)]
@@ -51,6 +58,8 @@ pub enum Told {
     Forged(bool),
     Entry(EntryView),
     Is(bool),
+    // The enclave, the address and the flags of a header.
+    HasHeader(Option<(u64, u64, u64)>),
 }
 
 impl Told {

@@ -3,7 +3,7 @@
 use epcm_entry::entry_view::EntryView;
 use sgx_rules::refusals::Refusal;
 use sgx_types::lawful::PageInit;
-use sgx_types::names::{Kind, Perm};
+use sgx_types::names::{Frame, Kind, Perm};
 
 // A step, and what it tells.
 pub type Row = (Step, Told);
@@ -28,6 +28,12 @@ pub enum Step {
     // As what a page was added.
     Added(u32),
     Children,
+    // The write-out of a frame starts.
+    Seal(u32),
+    // A frame is free, and the enclave knows the frame of its SECS.
+    Clear(u32),
+    // The frame of the enclave's SECS.
+    SecsFrame,
 }
 
 #[derive(Clone, Copy, Debug, PartialEq)]
@@ -41,6 +47,7 @@ pub enum Told {
     Added(Option<(Kind, Perm)>),
     Number(u64),
     Is(bool),
+    Stands(Option<Frame>),
 }
 
 impl Told {

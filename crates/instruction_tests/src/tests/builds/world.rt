@@ -1,8 +1,9 @@
 //! An EPC and an enclave, and how a table is played on them.
 
-ghost use Rattle.std.specs.Prelude.{◌≡◌, IsTrue, IfSome};
-ghost use Rattle.sgx_rules.specs.Frames.{enclave_in};
-ghost use Rattle.epcm_entry.specs.inner.Sights.{sight_in};
+ghost use Rattle.std.specs.Prelude.{◌≡◌, IsTrue, IfSome, length};
+ghost use Rattle.sgx_rules.specs.Frames.{children, enclave_in, is_child};
+ghost use Rattle.epcm_entry.specs.inner.Sights.{held, held_in, sight_in};
+ghost use Rattle.secs_state.specs.inner.Resident.{IsCountedIn};
 
 use super::rows::{Row, Step, Told};
 use enclave_build::add::eadd;
@@ -14,12 +15,13 @@ use epcm_entry::entry_view::EntryView;
 use epcm_entry::epc::Epc;
 use measure_log::measure::Measure;
 use secs_state::secs::Secs;
-use sgx_types::names::{Frame, Kind, Memory, Page};
+use sgx_types::names::{Frame, Kind, MOST_FRAMES, Memory, Page, SECS_NUMBER};
 use std::alloc::Global;
 use std::process::Abort;
 
-const PAGE_1: Page = Page {
-    enclave: 1,
+// A page of an enclave that is not built here.
+const OTHER: Page = Page {
+    enclave: 7,
     number: 1,
 };
 
@@ -100,7 +102,7 @@ impl World {
 
 fn claim_load(rt: &impl Abort, epc: &mut Epc, frame: u32) -> Told {
     assert!(rt; frame < epc.frames() && epc.entry(Frame(frame)).is_free());
-    Told::of_done(epc.claim_load(Frame(frame), PAGE_1))
+    Told::of_done(epc.claim_load(Frame(frame), OTHER))
 }
 
 fn entry(rt: &impl Abort, epc: &Epc, frame: u32) -> Told {
@@ -115,6 +117,7 @@ fn word(rt: &impl Abort, epc: &Epc, frame: u32, index: u16) -> Told {
 
 // What a step of an enclave tells.
 fn told_of(rt: &impl Abort, epc: &mut Epc, secs: &mut Secs, log: &mut Measure, step: Step) -> Told {
+    assert!(rt; epc.frames() <= MOST_FRAMES && is_counted(epc, secs));
     match step {
         Step::Add(number, frame, kind, perm, init) => {
             let frame = Frame(frame);
@@ -124,13 +127,65 @@ fn told_of(rt: &impl Abort, epc: &mut Epc, secs: &mut Secs, log: &mut Measure, s
             assert!(rt; may_extend(epc, secs, Frame(frame)));
             Told::of_done(eextend(epc, secs, log, Frame(frame), chunk))
         }
-        Step::Init(expect) => match einit(secs, log, expect) {
+        Step::Init(expect) => match einit(epc, secs, log, expect) {
             Ok(digest) => Told::Digest(digest),
             Err(refusal) => Told::Refused(refusal),
         },
-        Step::CanInit => Told::Is(einit(secs, log, None).is_ok()),
+        Step::CanInit => Told::Is(einit(epc, secs, log, None).is_ok()),
         Step::Added(number) => Told::Added(secs.added(number)),
+        Step::Seal(frame) => seal(rt, epc, frame),
+        Step::Clear(frame) => clear(rt, epc, secs, frame),
+        Step::SecsFrame => Told::Stands(secs.frame()),
         _ => Told::Number(u64::from(secs.children())),
+    }
+}
+
+fn seal(rt: &impl Abort, epc: &mut Epc, frame: u32) -> Told {
+    assert!(rt; frame < epc.frames() && !epc.entry(Frame(frame)).is_free());
+    Told::of_done(epc.claim_seal(Frame(frame)))
+}
+
+fn clear(rt: &impl Abort, epc: &mut Epc, secs: &mut Secs, frame: u32) -> Told {
+    assert!(rt; frame < epc.frames());
+    epc.clear(Frame(frame));
+    secs.set_frame(epc.secs_frame(secs.enclave()));
+    Told::Done
+}
+
+// The enclave counts its pages in frames, and knows the frame of its SECS.
+fn is_counted(epc: &Epc, secs: &Secs) -> bool
+    ensures { IsTrue result → IsCountedIn (length epc.now) (held_in epc.now) secs.now.enclave secs.now }
+{
+    secs.children() == children(epc, secs.enclave())
+        && secs.frame() == epc.secs_frame(secs.enclave())
+}
+
+// How many frames hold or load a TCS or REG page of an enclave.
+fn children(epc: &Epc, enclave: u16) -> u32
+    ensures { result ≡ children (length epc.now) (held_in epc.now) enclave }
+{
+    let mut count = 0;
+    for number in 0..epc.frames() {
+        if is_child(epc.entry(Frame(number)), enclave) {
+            count += 1;
+        }
+    }
+    count
+}
+
+fn is_child(entry: EntryView, enclave: u16) -> bool
+    ensures { result ≡ is_child (held entry) enclave }
+{
+    match entry {
+        EntryView::Valid {
+            page,
+            kind: Kind::Tcs | Kind::Reg,
+            ..
+        } => page.enclave == enclave,
+        EntryView::Loading { page } => {
+            page.enclave != 0 && page.number != SECS_NUMBER && page.enclave == enclave
+        }
+        _ => false,
     }
 }
 

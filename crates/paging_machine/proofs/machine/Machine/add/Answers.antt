@@ -1,5 +1,6 @@
 use Rattle.std.proofs.Common.{◌≡◌, ◌∙◌, sym, ap, Some, length, length-set}
 use Rattle.sgx_types.specs.Pages.{page_at}
+use Rattle.secs_state.specs.inner.Secs.{SecsState}
 use Rattle.secs_state.specs.inner.Table.{enclave_at}
 use Rattle.enclave_build.specs.inner.Build.{with_added}
 use Rattle.enclave_build.proofs.Columns.{length-with_added}
@@ -7,12 +8,18 @@ use Rattle.paging_machine.specs.inner.Whole.{parts_of}
 use Rattle.paging_machine.specs.inner.Parts.{state_of}
 use Rattle.paging_laws.specs.inner.State.{after_add}
 use Rattle.paging_machine.proofs.Columns.{numbered, table_written}
-use Rattle.paging_machine.proofs.BuildBridge.{adds, added_own, add_pages, paged}
-use Rattle.paging_machine.proofs.BuildSteps.{measure_place, measure_there, add_row_at, add_written}
+use Rattle.paging_machine.proofs.BuildBridge.{adds, added_own, add_held, own_added, paged}
+use Rattle.paging_machine.proofs.BuildSteps.{counted_there, counts_as_added, measure_place, measure_there, add_row_at, add_written}
 use Rattle.paging_machine.proofs.KeptStates.{kept_add}
 use Rattle.paging_machine.proofs.WholeMachines.{kept_of, whole, builds, whole_same, parts_same, done_step, refused_step}
 use Rattle.paging_machine.proofs.machine.Machine.add.Goals.{in-Ok, in-Err}
 use Rattle.paging_machine.proofs.machine.Machine.add.Goals as goal
+
+pub eadd-requires : goal.eadd-requires
+eadd-requires c = record {
+  counted = counted_there c.self.inside c.self.invariant c.args.page.enclave c.in-Some.secs.now (sym c.in-Some.ensures.value);
+  small = c.self.invariant.held.small;
+}
 
 pub invariant_of-self-2 : goal.invariant_of-self-2
 invariant_of-self-2 c =
@@ -29,7 +36,8 @@ invariant_of-self-2 c =
     elim c.match-eadd.branch [
       | in-Ok w ↦
           (let number = numbered d.secs g.enclave x h.table.places found in
-          let k = adds d.epc c.args.frame.0 g.number c.args.kind c.args.perm c.args.init _ x (sym w.in-Ok.ensures.row) in
+          let k = adds d c.args.frame.0 g.enclave g.number c.args.kind c.args.perm c.args.init _ x (h.table.own g.enclave x found).number
+          (sym w.in-Ok.ensures.row) in
           let page : c.eadd.new.epc ≡ with_added d.epc c.args.frame.0 g c.args.kind c.args.perm c.args.init = w.in-Ok.ensures.done
           ∙ ap (λ e. with_added d.epc c.args.frame.0 (page_at e g.number) c.args.kind c.args.perm c.args.init)
           (h.table.own g.enclave x found).number in
@@ -38,11 +46,15 @@ invariant_of-self-2 c =
           rw c.from.ensures
           (whole _ (after_add (state_of d) g c.args.frame.0 c.args.kind c.args.perm c.args.init c.eadd.new.log)
           (builds m h _ _ _ _ written (kept_add (state_of d) g c.args.frame.0 c.args.kind c.args.perm c.args.init c.eadd.new.log
-          k.takes.free (paged c.args.kind c.args.init k.addable) (kept_of m h))
+          k.takes.low k.takes.free (paged c.args.kind c.args.init k.addable)
+          (own_added g.enclave g.number x (h.table.own g.enclave x found) number.0 k.within) k.secs (kept_of m h))
           (length-set d.measures _ _ ∙ h.places) (rw w.in-Ok.ensures.secs
           (table_written d.secs g.enclave _ h.table.places number.0 number.1 h.table
           (added_own g.enclave g.number c.args.kind c.args.perm x (h.table.own g.enclave x found))))
-          (rw page (add_pages d g c.args.frame.0 c.args.kind c.args.perm c.args.init x h.pages k))
+          (rw (page, w.in-Ok.ensures.secs) (add_held d g c.args.frame.0 c.args.kind c.args.perm c.args.init x k found h.table
+          (counts_as_added c.eadd.new.epc _ c.eadd.new.secs _ g.enclave page w.in-Ok.ensures.secs
+          (ap (λ (z : SecsState). z.enclave) w.in-Ok.ensures.secs ∙ (h.table.own g.enclave x found).number)
+          w.in-Ok.ensures.counts) h.held))
           (ap length page ∙ length-with_added d.epc c.args.frame.0 g c.args.kind c.args.perm c.args.init))))
       | in-Err w ↦
           (let kept = w.in-Err.ensures.refused in
@@ -61,7 +73,8 @@ returns-clause-step c =
     let low = measure_place d g.enclave x h.table found h.places in
     let read : Some y ≡ c.index_mut.result.now = rw c.unwrap-measure.ensures at c.as_mut.ensures.value in
     let there = measure_there d.measures g.enclave c.index_mut.result.now y low (rw c.from.ensures at c.index_mut.ensures.value) read in
-    let row = add_row_at d c.args.actor g.enclave g.number c.args.frame c.args.kind c.args.perm c.args.init x found in
+    let row = add_row_at d c.args.actor g.enclave g.number c.args.frame c.args.kind c.args.perm c.args.init x found
+    (h.table.own g.enclave x found).number in
     elim c.match-eadd.branch [
       | in-Ok w ↦
           rw (c.from.ensures, ← c.self.view_is)

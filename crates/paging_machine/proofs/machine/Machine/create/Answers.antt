@@ -1,15 +1,16 @@
-use Rattle.std.proofs.Common.{◌≡◌, ◌<◌, ◌∙◌, sym, arith, None, is_some, length, length-set}
+use Rattle.std.proofs.Common.{◌≡◌, ◌<◌, ◌∙◌, sym, arith, None, Some, is_some, length, length-set}
 use Rattle.sgx_rules.specs.Table.{create_row, first_of_row}
 use Rattle.sgx_rules.proofs.Rows.{none_holds}
 use Rattle.epcm_entry.specs.inner.Sights.{sight_in}
 use Rattle.enclave_build.proofs.Columns.{length-with_secs}
-use Rattle.secs_state.specs.inner.Secs.{created}
+use Rattle.secs_state.specs.inner.Secs.{created, with_frame}
 use Rattle.secs_state.specs.inner.Table.{enclave_at}
 use Rattle.paging_machine.specs.inner.Whole.{parts_of}
 use Rattle.paging_machine.specs.inner.Parts.{state_of}
 use Rattle.paging_laws.specs.inner.State.{after_create}
+use Rattle.sgx_types.proofs.Truths.{apart}
 use Rattle.paging_machine.proofs.Columns.{table_written}
-use Rattle.paging_machine.proofs.BuildBridge.{creates, created_own, no_enclave, create_state, create_pages}
+use Rattle.paging_machine.proofs.BuildBridge.{creates, created_own, no_enclave, create_state, create_held}
 use Rattle.paging_machine.proofs.KeptStates.{kept_create}
 use Rattle.paging_machine.proofs.WholeMachines.{kept_of, whole, builds, done_step}
 use Rattle.paging_machine.proofs.machine.Machine.create.Goals as goal
@@ -29,11 +30,12 @@ invariant_of-self c =
     rw (c.insert.ensures, c.in-Ok.ensures.secs, c.in-Ok.ensures.done, c.from.ensures)
     (whole _ (after_create (state_of d) e c.args.frame.0 c.args.base c.args.size c.in-Ok.measure)
     (builds m h _ _ _ _ (create_state d e c.args.frame.0 c.args.base c.args.size c.in-Ok.measure k new h.table there)
-    (kept_create (state_of d) e c.args.frame.0 c.args.base c.args.size c.in-Ok.measure k.takes.free (kept_of m h))
+    (kept_create (state_of d) e c.args.frame.0 c.args.base c.args.size c.in-Ok.measure k.takes.low k.takes.free
+    (apart e 0 (λ none. omega (arith, none, k.first))) (kept_of m h))
     (length-set d.measures _ _ ∙ h.places)
-    (table_written d.secs e (created e c.args.base c.args.size) h.table.places k.first k.last h.table
-    (created_own e c.args.base c.args.size k.lawful))
-    (create_pages d c.args.frame.0 e h.pages k.takes) (length-with_secs d.epc c.args.frame.0 e)))
+    (table_written d.secs e (with_frame (created e c.args.base c.args.size) (Some c.args.frame)) h.table.places k.first k.last h.table
+    (created_own e c.args.frame.0 c.args.base c.args.size k.lawful))
+    (create_held d e c.args.frame.0 c.args.base c.args.size k new h.table h.held) (length-with_secs d.epc c.args.frame.0 e)))
 
 pub invariant_of-self-in-Err-Refused : goal.invariant_of-self-in-Err-Refused
 invariant_of-self-in-Err-Refused c = rw c.in-Err-Refused.ensures.refused c.self.invariant

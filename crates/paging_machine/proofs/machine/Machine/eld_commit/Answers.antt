@@ -1,4 +1,5 @@
-use Rattle.std.proofs.Common.{◌≡◌, ◌∙◌, true, ap, None, set}
+use Rattle.std.proofs.Common.{◌≡◌, ◌∙◌, true, refl, ap, None, Some, set}
+use Rattle.sgx_rules.specs.inner.Starts.{BareStart}
 use Rattle.sgx_rules.specs.Table.{is_loading}
 use Rattle.seal_record.specs.declared.unseal.UnsealedWork.{UnsealedWork}
 use Rattle.sgx_rules.specs.declared.entries.Action.TheVariants.{Eld}
@@ -6,9 +7,10 @@ use Rattle.sgx_rules.specs.declared.entries.Answer.TheVariants.{Moved}
 use Rattle.paging_machine.specs.inner.Whole.{parts_of}
 use Rattle.paging_machine.specs.inner.Parts.{state_of}
 use Rattle.paging_laws.specs.inner.Steps.{did_by}
-use Rattle.paging_machine.proofs.CommitBridge.{Ended, IsOpened, ended_back, ended_refused, low_in}
+use Rattle.paging_machine.proofs.CommitBridge.{Ended, IsOpened, ended_back, ended_refused, low_in, waits, writable}
+use Rattle.paging_machine.proofs.ArrayBridge.{room}
 use Rattle.paging_laws.proofs.FitLaws.{reloaded_fits}
-use Rattle.paging_laws.proofs.ShapeSteps.{reloaded_shaped}
+use Rattle.paging_laws.proofs.ShapeSteps.{reloaded_arrays_told, reloaded_shaped}
 use Rattle.paging_machine.proofs.KeptStates.{kept_as}
 use Rattle.paging_laws.proofs.MakingLaws.{reloaded_making}
 use Rattle.paging_laws.proofs.WholeLaws.{reloaded_all, reloaded_told}
@@ -21,6 +23,7 @@ is_back : (c : goal.After-drop-work-inside-in-Ok)
     → Ended c.self.inside c.args.actor c.args.frame c.done.result c.args.work.rec
     (record (parts_of c.self.inside) {
       epc = c.eld_commit-ended.new.epc;
+      secs = c.eld_commit-ended.new.secs;
       va = c.eld_commit-ended.new.va;
       starts = set c.self.inside.starts.items c.args.frame.0 None;
     })
@@ -34,8 +37,8 @@ is_back c =
       rec_is = c.opened-work.ensures.rec;
     } in
     ended_back c.self.inside c.self.invariant c.args.actor c.args.frame work c.args.work.rec c.start-start.result c.unwrap-page.result
-    c.eld_commit-ended.new.epc c.eld_commit-ended.new.va (rw (← c.self.view_is) at c.requires) is
-    (rw (← c.self.view_is) at c.start-start.ensures) c.unwrap-page.ensures c.done.result ends.row ends.epc ends.va
+    c.eld_commit-ended.new.epc c.eld_commit-ended.new.secs c.eld_commit-ended.new.va (rw (← c.self.view_is) at c.requires) is
+    (rw (← c.self.view_is) at c.start-start.ensures) c.unwrap-page.ensures c.done.result ends.row ends.epc ends.va ends.beside ends.counts
     (c.done.ensures ∙ ap (λ (o : UnsealedWork). did_by c.args.actor (Eld c.args.frame)
     (Moved c.unwrap-page.result c.start-start.result.version o.rec.tag)) c.work.view_is)
 
@@ -44,6 +47,7 @@ is_refused : (c : goal.After-drop-work-inside-3)
     → Ended c.self.inside c.args.actor c.args.frame c.refused.result c.args.work.rec
     (record (parts_of c.self.inside) {
       epc = c.eld_commit-ended.new.epc;
+      secs = c.eld_commit-ended.new.secs;
       va = c.eld_commit-ended.new.va;
       starts = set c.self.inside.starts.items c.args.frame.0 None;
     })
@@ -57,14 +61,36 @@ is_refused c =
       rec_is = c.opened-work.ensures.rec;
     } in
     ended_refused c.self.inside c.self.invariant c.args.actor c.args.frame work c.args.work.rec c.start-start.result c.unwrap-page.result
-    c.eld_commit-ended.new.epc c.eld_commit-ended.new.va (rw (← c.self.view_is) at c.requires) is
+    c.eld_commit-ended.new.epc c.eld_commit-ended.new.secs c.eld_commit-ended.new.va (rw (← c.self.view_is) at c.requires) is
     (rw (← c.self.view_is) at c.start-start.ensures) c.unwrap-page.ensures c.refused.result c.in-Err.refusal ends.row ends.refused.0
-    ends.refused.1 c.refused.ensures
+    ends.refused.1 ends.beside ends.counts c.refused.ensures
 
 pub unwrap-page-requires : goal.unwrap-page-requires
 unwrap-page-requires c =
     loads_in (state_of (parts_of c.self.inside)) c.args.frame.0 _ c.self.invariant.guarded (rw (← c.self.view_is) at c.requires)
     (rw (← c.self.view_is) at c.start-start.ensures)
+
+pub eld_commit-ended-requires : goal.eld_commit-ended-requires
+eld_commit-ended-requires c =
+    let m = c.self.inside in
+    let h = c.self.invariant in
+    let x = c.start-start.result in
+    let page = c.unwrap-page.result in
+    let own : BareStart = record { at = x.at; slot = x.slot; version = x.version; loads = x.loads } in
+    let comes : is_loading ((state_of (parts_of m)).content c.args.frame.0) ≡ true = rw (← c.self.view_is) at c.requires in
+    let at : (state_of (parts_of m)).start c.args.frame.0 ≡ Some own = rw (← c.self.view_is) at c.start-start.ensures in
+    let w = waits m h c.args.frame.0 own page comes at c.unwrap-page.ensures in
+    record {
+      started = w.waits;
+      slot = (writable m h c.args.frame.0 own (low_in (parts_of m) c.args.frame.0 comes) at).is_slot;
+      known = rw w.is refl;
+      kinds = rw w.is w.own;
+      pages = h.held.pages;
+      room = room m h c.args.frame.0 page w.waits;
+      counted = h.held.counted;
+      small = h.held.small;
+      places = h.table.places;
+    }
 
 pub invariant_of-self : goal.invariant_of-self
 invariant_of-self c = let k = is_back c in whole _ _ k.leaves
@@ -155,3 +181,19 @@ returns-clause-back c = λ making past records upholds brings.
 pub returns-clause-making : goal.returns-clause-making
 returns-clause-making c =
     rw (← c.self.view_is) (reloaded_making _ _ c.args.actor c.args.frame c.refused.result c.args.work.rec (is_refused c).back)
+
+pub returns-in-Ok-clause-arrays : goal.returns-in-Ok-clause-arrays
+returns-in-Ok-clause-arrays c = λ making past shaped all brings.
+    let h = c.self.invariant in
+    let k = is_back c in
+    reloaded_arrays_told (state_of (parts_of c.self.inside)) _ making past c.args.actor c.args.frame c.done.result c.args.work.rec h.sound
+    h.guarded (rw (← c.self.view_is) at c.requires) k.back (rw (← c.self.view_is) at shaped) (rw (← c.self.view_is) at all)
+    (rw (← c.self.view_is) at brings)
+
+pub returns-clause-arrays : goal.returns-clause-arrays
+returns-clause-arrays c = λ making past shaped all brings.
+    let h = c.self.invariant in
+    let k = is_refused c in
+    reloaded_arrays_told (state_of (parts_of c.self.inside)) _ making past c.args.actor c.args.frame c.refused.result c.args.work.rec h.sound
+    h.guarded (rw (← c.self.view_is) at c.requires) k.back (rw (← c.self.view_is) at shaped) (rw (← c.self.view_is) at all)
+    (rw (← c.self.view_is) at brings)

@@ -39,7 +39,7 @@ invariant_of-self c =
           rw c.from.ensures
           (whole _ (after_extend (state_of d) g.enclave c.eextend.new.log)
           (builds m h _ _ _ _ (extend_state d g.enclave c.eextend.new.log low)
-          (kept_extend (state_of d) g.enclave c.eextend.new.log (kept_of m h)) (length-set d.measures _ _ ∙ h.places) h.table h.pages
+          (kept_extend (state_of d) g.enclave c.eextend.new.log (kept_of m h)) (length-set d.measures _ _ ∙ h.places) h.table h.held
           refl))
       | in-Err w ↦ rw c.from.ensures (whole_same m _ (measures_same d g.enclave y c.eextend.new.log there w.in-Err.ensures.refused) h)
     ]

@@ -14,7 +14,7 @@ invariant_of-result c =
       c.in_ok-measures.ensures,
       c.in_ok-starts.ensures,
       c.in_ok-cpus.ensures,
-    ) refl) c.requires.cpus
+    ) refl) c.requires.cpus c.requires.frames
 
 pub returns-clause-shape : goal.returns-clause-shape
 returns-clause-shape c =

@@ -1,10 +1,8 @@
-use Rattle.std.proofs.Common.{◌≡◌, ◌∙◌, true, refl, ap, subst, sym, is_some}
+use Rattle.std.proofs.Common.{◌≡◌, true, refl, ap, is_some}
 use Rattle.paging_machine.specs.inner.Whole.{parts_of}
 use Rattle.paging_machine.specs.inner.Parts.{Parts, state_of}
-use Rattle.epcm_entry.specs.inner.Epc.{bytes_at, words_at}
-use Rattle.epcm_entry.specs.inner.Words.{words_of}
-use Rattle.paging_laws.specs.inner.Steps.{IsLeaving, SealsPage}
 use Rattle.paging_machine.proofs.PagingSights.{start_out}
+use Rattle.paging_machine.proofs.SealBridge.{seals}
 use Rattle.paging_machine.proofs.machine.Machine.seal_input.Goals as goal
 
 pub start-start-requires : goal.start-start-requires
@@ -17,20 +15,7 @@ start-start-requires c =
 pub returns : goal.returns
 returns c =
     let x = c.start-start.result in
-    let words : words_of (bytes_at c.self.inside.epc c.args.frame.0) ≡ words_at c.self.inside.epc c.args.frame.0 =
-    ap words_of (sym c.bytes.ensures.value) ∙ c.bytes.ensures.words in
-    let leaving : IsLeaving (state_of c.args.self.now) c.args.frame.0 = record {
-      start = record { slot = x.slot; version = x.version; loads = x.loads };
-      opened = c.start-start.ensures;
-      header = c.header-header.result;
-      page = c.header-header.ensures;
-      words = subst (λ (d : Parts). words_of (bytes_at d.epc c.args.frame.0) ≡ words_at d.epc c.args.frame.0) c.self.view_is words;
-    } in
-    let is : SealsPage (state_of c.args.self.now) c.args.frame.0 _ _ _ _ = record {
-      leaving = leaving;
-      key = ap (λ (d : Parts). d.key) c.self.view_is;
-      version = refl;
-      header = refl;
-      plain = c.copy_from_slice.ensures.items ∙ c.bytes.ensures.value ∙ ap (λ (d : Parts). bytes_at d.epc c.args.frame.0) c.self.view_is;
-    } in
-    is
+    seals (state_of c.args.self.now) c.args.frame.0 (record { at = x.at; slot = x.slot; version = x.version; loads = x.loads })
+    c.header-header.result c.write_bytes.new.onto.items c.self.inside.key c.write_bytes.new.onto.items x.version c.header-header.result
+    c.start-start.ensures c.header-header.ensures c.write_bytes.ensures.page c.write_bytes.ensures.bytes
+    (ap (λ (d : Parts). d.key) c.self.view_is) refl refl refl

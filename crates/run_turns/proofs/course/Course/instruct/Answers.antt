@@ -6,15 +6,18 @@ use Rattle.table_notes.specs.inner.Arrays.{KeepsArrays}
 use Rattle.run_turns.specs.declared.course.Course.{Course}
 use Rattle.run_turns.specs.inner.Courses.{past_of}
 use Rattle.run_turns.proofs.EndedLaws.{ends_told, none_fail}
-use Rattle.run_turns.proofs.InstructLaws.{none_started_of, acts, entered, lawful, notable, noted_by, plain_event}
+use Rattle.run_turns.proofs.InstructLaws.{none_started_of, acts, can_move, entered, lawful, notable, noted_by, plain_event}
 use Rattle.run_turns.proofs.KeepLaws.{grown_by_one, take_at}
 use Rattle.driver_rules.specs.inner.Stops.{started}
 use Rattle.run_turns.proofs.SpentLaws.{plain_draws, step_calm, used_calm}
 use Rattle.run_turns.proofs.RecordLaws.{newest, plain_is_none}
 use Rattle.run_turns.proofs.course.Course.instruct.Goals as goal
 
-pub apply-requires : goal.apply-requires
-apply-requires c = (lawful c.args.self.now c.args.actor c.args.action.now c.requires).can
+pub apply-requires-clause-can_apply : goal.apply-requires-clause-can_apply
+apply-requires-clause-can_apply c = (lawful c.args.self.now c.args.actor c.args.action.now c.requires).can
+
+pub apply-requires-clause-can_move : goal.apply-requires-clause-can_move
+apply-requires-clause-can_move c = can_move c.args.self.now c.args.actor c.args.action.now c.requires
 
 pub note_tables-requires : goal.note_tables-requires
 note_tables-requires c =

@@ -2,6 +2,7 @@ use Rattle.std.proofs.Common.{◌≡◌, ◌∙◌, true, refl, sym}
 use Rattle.std.proofs.lemmas.Bool.{false≢true}
 use Rattle.paging_laws.specs.inner.Steps.{is_of_cpus}
 use Rattle.trace_auditor.specs.inner.Asking.{is_cpu}
+use Rattle.audit_laws.proofs.AskedLaws.{asked_can_move}
 use Rattle.trace_auditor.proofs.AskLaws.{answered, applies, breaks, out_of, reclaimers}
 use Rattle.trace_auditor.proofs.auditing.Auditing.ask_row.Goals.{else-is_of_cpus-via-then-is_of_cpus+else-not-is_cpu}
 use Rattle.trace_auditor.proofs.auditing.Auditing.ask_row.Goals.{else-is_of_cpus-via-else-is_of_cpus}
@@ -27,3 +28,7 @@ returns-clause-answer c =
     (applies c.args.self.now c.args.entry.now can c.args.action.now c.requires.own c.requires.row own)
     c.ask.ensures.takes c.ask.ensures.step
     c.ask.ensures.cpus refl)
+
+pub ask-requires-clause-moves : goal.ask-requires-clause-moves
+ask-requires-clause-moves c =
+    let can = c.requires.can in asked_can_move can.j can.past _ _ _ _ _ can.trace can.script c.requires.own

@@ -1,0 +1,3 @@
+mod ReadyLaws
+mod SecsLaws
+mod ArrayLaws

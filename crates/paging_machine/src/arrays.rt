@@ -1,0 +1,56 @@
+//! What a driver that moves version array pages asks before it does.
+
+ghost use Rattle.std.specs.Prelude.{◌≡◌, true, false, Some, ℕ};
+ghost use Rattle.sgx_rules.specs.Table.{is_va};
+ghost use Rattle.epcm_entry.specs.inner.Sights.{held};
+ghost use Rattle.page_history.specs.inner.Away.{array_in};
+ghost use Rattle.paging_machine.specs.inner.Parts.{state_of};
+
+use crate::machine::Machine;
+use epcm_entry::entry_view::EntryView;
+use sgx_types::names::{Frame, Kind};
+
+impl Machine {
+    /// How many version array pages were made.
+    pub fn arrays_made(&self) -> u64
+        ensures { result ≡ (state_of self.now).vas_made }
+    {
+        self.va.made()
+    }
+
+    /// Whether a frame holds a version array page.
+    pub fn holds_array(&self, frame: Frame) -> bool
+        ensures { result ≡ is_va ((state_of self.now).content frame.0) }
+    {
+        frame.0 < self.epc.frames() && self.epc.entry(frame).is_va()
+    }
+
+    /// Whether a frame holds a version array page, by the page's number, or waits for it. Looks at each frame.
+    pub fn has_array(&self, number: u32) -> bool
+        ensures there { result ≡ true → (n : ℕ) × (array_in ((state_of self.now).content n) ≡ Some number) }
+        ensures away { result ≡ false → (n : ℕ) → array_in ((state_of self.now).content n) ≡ Some number → ⊥ }
+    {
+        for frame in 0..self.epc.frames() {
+            if is_array(self.epc.entry(Frame(frame)), number) {
+                return true;
+            }
+        }
+        false
+    }
+}
+
+// An entry's frame holds this version array page, or waits for it.
+fn is_array(entry: EntryView, number: u32) -> bool
+    ensures there { result ≡ true → array_in (held entry) ≡ Some number }
+    ensures away { result ≡ false → array_in (held entry) ≡ Some number → ⊥ }
+{
+    match entry {
+        EntryView::Valid {
+            page,
+            kind: Kind::Va,
+            ..
+        } => page.number == number,
+        EntryView::Loading { page } => page.enclave == 0 && page.number == number,
+        _ => false,
+    }
+}
