@@ -17,7 +17,7 @@ use Rattle.sgx_types.specs.declared.names.Page.{Page}
 use Rattle.sgx_types.specs.declared.names.SlotAt.{SlotAt}
 use Rattle.sgx_rules.specs.declared.refusals.Refusal.{Refusal}
 use Rattle.sgx_rules.specs.declared.refusals.Refusal.TheVariants as why
-use Rattle.sgx_types.specs.Pages.{same_slot}
+use Rattle.sgx_types.specs.Pages.{same_place}
 use Rattle.active_list.specs.inner.Active.{turned}
 use Rattle.active_list.specs.inner.States.{state_of as page_state, with_state}
 use Rattle.driver_rules.specs.inner.Reclaims.{is_refused}
@@ -94,7 +94,7 @@ frames_after old new slot false is = (is.frames, is.room)
 
 outs_after : (old new : Keeper) (slot : SlotAt) (refused : Bool) → SlotsAfter old slot refused new → KeepsOut old new
 outs_after old new slot true is other out = is.out other ∙ out
-outs_after old new slot false is other out = is.out other ∙ ap (λ b. same_slot slot other || b) out ∙ or_true (same_slot slot other)
+outs_after old new slot false is other out = is.out other ∙ ap (λ b. same_place slot other || b) out ∙ or_true (same_place slot other)
   where
     or_true : (b : Bool) → (b || true) ≡ true
     or_true true = refl

@@ -6,7 +6,7 @@ use Rattle.sgx_rules.specs.declared.entries.Action.TheVariants.{EwbStart}
 use Rattle.sgx_types.specs.declared.names.Cpu.{Cpu}
 use Rattle.sgx_types.specs.declared.names.Page.{Page}
 use Rattle.sgx_types.specs.declared.names.SlotAt.{SlotAt}
-use Rattle.sgx_types.specs.Pages.{same_slot}
+use Rattle.sgx_types.specs.Pages.{same_place}
 use Rattle.active_list.specs.inner.Holds.{most_of}
 use Rattle.active_list.specs.inner.Keeping.{kept_at, page_kept}
 use Rattle.fault_handler.specs.inner.Finishing.{CanFinish}
@@ -49,7 +49,7 @@ pub record TurnStays (old new : Driver) (turn : PassTurn) : Type 0 where
 
 -- each other slot that was out is out
 abbrev pub KeepsOthers : SlotAt → Keeper → Keeper → Type 0
-KeepsOthers slot old new = (other : SlotAt) → same_slot slot other ≡ false → is_out old other ≡ true → is_out new other ≡ true
+KeepsOthers slot old new = (other : SlotAt) → same_place slot other ≡ false → is_out old other ≡ true → is_out new other ≡ true
 
 -- the page has a place in each table with so many pages
 abbrev pub IsPlacedIn : List ℕ → Page → Type 0
@@ -58,7 +58,7 @@ IsPlacedIn counts page = (places : List ℕ) → places ≡ counts → IsPlaced 
 -- slots of these, and not this one
 abbrev pub IsWithout : List SlotAt → SlotAt → List SlotAt → Type 0
 IsWithout slots slot others = (other : SlotAt) → is_among others other ≡ true
-    → (is_among slots other ≡ true) × (same_slot slot other ≡ false)
+    → (is_among slots other ≡ true) × (same_place slot other ≡ false)
 
 -- an actor may hold so many pages
 pub record CanHold (holder : ℕ) (pages : List Page) : Type 0 where
