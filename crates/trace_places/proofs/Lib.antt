@@ -6,3 +6,4 @@ pub mod FoldLaws
 pub mod StandLaws
 pub mod MoveLaws
 pub mod ContentLaws
+mod Worked

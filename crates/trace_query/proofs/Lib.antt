@@ -6,3 +6,4 @@ pub mod SpanSplits
 pub mod SpanLaws
 pub mod SpanPlaces
 pub mod SeenLaws
+mod Worked
