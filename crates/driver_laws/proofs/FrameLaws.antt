@@ -7,7 +7,8 @@ use Rattle.sgx_types.proofs.Pages.{same_places, same_slot-refl, same_slots}
 use Rattle.sgx_rules.specs.declared.entries.Entry.{Entry}
 use Rattle.sgx_types.specs.declared.names.SlotAt.{SlotAt}
 use Rattle.sgx_types.specs.declared.names.VaSlot.{VaSlot}
-use Rattle.sgx_types.specs.Pages.{same_place, same_slot}
+use Rattle.sgx_types.specs.Pages.{same_slot}
+use Rattle.sgx_types.specs.inner.Places.{same_place}
 use Rattle.sgx_rules.specs.Frames.{Content, Free, Holds, IsLoading, IsVa, SecsOf, content}
 use Rattle.sgx_rules.specs.Slots.{names_slot as names_found, slot_of as found_of, version_at, version_in as version_of_slot, version_of}
 use Rattle.sgx_rules.specs.Starts.{Start, slot_found, slot_in}

@@ -5,7 +5,8 @@ use Rattle.sgx_types.proofs.Pages.{same_place-refl, same_places, same_slot-refl,
 use Rattle.sgx_rules.specs.declared.entries.Entry.{Entry}
 use Rattle.sgx_types.specs.declared.names.SlotAt.{SlotAt}
 use Rattle.sgx_types.specs.declared.names.VaSlot.{VaSlot}
-use Rattle.sgx_types.specs.Pages.{same_place, same_slot}
+use Rattle.sgx_types.specs.Pages.{same_slot}
+use Rattle.sgx_types.specs.inner.Places.{same_place}
 use Rattle.sgx_rules.specs.Frames.{content}
 use Rattle.sgx_rules.specs.Slots.{is_slot_busy}
 use Rattle.sgx_rules.specs.inner.Slots.{IsIdle as IsIdleSlot}

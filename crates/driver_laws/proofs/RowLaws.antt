@@ -14,7 +14,7 @@ use Rattle.sgx_rules.specs.Rules.{Along, FitsRule}
 use Rattle.sgx_rules.specs.Sights.{children_under, is_in_use, secs_seen, secs_sight_at, sight_at, slot_sight_at, use_sight_at}
 use Rattle.sgx_rules.specs.Flat.{settled}
 use Rattle.sgx_rules.specs.Slots.{is_busy_at, is_busy_of, is_va_of, version_at}
-use Rattle.sgx_types.specs.Pages.{same_place}
+use Rattle.sgx_types.specs.inner.Places.{same_place}
 use Rattle.driver_laws.specs.inner.ByFrame.{IsIdle, version_in}
 use Rattle.sgx_rules.specs.Starts.{Start, open_start}
 use Rattle.sgx_rules.specs.Table.{DrainSight, FrameSight, LoadSight, SecsSight, eldstart_row, ewbstart_row, first_of_row, is_busy, is_loading}

@@ -10,7 +10,7 @@ use Rattle.sgx_types.specs.declared.names.SlotAt.{SlotAt}
 use Rattle.sgx_types.specs.declared.names.VaSlot.{VaSlot}
 use Rattle.sgx_types.specs.Pages.{same_page}
 use Rattle.sgx_rules.specs.Frames.{Content, Free, is_page}
-use Rattle.sgx_types.specs.Pages.{same_place}
+use Rattle.sgx_types.specs.inner.Places.{same_place}
 use Rattle.driver_laws.specs.inner.ByFrame.{names_slot}
 use Rattle.sgx_rules.specs.Starts.{Start, is_load_of}
 use Rattle.driver_rules.specs.Places.{Absent, Away, Here, Leaving, Loading, Place, back_to, gone_to, leaves}

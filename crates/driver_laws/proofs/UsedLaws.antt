@@ -17,7 +17,7 @@ use Rattle.sgx_types.specs.declared.names.Page.{Page}
 use Rattle.sgx_types.specs.declared.names.SlotAt.{SlotAt}
 use Rattle.sgx_rules.specs.declared.refusals.Refusal.{Refusal}
 use Rattle.sgx_types.specs.Pages.{page_at, same_page}
-use Rattle.sgx_types.specs.Pages.{same_place}
+use Rattle.sgx_types.specs.inner.Places.{same_place}
 use Rattle.driver_laws.specs.inner.ByFrame.{names_slot, open_slot, starting, version_in}
 use Rattle.sgx_rules.specs.Starts.{Start, open_start, version_told}
 use Rattle.driver_rules.specs.Places.{Here, Place, after_look, gone_to, place}

@@ -21,7 +21,7 @@ use Rattle.sgx_types.specs.declared.names.Kind.TheVariants as kinds
 use Rattle.sgx_types.specs.declared.names.Perm.{Perm}
 use Rattle.sgx_types.specs.declared.names.SlotAt.{SlotAt}
 use Rattle.sgx_types.specs.Pages.{same_page}
-use Rattle.sgx_types.specs.Pages.{same_place}
+use Rattle.sgx_types.specs.inner.Places.{same_place}
 use Rattle.driver_rules.specs.inner.Same.{same_access, same_action, same_bool, same_cause, same_digest, same_init, same_kind}
 use Rattle.driver_rules.specs.inner.Same.{same_numbers}
 use Rattle.driver_rules.specs.inner.Same.{same_perm}

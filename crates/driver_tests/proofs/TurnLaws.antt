@@ -17,7 +17,7 @@ use Rattle.sgx_types.specs.declared.names.Page.{Page}
 use Rattle.sgx_types.specs.declared.names.SlotAt.{SlotAt}
 use Rattle.sgx_rules.specs.declared.refusals.Refusal.{Refusal}
 use Rattle.sgx_rules.specs.declared.refusals.Refusal.TheVariants as why
-use Rattle.sgx_types.specs.Pages.{same_place}
+use Rattle.sgx_types.specs.inner.Places.{same_place}
 use Rattle.active_list.specs.inner.Active.{turned}
 use Rattle.active_list.specs.inner.States.{state_of as page_state, with_state}
 use Rattle.driver_rules.specs.inner.Reclaims.{is_refused}

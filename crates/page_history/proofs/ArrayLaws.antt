@@ -19,7 +19,8 @@ use Rattle.sgx_rules.specs.Frames.{Content, Free, IsVa, SecsOf, Holds, IsLoading
 use Rattle.sgx_rules.specs.Frames.{reloaded}
 use Rattle.sgx_types.specs.Pages.{page_at, same_page, va_page}
 use Rattle.sgx_rules.specs.Frames.{reloaded_as, vas_made}
-use Rattle.sgx_rules.specs.PageBytes.{ArraysRest, va_words, words_out}
+use Rattle.sgx_rules.specs.PageBytes.{va_words}
+use Rattle.sgx_rules.specs.inner.Arrays.{ArraysRest, words_out}
 use Rattle.sgx_types.specs.Pages.{same_slot}
 use Rattle.sgx_rules.specs.Slots.{is_va_of, names_slot, open_slot, slot_of, version_in}
 use Rattle.sgx_rules.specs.Starts.{Start, open_start}

@@ -15,7 +15,8 @@ use Rattle.sgx_rules.specs.Epochs.{epoch_of}
 use Rattle.sgx_rules.specs.Frames.{Content, Free, IsVa, SecsOf, Holds, IsLoading, enclave_in, is_child, is_free, reloaded, reloaded_as}
 use Rattle.sgx_rules.specs.Processors.{Seat}
 use Rattle.sgx_rules.specs.Sights.{children_under}
-use Rattle.sgx_types.specs.Pages.{is_own_page, is_va_page, same_place}
+use Rattle.sgx_types.specs.Pages.{is_own_page, is_va_page}
+use Rattle.sgx_types.specs.inner.Places.{same_place}
 use Rattle.sgx_rules.specs.Starts.{slot_in}
 use Rattle.sgx_rules.specs.inner.Starts.{BareStart}
 use Rattle.sgx_rules.specs.Table.{is_loading, is_made, is_out_of_range, is_own, is_va, is_valid, block_row, track_row, ewbstart_row}

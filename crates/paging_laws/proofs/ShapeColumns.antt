@@ -26,7 +26,8 @@ use Rattle.sgx_rules.specs.Epochs.{epoch, epoch_of}
 use Rattle.sgx_rules.specs.inner.Epochs.{noted}
 use Rattle.sgx_rules.specs.Flat.{marked}
 use Rattle.sgx_types.specs.Pages.{is_secs_page, is_va_page, page_at, same_page, va_page}
-use Rattle.sgx_rules.specs.Frames.{Content, Free, IsVa, SecsOf, Holds, IsLoading, added, came_back, content, enclave_in, is_sealing}
+use Rattle.sgx_rules.specs.Frames.{Content, Free, IsVa, SecsOf, Holds, IsLoading, added, content, enclave_in, is_sealing}
+use Rattle.sgx_rules.specs.inner.Arrays.{came_back}
 use Rattle.sgx_rules.specs.Frames.{reloaded, reloaded_as, vas_made}
 use Rattle.sgx_rules.specs.Processors.{Seat, stay, stay_from, with_filled, translations}
 use Rattle.sgx_rules.specs.Sights.{seat_of}

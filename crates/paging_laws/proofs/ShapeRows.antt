@@ -30,7 +30,7 @@ use Rattle.sgx_rules.specs.Frames.{Content, Free, IsVa, SecsOf, Holds, IsLoading
 use Rattle.sgx_rules.specs.Frames.{reloaded, vas_made}
 use Rattle.sgx_rules.specs.Processors.{Seat, Stay, stay, stay_from, holds_number, translations}
 use Rattle.sgx_rules.specs.Rules.{EvictRule, RisingRule, StaleRule}
-use Rattle.sgx_rules.specs.PageBytes.{ArraysRest}
+use Rattle.sgx_rules.specs.inner.Arrays.{ArraysRest}
 use Rattle.sgx_rules.specs.Sights.{children_under, seat_of}
 use Rattle.sgx_rules.specs.Starts.{open_start}
 use Rattle.sgx_rules.specs.inner.Starts.{BareStart}

@@ -21,7 +21,8 @@ use Rattle.sgx_rules.specs.declared.refusals.Refusal.TheVariants as why
 use Rattle.sgx_types.specs.Pages.{no_perm}
 use Rattle.sgx_types.specs.Pages.{is_va_page, va_page}
 use Rattle.sgx_rules.specs.Frames.{Content, IsLoading, IsVa, reloaded}
-use Rattle.sgx_rules.specs.PageBytes.{ArraysRest, va_words}
+use Rattle.sgx_rules.specs.PageBytes.{va_words}
+use Rattle.sgx_rules.specs.inner.Arrays.{ArraysRest}
 use Rattle.sgx_rules.specs.Starts.{open_start}
 use Rattle.sgx_rules.specs.inner.Starts.{BareStart}
 use Rattle.sgx_rules.proofs.Busy.{IsBareOf}

@@ -14,7 +14,8 @@ use Rattle.sgx_types.specs.declared.names.VaSlot.{VaSlot}
 use Rattle.sgx_types.specs.Pages.{va_page}
 use Rattle.sgx_rules.specs.Frames.{Content, Free, IsLoading, IsVa, content, is_sealing, vas_made}
 use Rattle.sgx_rules.specs.PageBytes.{va_words}
-use Rattle.sgx_types.specs.Pages.{same_place, same_slot}
+use Rattle.sgx_types.specs.Pages.{same_slot}
+use Rattle.sgx_types.specs.inner.Places.{same_place}
 use Rattle.sgx_rules.specs.Slots.{is_slot_busy, is_va_of, names_slot, open_slot, slot_of, takes_out, version_in}
 use Rattle.sgx_rules.specs.Starts.{Start, open_start}
 use Rattle.sgx_rules.specs.inner.Starts.{BareStart, bare_start, without_place}

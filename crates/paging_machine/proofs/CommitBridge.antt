@@ -17,7 +17,8 @@ use Rattle.sgx_types.specs.declared.names.Perm.{Perm}
 use Rattle.sgx_types.specs.declared.names.SlotAt.{SlotAt}
 use Rattle.sgx_types.specs.declared.names.TheConstants.{SECS_NUMBER}
 use Rattle.sgx_types.specs.declared.record.Header.{Header}
-use Rattle.sgx_types.specs.Pages.{is_own_page, is_secs_page, is_va_page, no_perm, same_place}
+use Rattle.sgx_types.specs.Pages.{is_own_page, is_secs_page, is_va_page, no_perm}
+use Rattle.sgx_types.specs.inner.Places.{same_place}
 use Rattle.sgx_types.specs.Sealed.{Sealed, header_of}
 use Rattle.sgx_types.proofs.Pages.{same_places}
 use Rattle.sgx_types.proofs.Truths.{apart, both_true}

@@ -11,7 +11,8 @@ use Rattle.sgx_types.specs.declared.names.SlotAt.{SlotAt}
 use Rattle.sgx_types.specs.declared.names.Kind.{Kind}
 use Rattle.sgx_types.specs.declared.names.Kind.TheVariants as kinds
 use Rattle.sgx_rules.specs.Frames.{IsLoading, enclave_in, is_free}
-use Rattle.sgx_types.specs.Pages.{is_secs_page, is_va_page, same_place}
+use Rattle.sgx_types.specs.Pages.{is_secs_page, is_va_page}
+use Rattle.sgx_types.specs.inner.Places.{same_place}
 use Rattle.sgx_types.specs.declared.names.VaSlot.{VaSlot}
 use Rattle.sgx_rules.specs.Starts.{slot_in as found_slot}
 use Rattle.sgx_rules.specs.inner.Starts.{BareStart}

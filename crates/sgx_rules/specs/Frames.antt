@@ -177,15 +177,6 @@ free_from held n (suc count) = if is_free (held n) then Some n else free_from he
 abbrev pub least_free : ℕ → (ℕ → Content) → Option ℕ
 least_free frames held = free_from held 0 frames
 
-abbrev pub comes_back : Event → ℕ → Bool
-comes_back (Did (Eld f) (Moved page version tag)) number = same_page page (va_page number)
-comes_back _ number = false
-
--- a version array page of this number was reloaded
-abbrev pub came_back : List Entry → ℕ → Bool
-came_back [] number = false
-came_back (e ∷ past) number = comes_back e.event number || came_back past number
-
 abbrev pub frame_after : Event → Page → Option ℕ → Option ℕ
 frame_after (Did (Add enclave number f kind perm init) answer) g before = if same_page (page_at enclave number) g then Some f.0 else before
 frame_after (Did (Eld f) (Moved page version tag)) g before = if same_page page g then Some f.0 else before

@@ -1,9 +1,9 @@
 -- What is sealed of a page, by the entries before a place: its header and its bytes.
-use Rattle.std.specs.Prelude.{ℕ, ◌≡◌, ◌<◌, ◌≤◌, false, ◌==◌, ◌*◌, if◌then◌else◌, List, [], ◌∷◌, ◌++◌, Option, Some, None, map}
+use Rattle.std.specs.Prelude.{ℕ, ◌==◌, ◌*◌, if◌then◌else◌, List, [], ◌∷◌, ◌++◌, Option, Some, None, map}
 use Rattle.std.specs.List.{range_with_len}
 use Rattle.std.specs.Int.{w32, w64, to_le_bytes}
-use Rattle.sgx_rules.specs.declared.entries.Action.TheVariants.{Eld, Ewb, Init}
-use Rattle.sgx_rules.specs.declared.entries.Answer.TheVariants.{Hash, Moved}
+use Rattle.sgx_rules.specs.declared.entries.Action.TheVariants.{Init}
+use Rattle.sgx_rules.specs.declared.entries.Answer.TheVariants.{Hash}
 use Rattle.sgx_rules.specs.declared.entries.Entry.{Entry}
 use Rattle.sgx_rules.specs.declared.entries.Event.{Event}
 use Rattle.sgx_rules.specs.declared.entries.Event.TheVariants.{Did}
@@ -11,10 +11,9 @@ use Rattle.sgx_types.specs.declared.names.Kind.TheVariants as kinds
 use Rattle.sgx_types.specs.declared.names.Page.{Page}
 use Rattle.sgx_types.specs.declared.record.Header.{Header}
 use Rattle.sgx_rules.specs.Flat.{FlatEnclave, flat, flat_bytes, header_in}
-use Rattle.sgx_types.specs.Pages.{is_secs_page, is_va_page, no_perm, same_page, va_page}
-use Rattle.sgx_rules.specs.Frames.{content, vas_made}
+use Rattle.sgx_types.specs.Pages.{is_secs_page, is_va_page, no_perm}
 use Rattle.sgx_types.specs.Layouts.{bytes_of, flags_of, zeros}
-use Rattle.sgx_rules.specs.Slots.{is_va_of, version_in}
+use Rattle.sgx_rules.specs.Slots.{version_in}
 
 -- ---- headers
 
@@ -56,24 +55,6 @@ secs_bytes_of (Some x) digest = secs_bytes x digest
 -- the 512 slots of a version array page before a place
 abbrev pub va_words : List Entry → ℕ → List ℕ
 va_words past number = map (λ index. version_in past (record { va = number; index = index })) (range_with_len 0 512)
-
-abbrev pub words_out_after : Event → List ℕ → ℕ → Option (List ℕ) → Option (List ℕ)
-words_out_after (Did (Ewb f) (Moved page version tag)) now number before = if same_page page (va_page number) then Some now else before
-words_out_after (Did (Eld f) (Moved page version tag)) now number before = if same_page page (va_page number) then None else before
-words_out_after _ now number before = before
-
--- the slots with which a version array page last went out, None where it was never out or came back since
-abbrev pub words_out : List Entry → ℕ → Option (List ℕ)
-words_out [] number = None
-words_out (e ∷ past) number = words_out_after e.event (va_words past number) number (words_out past number)
-
--- a version array page that is out was made, stands in no frame, and has the slots with which it went; and no slot of a page that was not
--- made has a version
-pub record ArraysRest (past : List Entry) : Type 0 where
-  pub rest : (number : ℕ) (words : List ℕ) → words_out past number ≡ Some words → va_words past number ≡ words
-  pub away : (number : ℕ) (words : List ℕ) → words_out past number ≡ Some words → (n : ℕ) → is_va_of (content past n) number ≡ false
-  pub below : (number : ℕ) (words : List ℕ) → words_out past number ≡ Some words → number < vas_made past
-  pub unmade : (number index : ℕ) → vas_made past ≤ number → version_in past (record { va = number; index = index }) ≡ 0
 
 -- a page's bytes before a place: its slots, its enclave's range and digest, or its words in flat memory
 abbrev pub bytes_at : List Entry → Page → List ℕ

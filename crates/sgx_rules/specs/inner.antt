@@ -6,3 +6,4 @@ pub mod Slots
 pub mod ByEpochs
 pub mod Starts
 pub mod Enclaves
+pub mod Arrays

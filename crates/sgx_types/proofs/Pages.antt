@@ -5,7 +5,8 @@ use Rattle.sgx_types.specs.declared.names.Page.{Page}
 use Rattle.sgx_types.specs.declared.names.SlotAt.{SlotAt}
 use Rattle.sgx_types.specs.declared.names.VaSlot.{VaSlot}
 use Rattle.sgx_types.specs.Pages.{page_at, same_page}
-use Rattle.sgx_types.specs.Pages.{same_place, same_slot}
+use Rattle.sgx_types.specs.Pages.{same_slot}
+use Rattle.sgx_types.specs.inner.Places.{same_place}
 use Rattle.sgx_types.proofs.Truths.{both_true, eqb-swap}
 
 -- pages that the test finds the same are equal

@@ -2,7 +2,6 @@
 use Rattle.std.specs.Prelude.{ℕ, ◌==◌, ◌&&◌, not, Bool, false}
 use Rattle.sgx_types.specs.declared.names.Page.{Page}
 use Rattle.sgx_types.specs.declared.names.Perm.{Perm}
-use Rattle.sgx_types.specs.declared.names.SlotAt.{SlotAt}
 use Rattle.sgx_types.specs.declared.names.TheConstants.{SECS_NUMBER}
 use Rattle.sgx_types.specs.declared.names.VaSlot.{VaSlot}
 
@@ -38,7 +37,3 @@ is_own_page g = not (is_va_page g) && not (g.number == SECS_NUMBER)
 
 abbrev pub same_slot : VaSlot → VaSlot → Bool
 same_slot a b = (a.va == b.va) && (a.index == b.index)
-
--- the same index in the same frame
-abbrev pub same_place : SlotAt → SlotAt → Bool
-same_place a b = (a.frame.0 == b.frame.0) && (a.index == b.index)

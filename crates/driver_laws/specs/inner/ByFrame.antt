@@ -11,7 +11,7 @@ use Rattle.sgx_types.specs.declared.names.Actor.{Actor}
 use Rattle.sgx_types.specs.declared.names.Page.{Page}
 use Rattle.sgx_types.specs.declared.names.VaSlot.{VaSlot}
 use Rattle.sgx_types.specs.declared.names.SlotAt.{SlotAt}
-use Rattle.sgx_types.specs.Pages.{same_place}
+use Rattle.sgx_types.specs.inner.Places.{same_place}
 use Rattle.sgx_rules.specs.Frames.{Content, IsVa, content, vas_made}
 use Rattle.sgx_rules.specs.Slots.{version_in as version_of_slot}
 use Rattle.sgx_rules.specs.Starts.{Start, open_start, slot_found, started}

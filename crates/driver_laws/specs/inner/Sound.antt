@@ -7,7 +7,8 @@ use Rattle.sgx_types.specs.declared.names.Page.{Page}
 use Rattle.sgx_types.specs.declared.names.SlotAt.{SlotAt}
 use Rattle.sgx_types.specs.Pages.{is_own_page, same_page}
 use Rattle.sgx_rules.specs.inner.Enclaves.{created}
-use Rattle.sgx_rules.specs.Frames.{Content, SecsOf, added, came_back, content, is_page}
+use Rattle.sgx_rules.specs.Frames.{Content, SecsOf, added, content, is_page}
+use Rattle.sgx_rules.specs.inner.Arrays.{came_back}
 use Rattle.driver_laws.specs.inner.ByFrame.{SlotsByFrame, slot_of as slot_of_start, version_in}
 use Rattle.sgx_rules.specs.Starts.{Start, is_load_of, open_start}
 use Rattle.sgx_rules.specs.Fresh.{Out, last_out}

@@ -16,7 +16,7 @@ use Rattle.sgx_types.specs.declared.names.Kind.{Kind}
 use Rattle.sgx_types.specs.declared.names.Kind.TheVariants as kinds
 use Rattle.sgx_types.specs.declared.names.Perm.{Perm}
 use Rattle.sgx_types.specs.Pages.{same_page}
-use Rattle.sgx_types.specs.Pages.{same_place}
+use Rattle.sgx_types.specs.inner.Places.{same_place}
 
 abbrev pub same_bool : Bool → Bool → Bool
 same_bool true b = b

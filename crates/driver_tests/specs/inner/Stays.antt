@@ -6,7 +6,7 @@ use Rattle.sgx_rules.specs.declared.entries.Action.TheVariants.{EwbStart}
 use Rattle.sgx_types.specs.declared.names.Cpu.{Cpu}
 use Rattle.sgx_types.specs.declared.names.Page.{Page}
 use Rattle.sgx_types.specs.declared.names.SlotAt.{SlotAt}
-use Rattle.sgx_types.specs.Pages.{same_place}
+use Rattle.sgx_types.specs.inner.Places.{same_place}
 use Rattle.active_list.specs.inner.Holds.{most_of}
 use Rattle.active_list.specs.inner.Keeping.{kept_at, page_kept}
 use Rattle.fault_handler.specs.inner.Finishing.{CanFinish}

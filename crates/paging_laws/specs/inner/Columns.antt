@@ -13,7 +13,8 @@ use Rattle.sgx_rules.specs.inner.Enclaves.{created}
 use Rattle.sgx_rules.specs.Epochs.{epoch}
 use Rattle.sgx_rules.specs.inner.Epochs.{block_epoch, noted}
 use Rattle.sgx_rules.specs.Flat.{FlatEnclave}
-use Rattle.sgx_rules.specs.Frames.{Content, IsVa, added, came_back, content, is_sealing, vas_made}
+use Rattle.sgx_rules.specs.Frames.{Content, IsVa, added, content, is_sealing, vas_made}
+use Rattle.sgx_rules.specs.inner.Arrays.{came_back}
 use Rattle.sgx_rules.specs.Processors.{BareTranslation, Seat, Stay, stay, translations}
 use Rattle.sgx_rules.specs.Slots.{is_slot_busy, next_version, version_in}
 use Rattle.sgx_rules.specs.Starts.{open_start}

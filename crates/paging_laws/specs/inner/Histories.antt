@@ -10,7 +10,8 @@ use Rattle.sgx_types.specs.declared.names.Page.{Page}
 use Rattle.sgx_types.specs.declared.names.VaSlot.{VaSlot}
 use Rattle.sgx_rules.specs.Flat.{flat, words_of}
 use Rattle.sgx_types.specs.Pages.{is_own_page, is_va_page, va_page}
-use Rattle.sgx_rules.specs.PageBytes.{bytes_at, va_words, words_out}
+use Rattle.sgx_rules.specs.PageBytes.{bytes_at, va_words}
+use Rattle.sgx_rules.specs.inner.Arrays.{words_out}
 use Rattle.sgx_rules.specs.Rules.{Along}
 use Rattle.epcm_entry.specs.inner.Words.{words_of as words_in}
 use Rattle.sgx_types.specs.Sealed.{Sealed}

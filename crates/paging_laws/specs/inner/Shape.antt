@@ -6,7 +6,7 @@ use Rattle.sgx_rules.specs.inner.Enclaves.{IsTaken}
 use Rattle.sgx_rules.specs.Epochs.{older_at}
 use Rattle.sgx_rules.specs.inner.Epochs.{newer_at}
 use Rattle.sgx_rules.specs.Rules.{Along, EvictRule, Fits, FitsRule, RisingRule, Stale}
-use Rattle.sgx_rules.specs.PageBytes.{ArraysRest}
+use Rattle.sgx_rules.specs.inner.Arrays.{ArraysRest}
 use Rattle.sgx_rules.specs.inner.Starts.{LoadsAreApart}
 use Rattle.sgx_types.specs.Making.{Making}
 use Rattle.paging_laws.specs.inner.Columns.{HasBusy, HasColumns}

@@ -36,7 +36,7 @@ use Rattle.measure_log.specs.declared.measure.Measure.{Measure}
 use Rattle.sgx_rules.specs.Flat.{FlatEnclave, enclave_sight_of, marked, settled, tcs_fields, with_cssa, first_words, word_index}
 use Rattle.sgx_rules.specs.Flat.{sum_of}
 use Rattle.sgx_rules.specs.Sights.{children_under, seat_of, secs_seen}
-use Rattle.sgx_types.specs.Pages.{same_place}
+use Rattle.sgx_types.specs.inner.Places.{same_place}
 use Rattle.sgx_rules.specs.Starts.{slot_in}
 use Rattle.sgx_rules.specs.inner.Starts.{BareStart}
 use Rattle.sgx_types.specs.declared.names.VaSlot.{VaSlot}
