@@ -43,7 +43,7 @@ use Rattle.run_history.proofs.HistoryLaws.{driven}
 use Rattle.turn_tables.specs.inner.Ending.{EndsAreTold, IsForRecord}
 use Rattle.turn_tables.specs.declared.turns.Turns.{Turns}
 use Rattle.turn_tables.proofs.EndLaws.{ends_go_on}
-use Rattle.version_array.specs.inner.Keeper.{Keeper, count_out}
+use Rattle.slot_keeper.specs.inner.Keeper.{Keeper, count_out}
 use Rattle.audit_laws.specs.inner.Shown.{ShowsTrace}
 
 -- ---- loads

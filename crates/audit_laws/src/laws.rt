@@ -22,7 +22,7 @@ ghost use Rattle.driver_tables.specs.declared.driver.Driver.{Driver};
 ghost use Rattle.run_history.specs.inner.Histories.{GoesOn};
 ghost use Rattle.turn_tables.specs.inner.Ending.{EndsAreTold};
 ghost use Rattle.turn_tables.specs.declared.turns.Turns.{Turns};
-ghost use Rattle.version_array.specs.inner.Keeper.{Keeper, count_out};
+ghost use Rattle.slot_keeper.specs.inner.Keeper.{Keeper, count_out};
 ghost use Rattle.audit_laws.specs.inner.Shown.{ShowsTrace};
 
 /// Driver and machine agree on a trace that kept each rule, where the tables show it: nothing else is asked of who made it.

@@ -26,7 +26,7 @@ use Rattle.active_list.specs.declared.page_states.PageState.{PageState}
 use Rattle.active_list.specs.declared.page_states.PageState.TheVariants as states
 use Rattle.active_list.specs.inner.Places.{IsPlaced}
 use Rattle.active_list.specs.inner.States.{state_of as page_state, with_state}
-use Rattle.version_array.specs.inner.Keeper.{Keeper, count_out}
+use Rattle.slot_keeper.specs.inner.Keeper.{Keeper, count_out}
 use Rattle.paging_laws.specs.inner.Steps.{did_by, refused_by}
 use Rattle.paging_machine.specs.declared.starts.Start as starts
 use Rattle.paging_machine.specs.inner.Parts.{Parts}

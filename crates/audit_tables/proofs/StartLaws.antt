@@ -19,7 +19,7 @@ use Rattle.sgx_rules.specs.Frames.{is_this}
 use Rattle.sgx_rules.specs.inner.Starts.{BareStart, bare_start, without_place}
 use Rattle.sgx_rules.specs.Table.{ewbstart_row, first_of_row, is_va}
 use Rattle.job_grammar.specs.Jobs.{JobView}
-use Rattle.version_array.specs.inner.Keeper.{Keeper, is_out}
+use Rattle.slot_keeper.specs.inner.Keeper.{Keeper, is_out}
 use Rattle.paging_machine.specs.declared.starts.Start as starts
 use Rattle.paging_machine.specs.inner.Parts.{start_of}
 use Rattle.driver_rules.specs.Places.{Loading, place}

@@ -1,11 +1,11 @@
 //! Takes a slot by its name.
 
 ghost use Rattle.std.specs.Prelude.{◌≡◌, true, false};
-ghost use Rattle.version_array.specs.inner.Keeper.{Takes};
+ghost use Rattle.slot_keeper.specs.inner.Keeper.{Takes};
 ghost use Rattle.audit_tables.specs.inner.Naming.{IsLeft, IsSameKeeper};
 
 use sgx_types::names::SlotAt;
-use version_array::slot_keeper::SlotKeeper;
+use slot_keeper::keeper::SlotKeeper;
 
 /// Takes this slot out of those that are not out. False where it is none of them: then the same slots are out as before.
 pub(crate) fn take_named(slots: &mut SlotKeeper, named: SlotAt) -> bool

@@ -28,7 +28,7 @@ use Rattle.sgx_types.specs.inner.Places.{same_place}
 use Rattle.driver_laws.specs.inner.ByFrame.{names_slot, open_slot, starting, version_in}
 use Rattle.driver_laws.specs.inner.ByFrame.{IsIdle}
 use Rattle.sgx_rules.specs.Starts.{Start, open_start, version_told}
-use Rattle.version_array.specs.inner.Keeper.{Adds, Gives, Keeper, Takes, is_added, is_out}
+use Rattle.slot_keeper.specs.inner.Keeper.{Adds, Gives, Keeper, Takes, is_added, is_out}
 use Rattle.job_grammar.specs.Jobs.{JobView, va_pages}
 use Rattle.driver_laws.specs.inner.Agrees.{ShowsSlots, has_pages}
 use Rattle.driver_laws.specs.inner.Kinds.{CanMove, IsFoundAt, is_quiet}

@@ -17,7 +17,7 @@ use Rattle.sgx_types.specs.declared.lawful.PageInit.TheVariants as inits
 use Rattle.sgx_types.specs.declared.names.Kind.{Kind}
 use Rattle.sgx_types.specs.declared.names.Kind.TheVariants as kinds
 use Rattle.sgx_types.specs.declared.names.Perm.{Perm}
-use Rattle.version_array.specs.inner.Keeper.{Keeper, new_keeper}
+use Rattle.slot_keeper.specs.inner.Keeper.{Keeper, new_keeper}
 use Rattle.job_grammar.specs.Jobs.{EnclaveView, JobView, va_pages}
 use Rattle.job_grammar.specs.declared.jobs.PageLine.{PageLine}
 use Rattle.job_grammar.specs.declared.jobs.PageLine.TheVariants as lines

@@ -20,7 +20,7 @@ use Rattle.sgx_types.specs.declared.names.Kind.{Kind}
 use Rattle.sgx_types.specs.declared.names.Kind.TheVariants as kinds
 use Rattle.sgx_types.specs.declared.names.Page.{Page}
 use Rattle.sgx_types.specs.declared.names.Perm.{Perm}
-use Rattle.version_array.specs.inner.Keeper.{AllOut, Keeper, count_all, count_out}
+use Rattle.slot_keeper.specs.inner.Keeper.{AllOut, Keeper, count_all, count_out}
 use Rattle.job_grammar.specs.Jobs.{EnclaveView, JobView, enclave_pages, job_pages, page_count, va_pages}
 use Rattle.job_grammar.specs.declared.jobs.PageLine.{PageLine}
 use Rattle.job_grammar.specs.declared.jobs.PageLine.TheVariants as lines

@@ -20,7 +20,7 @@ use Rattle.sgx_types.specs.declared.names.SlotAt.{SlotAt}
 use Rattle.sgx_types.specs.Pages.{page_at, same_page}
 use Rattle.sgx_rules.specs.Frames.{added}
 use Rattle.sgx_rules.specs.Starts.{open_start}
-use Rattle.version_array.specs.inner.Keeper.{Keeper, count_out, new_keeper}
+use Rattle.slot_keeper.specs.inner.Keeper.{Keeper, count_out, new_keeper}
 use Rattle.driver_rules.specs.Places.{Leaving, Loading, place, Absent}
 use Rattle.driver_laws.specs.inner.Counted.{CountMoves, CountsSlots, has_slot, pages_added}
 use Rattle.driver_laws.specs.inner.Kinds.{CanMove}

@@ -8,7 +8,7 @@ use Rattle.sgx_rules.specs.declared.entries.Event.{Event}
 use Rattle.sgx_rules.specs.declared.entries.Event.TheVariants.{Did, Refused, Age}
 use Rattle.sgx_types.specs.declared.names.Frame.{Frame}
 use Rattle.sgx_types.specs.declared.names.SlotAt.{SlotAt}
-use Rattle.version_array.specs.inner.Keeper.{Keeper, Gives, count_out, new_keeper}
+use Rattle.slot_keeper.specs.inner.Keeper.{Keeper, Gives, count_out, new_keeper}
 use Rattle.job_grammar.specs.Jobs.{JobView}
 use Rattle.driver_laws.specs.inner.Agrees.{ShowsSlots}
 use Rattle.driver_laws.specs.inner.Counted.{CountMoves}

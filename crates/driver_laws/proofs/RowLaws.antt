@@ -32,7 +32,7 @@ use Rattle.driver_laws.proofs.IdleLaws.{idle_free}
 use Rattle.sgx_rules.proofs.Contents.{IsHeld, IsNoOther, held_page, page_is_no_other, va_no_free}
 use Rattle.sgx_types.proofs.LeastLaws.{IsLeastOr, is_least, least_found}
 use Rattle.sgx_rules.specs.inner.Enclaves.{created}
-use Rattle.version_array.specs.inner.Keeper.{Keeper, is_added, is_ours, is_out}
+use Rattle.slot_keeper.specs.inner.Keeper.{Keeper, is_added, is_ours, is_out}
 use Rattle.job_grammar.specs.Jobs.{JobView}
 use Rattle.driver_rules.specs.Places.{Away, Leaving, place}
 use Rattle.driver_laws.specs.inner.Agrees.{ShowsSlots}

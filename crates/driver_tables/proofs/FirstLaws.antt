@@ -10,7 +10,7 @@ use Rattle.active_list.specs.inner.Keeping.{kept_at, page_kept}
 use Rattle.active_list.specs.inner.Places.{place_of}
 use Rattle.active_list.specs.inner.States.{state_of}
 use Rattle.active_list.specs.declared.page_states.PageState.TheVariants as states
-use Rattle.version_array.specs.inner.Keeper.{new_keeper}
+use Rattle.slot_keeper.specs.inner.Keeper.{new_keeper}
 use Rattle.driver_laws.specs.inner.Agrees.{ShowsSlots}
 use Rattle.driver_tables.specs.declared.driver.Driver.{Driver}
 use Rattle.driver_tables.specs.inner.Counts.{page_counts}

@@ -24,7 +24,7 @@ use Rattle.active_list.specs.inner.Keeping.{kept_at, page_kept}
 use Rattle.active_list.specs.inner.Listing as listing
 use Rattle.active_list.specs.inner.Places.{IsPlaced}
 use Rattle.active_list.specs.inner.States.{with_state}
-use Rattle.version_array.specs.inner.Keeper.{Adds}
+use Rattle.slot_keeper.specs.inner.Keeper.{Adds}
 use Rattle.driver_rules.specs.Places.{uses}
 use Rattle.driver_rules.specs.Turns.{last_by, last_of}
 use Rattle.driver_laws.specs.inner.Agrees.{ShowsSlots, has_pages, listed_by, loaded_by, touched}

@@ -27,7 +27,7 @@ use Rattle.active_list.specs.inner.Listing.{turn}
 use Rattle.active_list.specs.inner.Places.{IsPlaced, place_of}
 use Rattle.active_list.specs.inner.States.{state_of, with_state}
 use Rattle.active_list.proofs.StateLaws.{state_of-with_state}
-use Rattle.version_array.specs.inner.Keeper.{Takes}
+use Rattle.slot_keeper.specs.inner.Keeper.{Takes}
 use Rattle.driver_rules.specs.Ages.{head_of}
 use Rattle.driver_rules.specs.Places.{Away, Here, Leaving, Place, active, place}
 use Rattle.driver_rules.specs.Turns.{last_of}

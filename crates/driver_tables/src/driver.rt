@@ -11,7 +11,7 @@ use active_list::page_states::PageStates;
 use job_grammar::jobs::{Job, Marks};
 use sgx_types::names::Memory;
 use std::alloc::Global;
-use version_array::slot_keeper::SlotKeeper;
+use slot_keeper::keeper::SlotKeeper;
 
 /// What the driver keeps of a job: the list of the pages that may be written out and the holds of pages, what became of each page,
 /// the slots for versions, the record that each processor's started load looks at, and the job's numbers. No call but `new` takes

@@ -8,7 +8,7 @@ ghost use Rattle.active_list.specs.inner.Ring.{is_listed};
 ghost use Rattle.active_list.specs.inner.States.{state_of, with_state};
 ghost use Rattle.active_list.specs.declared.page_states.PageState.TheVariants as states;
 ghost use Rattle.sgx_rules.specs.declared.entries.Look.TheVariants as looks;
-ghost use Rattle.version_array.specs.inner.Keeper.{is_out};
+ghost use Rattle.slot_keeper.specs.inner.Keeper.{is_out};
 ghost use Rattle.driver_tables.specs.inner.Moves.{IsLooked, IsLoaded, frame_in, leaving_of, slot_away};
 
 use crate::driver::Driver;

@@ -12,7 +12,7 @@ use Rattle.active_list.specs.inner.States.{state_of as page_state}
 use Rattle.active_list.specs.declared.page_states.PageState.TheVariants as states
 use Rattle.driver_tables.specs.declared.driver.Driver.{Driver}
 use Rattle.paging_machine.specs.inner.Parts.{Parts, state_of}
-use Rattle.version_array.specs.inner.Keeper.{is_out}
+use Rattle.slot_keeper.specs.inner.Keeper.{is_out}
 use Rattle.driver_tests.specs.inner.Stays.{IsLoading}
 
 pub loading_by : (cpu : Cpu) (page : Page) (frame : Frame) (slot : SlotAt) (d : Driver) (m : Parts) (counts : List ℕ)

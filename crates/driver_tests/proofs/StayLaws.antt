@@ -28,7 +28,7 @@ use Rattle.fault_handler.specs.declared.answers.FaultAnswer.{FaultAnswer}
 use Rattle.fault_handler.specs.declared.answers.Loaded.{Loaded}
 use Rattle.paging_laws.specs.inner.State.{State}
 use Rattle.paging_machine.specs.inner.Parts.{Parts}
-use Rattle.version_array.specs.inner.Keeper.{Keeper, is_out}
+use Rattle.slot_keeper.specs.inner.Keeper.{Keeper, is_out}
 use Rattle.reclaim_worker.specs.declared.turns.Phase.{Phase}
 use Rattle.reclaim_worker.specs.declared.turns.Phase.TheVariants as phases
 use Rattle.reclaim_worker.specs.declared.turns.Taken.{Taken}

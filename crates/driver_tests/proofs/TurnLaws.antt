@@ -27,7 +27,7 @@ use Rattle.paging_laws.specs.inner.State.{State, row_of}
 use Rattle.paging_laws.specs.inner.Steps.{IsDone, did_by, refused_by}
 use Rattle.paging_machine.specs.inner.Parts.{Parts, state_of}
 use Rattle.sgx_rules.specs.Table.{first_of_row}
-use Rattle.version_array.specs.inner.Keeper.{Keeper, is_out}
+use Rattle.slot_keeper.specs.inner.Keeper.{Keeper, is_out}
 use Rattle.reclaim_worker.specs.declared.turns.Form.{Form}
 use Rattle.reclaim_worker.specs.declared.turns.Form.TheVariants as forms
 use Rattle.reclaim_worker.specs.declared.turns.Phase.{Phase}

@@ -9,7 +9,7 @@ ghost use Rattle.paging_machine.specs.inner.Parts.{state_of};
 ghost use Rattle.reclaim_worker.specs.inner.Standing.{is_sealing};
 ghost use Rattle.reclaim_worker.specs.inner.Stored.{IsOpen, IsStarted};
 ghost use Rattle.sgx_types.specs.declared.names.Frame.{Frame as FrameIn};
-ghost use Rattle.version_array.specs.inner.Keeper.{is_among, is_out};
+ghost use Rattle.slot_keeper.specs.inner.Keeper.{is_among, is_out};
 ghost use Rattle.sgx_types.specs.declared.names.SlotAt.{SlotAt as SlotIn};
 
 use active_list::page_states::PageState;

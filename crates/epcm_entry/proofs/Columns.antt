@@ -9,7 +9,7 @@ use Rattle.epcm_entry.specs.declared.entry_view.EntryView.{EntryView}
 use Rattle.epcm_entry.specs.declared.entry_view.EntryView.TheVariants.{Free}
 use Rattle.sgx_types.specs.declared.names.Frame.{Frame}
 use Rattle.epcm_entry.specs.inner.EntryView.{is_free}
-use Rattle.epcm_entry.proofs.Marks.{position_some, position_none}
+use Rattle.free_map.proofs.Marks.{position_some, position_none}
 use Rattle.epcm_entry.specs.inner.Words.{zero_words}
 use Rattle.epcm_entry.specs.inner.Epc.{EpcFrame, IsEpc, frame_at, entry_at, words_at, with_entry, with_words, cleared}
 use Rattle.epcm_entry.specs.inner.Epc.{free_frame, first_free_of}

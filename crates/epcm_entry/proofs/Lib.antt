@@ -1,4 +1,3 @@
-mod Marks
 pub mod Words
 mod Frames
 pub mod Columns

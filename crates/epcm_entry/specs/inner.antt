@@ -1,4 +1,3 @@
-pub mod FreeMap
 pub mod EntryView
 pub mod Words
 pub mod Epc

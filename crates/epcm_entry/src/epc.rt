@@ -11,7 +11,7 @@ ghost use Rattle.epcm_entry.specs.inner.Sights.{held_in};
 ghost use Rattle.epcm_entry.specs.inner.Epc.{with_page, with_blocked, with_sealing, with_loading, with_word, with_words, cleared};
 
 use crate::entry_view::EntryView;
-use crate::free_map::FreeMap;
+use free_map::map::FreeMap;
 use sgx_rules::refusals::Refusal;
 use sgx_types::names::{Frame, Kind, Memory, Page, Perm};
 use std::alloc::Global;

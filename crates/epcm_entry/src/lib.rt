@@ -3,4 +3,3 @@
 
 pub mod entry_view;
 pub mod epc;
-mod free_map;

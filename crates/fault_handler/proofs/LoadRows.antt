@@ -19,7 +19,7 @@ use Rattle.sgx_rules.specs.Table.{FrameSight, LoadSight, SlotSight, eldstart_row
 use Rattle.sgx_rules.specs.Starts.{open_start}
 use Rattle.turn_rules.specs.Script.{frame_at}
 use Rattle.job_grammar.specs.Jobs.{JobView}
-use Rattle.version_array.specs.inner.Keeper.{is_added, is_among, is_ours, is_out}
+use Rattle.slot_keeper.specs.inner.Keeper.{is_added, is_among, is_ours, is_out}
 use Rattle.paging_laws.specs.inner.State.{State, is_known, load_sight, row_of, secs_sight, sight, slot_sight}
 use Rattle.paging_laws.proofs.ColumnLaws.{added_is, enclave_is, sight_is}
 use Rattle.paging_laws.proofs.MoveSights.{secs_sees}

@@ -7,11 +7,8 @@ ghost use Rattle.sgx_rules.specs.PageBytes.{secs_bytes};
 ghost use Rattle.sgx_types.specs.Layouts.{bytes_of, zeros};
 ghost use Rattle.version_array.specs.inner.Slots.{has_page};
 
-use sgx_types::names::{Frame, SlotAt};
+use sgx_types::names::{Frame, SLOTS, SlotAt};
 use version_array::va_table::VaTable;
-
-// How many slots a version array page has.
-const SLOTS: u16 = 512;
 
 /// Puts the versions in the 512 slots of the version array page in a frame, each of 8 bytes, low byte first.
 pub fn put_slots(va: &VaTable, frame: Frame, onto: &mut Vec<u8>)

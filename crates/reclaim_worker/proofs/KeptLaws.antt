@@ -17,7 +17,7 @@ use Rattle.sgx_rules.specs.Epochs.{epoch, epoch_in}
 use Rattle.sgx_rules.specs.Eviction.{is_drained, kept_back}
 use Rattle.sgx_rules.specs.Frames.{is_blocked}
 use Rattle.sgx_rules.specs.Slots.{next_version}
-use Rattle.version_array.specs.inner.Keeper.{Keeper}
+use Rattle.slot_keeper.specs.inner.Keeper.{Keeper}
 use Rattle.sgx_types.specs.declared.names.TheConstants.{LAST_EPOCH}
 use Rattle.job_grammar.specs.Jobs.{JobView}
 use Rattle.turn_rules.specs.Script.{frame_at}

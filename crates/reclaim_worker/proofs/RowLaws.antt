@@ -22,7 +22,7 @@ use Rattle.sgx_rules.specs.Rules.{Along, FitsRule}
 use Rattle.sgx_rules.specs.Table as table
 use Rattle.sgx_rules.specs.Table.{DrainSight, FrameSight, SlotSight, TrackSight, UseSight, block_row, ewbstart_row, first_of_row}
 use Rattle.sgx_rules.specs.Table.{track_row}
-use Rattle.version_array.specs.inner.Keeper.{Keeper, is_added, is_ours, is_out}
+use Rattle.slot_keeper.specs.inner.Keeper.{Keeper, is_added, is_ours, is_out}
 use Rattle.sgx_rules.specs.Sights.{drain_sight_at}
 use Rattle.sgx_rules.specs.Slots.{is_busy_of, version_of}
 use Rattle.sgx_rules.specs.Starts.{slot_in}

@@ -24,7 +24,7 @@ use Rattle.turn_rules.specs.Script.{frame_at}
 use Rattle.active_list.specs.inner.Holds.{is_held as is_held_by}
 use Rattle.paging_machine.specs.inner.Parts.{Parts, state_of}
 use Rattle.sgx_types.specs.Making.{Making}
-use Rattle.version_array.specs.inner.Keeper.{Keeper, Takes}
+use Rattle.slot_keeper.specs.inner.Keeper.{Keeper, Takes}
 use Rattle.driver_rules.specs.Ages.{head_of}
 use Rattle.driver_rules.specs.Holds.{is_held, is_held_below}
 use Rattle.driver_rules.specs.Passes as passes

@@ -4,7 +4,7 @@ use Rattle.std.proofs.lemmas.Bool.{false≢true}
 use Rattle.sgx_types.specs.declared.names.SlotAt.{SlotAt}
 use Rattle.sgx_types.specs.inner.Places.{same_place}
 use Rattle.sgx_types.proofs.Pages.{same_places}
-use Rattle.version_array.specs.inner.Keeper.{Gives, Keeper, Takes, is_out}
+use Rattle.slot_keeper.specs.inner.Keeper.{Gives, Keeper, Takes, is_out}
 use Rattle.reclaim_worker.specs.inner.Tried.{IsSame, SlotsAfter}
 
 pub given_back : (old mid new : Keeper) (slot : SlotAt) → Takes old slot mid → Gives mid slot new → IsSame old new

@@ -12,7 +12,7 @@ ghost use Rattle.sgx_rules.specs.Rules.{Along};
 ghost use Rattle.driver_rules.specs.Passes.{pass};
 ghost use Rattle.driver_rules.specs.Places.{Leaving, place};
 ghost use Rattle.driver_steps.specs.inner.Agrees.{Agrees};
-ghost use Rattle.version_array.specs.inner.Keeper.{AllOut};
+ghost use Rattle.slot_keeper.specs.inner.Keeper.{AllOut};
 ghost use Rattle.driver_tables.specs.declared.driver.Driver.{Driver};
 ghost use Rattle.job_grammar.specs.Jobs.{JobView};
 ghost use Rattle.paging_machine.specs.inner.Parts.{Parts, state_of};

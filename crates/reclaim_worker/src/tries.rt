@@ -4,7 +4,7 @@ ghost use Rattle.std.specs.Prelude.{◌≡◌, ◌∷◌, ◌≤◌, ◌<◌, fa
 ghost use Rattle.sgx_types.specs.declared.names.Actor.TheVariants as actors;
 ghost use Rattle.sgx_rules.specs.declared.entries.Action.TheVariants as actions;
 ghost use Rattle.sgx_rules.specs.declared.entries.Entry.{Entry};
-ghost use Rattle.version_array.specs.inner.Keeper.{AllOut};
+ghost use Rattle.slot_keeper.specs.inner.Keeper.{AllOut};
 ghost use Rattle.paging_machine.specs.inner.Parts.{cpu_at, state_of};
 ghost use Rattle.driver_steps.specs.inner.Carried.{Carries};
 ghost use Rattle.reclaim_worker.specs.inner.Tried.{IsTried, is_kept_by};

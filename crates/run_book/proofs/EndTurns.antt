@@ -21,7 +21,7 @@ use Rattle.paging_laws.specs.inner.State.{State}
 use Rattle.paging_laws.specs.inner.Steps.{IsReloaded, commit_row, did_by, refused_by}
 use Rattle.paging_laws.proofs.SlotLaws.{started_as}
 use Rattle.paging_machine.specs.inner.Parts.{Parts, state_of}
-use Rattle.version_array.specs.inner.Keeper.{count_out}
+use Rattle.slot_keeper.specs.inner.Keeper.{count_out}
 use Rattle.turn_rules.specs.Script.{frame_at}
 use Rattle.driver_rules.specs.Ages.{LookOf}
 use Rattle.driver_laws.specs.inner.Kinds.{CanMove}

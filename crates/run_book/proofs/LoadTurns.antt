@@ -26,7 +26,7 @@ use Rattle.driver_laws.specs.inner.ByFrame.{version_in}
 use Rattle.driver_steps.proofs.SightLaws.{version_is}
 use Rattle.paging_laws.specs.inner.Steps.{IsDone, IsStep, refused_by}
 use Rattle.paging_machine.specs.inner.Parts.{Parts, state_of}
-use Rattle.version_array.specs.inner.Keeper.{count_out}
+use Rattle.slot_keeper.specs.inner.Keeper.{count_out}
 use Rattle.turn_rules.specs.Script.{frame_at}
 use Rattle.active_list.specs.inner.States.{state_of as page_state}
 use Rattle.active_list.specs.declared.page_states.PageState.{PageState}

@@ -29,7 +29,7 @@ use Rattle.paging_laws.specs.inner.State.{State, enter_sight, row_of}
 use Rattle.paging_laws.specs.inner.Steps.{IsStep, did_by}
 use Rattle.paging_laws.proofs.ColumnLaws.{inside_is}
 use Rattle.paging_machine.specs.inner.Parts.{Parts, state_of}
-use Rattle.version_array.specs.inner.Keeper.{count_out}
+use Rattle.slot_keeper.specs.inner.Keeper.{count_out}
 use Rattle.driver_rules.specs.Ages.{BesideOf, FormOf, IsBeside, KickRule}
 use Rattle.driver_rules.specs.Passes as passes
 use Rattle.driver_rules.specs.Passes.{Between, Blocking, Form, Pass, Scan, Tries, keepers, pass}

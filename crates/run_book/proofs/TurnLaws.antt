@@ -22,7 +22,7 @@ use Rattle.sgx_rules.specs.Starts.{open_start}
 use Rattle.job_grammar.specs.Jobs.{JobView}
 use Rattle.paging_laws.proofs.ColumnLaws.{added_is}
 use Rattle.paging_machine.specs.inner.Parts.{Parts, state_of}
-use Rattle.version_array.specs.inner.Keeper.{Keeper, count_out}
+use Rattle.slot_keeper.specs.inner.Keeper.{Keeper, count_out}
 use Rattle.turn_rules.specs.Script.{frame_at}
 use Rattle.driver_rules.specs.Ages.{head_of}
 use Rattle.driver_rules.specs.declared.waits.Why.TheVariants as waits

@@ -46,7 +46,7 @@ ghost use Rattle.run_book.specs.inner.Turns.{OfEntry};
 ghost use Rattle.table_notes.specs.inner.Plain.{is_plain, is_reclaimer};
 ghost use Rattle.sgx_rules.specs.declared.entries.Action.{Action};
 ghost use Rattle.sgx_types.specs.declared.names.Actor.{Actor};
-ghost use Rattle.version_array.specs.inner.Keeper.{count_out};
+ghost use Rattle.slot_keeper.specs.inner.Keeper.{count_out};
 ghost use Rattle.reclaim_worker.specs.declared.turns.Phase.{Phase};
 ghost use Rattle.reclaim_worker.specs.declared.turns.Taken.{Taken};
 ghost use Rattle.run_book.specs.inner.Books.{IsMade, KeepsBook, with_own};

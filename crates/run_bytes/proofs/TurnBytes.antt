@@ -14,7 +14,7 @@ use Rattle.sgx_rules.specs.Slots.{next_version}
 use Rattle.job_grammar.specs.Jobs.{JobView}
 use Rattle.backing_store.specs.Calls.{Call}
 use Rattle.paging_machine.specs.inner.Parts.{Parts, state_of}
-use Rattle.version_array.specs.inner.Keeper.{Keeper}
+use Rattle.slot_keeper.specs.inner.Keeper.{Keeper}
 use Rattle.turn_rules.specs.Script.{frame_at}
 use Rattle.driver_rules.specs.Dues.{Due, KicksAll, LooksAt, Makes, TriesOut, Waits}
 use Rattle.reclaim_worker.specs.declared.turns.PassTurn.{PassTurn}

@@ -37,7 +37,7 @@ ghost use Rattle.sgx_rules.specs.declared.entries.Entry.{Entry};
 ghost use Rattle.sgx_types.specs.declared.names.Cpu.{Cpu};
 ghost use Rattle.sgx_types.specs.declared.names.Page.{Page};
 ghost use Rattle.sgx_types.specs.Making.{Making};
-ghost use Rattle.version_array.specs.inner.Keeper.{Keeper};
+ghost use Rattle.slot_keeper.specs.inner.Keeper.{Keeper};
 
 /// An entry that the machine carries on, and that is no done write-out, makes no record, so the standing goes on with the records that
 /// there were: an instruction, the start of a load or of a write-out, a block and a track, done or refused.

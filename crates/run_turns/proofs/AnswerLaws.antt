@@ -5,7 +5,7 @@ use Rattle.sgx_types.specs.declared.names.Actor.{Actor}
 use Rattle.sgx_types.specs.declared.names.Actor.TheVariants as actors
 use Rattle.sgx_rules.specs.declared.entries.Entry.{Entry}
 use Rattle.sgx_types.specs.Making.{Making}
-use Rattle.version_array.specs.inner.Keeper.{Keeper}
+use Rattle.slot_keeper.specs.inner.Keeper.{Keeper}
 use Rattle.reclaim_worker.specs.inner.Answers.{IsTurn, by_reclaimer}
 use Rattle.std.specs.Global.{Box}
 use Rattle.seal_record.specs.declared.seal.SealWork.{SealWork}

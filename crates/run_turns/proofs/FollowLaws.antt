@@ -11,7 +11,7 @@ use Rattle.sgx_types.specs.Making.{Making}
 use Rattle.sgx_rules.specs.inner.Enclaves.{EnclavesAreFlat}
 use Rattle.backing_store.specs.Calls.{Call}
 use Rattle.turn_rules.specs.Machines.{machine_of}
-use Rattle.version_array.specs.inner.Keeper.{AllOut}
+use Rattle.slot_keeper.specs.inner.Keeper.{AllOut}
 use Rattle.paging_laws.specs.inner.State.{State}
 use Rattle.paging_machine.specs.inner.Parts.{Parts, state_of}
 use Rattle.driver_rules.specs.Dues.{KicksAll}

@@ -12,7 +12,7 @@ use Rattle.job_grammar.specs.Jobs.{JobView}
 use Rattle.backing_store.specs.Calls.{Call}
 use Rattle.cached_translations.specs.declared.processor.Mode.TheVariants.{Outside}
 use Rattle.turn_rules.specs.Machines.{machine_of}
-use Rattle.version_array.specs.inner.Keeper.{Keeper}
+use Rattle.slot_keeper.specs.inner.Keeper.{Keeper}
 use Rattle.paging_laws.specs.inner.Shape.{FitsApart, ShapeWithRules}
 use Rattle.paging_machine.specs.inner.Parts.{state_of}
 use Rattle.driver_rules.specs.Passes.{pass}

@@ -29,7 +29,7 @@ use Rattle.active_list.specs.inner.Places.{IsPlaced}
 use Rattle.active_list.specs.inner.States.{state_of as page_state}
 use Rattle.paging_laws.specs.inner.Shape.{FitsApart, ShapeWithRules}
 use Rattle.paging_machine.specs.inner.Parts.{Parts, state_of}
-use Rattle.version_array.specs.inner.Keeper.{Keeper}
+use Rattle.slot_keeper.specs.inner.Keeper.{Keeper}
 use Rattle.driver_rules.specs.Dues.{Reports, Stopped}
 use Rattle.driver_rules.specs.Places.{Absent, Away, Here, Leaving, Loading, Place, place}
 use Rattle.driver_rules.specs.inner.Reclaims.{is_refused}

@@ -27,7 +27,7 @@ use Rattle.sgx_rules.specs.Slots.{next_version}
 use Rattle.job_grammar.specs.Jobs.{JobView}
 use Rattle.paging_laws.specs.inner.State.{State}
 use Rattle.paging_machine.specs.inner.Parts.{Parts, cpu_at, state_of}
-use Rattle.version_array.specs.inner.Keeper.{AllOut, Keeper}
+use Rattle.slot_keeper.specs.inner.Keeper.{AllOut, Keeper}
 use Rattle.turn_rules.specs.Script.{frame_at}
 use Rattle.driver_rules.specs.Dues.{Due, KicksAll, LooksAt, Makes, TriesOut, Waits}
 use Rattle.driver_rules.specs.Passes as passes

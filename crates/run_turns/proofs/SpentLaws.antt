@@ -23,7 +23,7 @@ use Rattle.sgx_rules.specs.Table.{Case, EnclaveSight, add_row, fill_row, first_o
 use Rattle.job_grammar.specs.Jobs.{JobView}
 use Rattle.turn_rules.specs.Machines.{machine_of}
 use Rattle.turn_rules.specs.Script.{frame_at}
-use Rattle.version_array.specs.inner.Keeper.{Keeper}
+use Rattle.slot_keeper.specs.inner.Keeper.{Keeper}
 use Rattle.paging_laws.specs.inner.State.{State, row_of, seat_enclave, secs_sight, sight}
 use Rattle.paging_laws.specs.inner.Steps.{IsDone, IsStep, refused_by}
 use Rattle.driver_rules.specs.Dues.{Due, KicksAll, LooksAt, Makes, TriesOut, Waits}

@@ -84,6 +84,9 @@ pub enum Kind {
     Va,
 }
 
+/// How many slots a version array page has (Intel SDM volume 3D, EPA).
+pub const SLOTS: u16 = 512;
+
 /// Where an instruction finds a slot of a version array page: the frame that holds the page, and the slot's index from 0 to 511.
 #[derive(Clone, Copy, Debug, PartialEq, Eq)]
 pub struct SlotAt {

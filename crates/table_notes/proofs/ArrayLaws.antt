@@ -33,7 +33,7 @@ use Rattle.epcm_entry.specs.declared.entry_view.EntryView.TheVariants as views
 use Rattle.epcm_entry.specs.inner.EntryView.{goes_out}
 use Rattle.epcm_entry.specs.inner.Epc.{entry_at}
 use Rattle.epcm_entry.specs.inner.Sights.{held}
-use Rattle.version_array.specs.inner.Keeper.{Keeper, new_keeper}
+use Rattle.slot_keeper.specs.inner.Keeper.{Keeper, new_keeper}
 use Rattle.job_grammar.specs.Jobs.{JobView, va_pages}
 use Rattle.turn_rules.specs.declared.steps.BuildStep.{BuildStep}
 use Rattle.turn_rules.specs.declared.steps.BuildStep.TheVariants as builds

@@ -32,7 +32,7 @@ use Rattle.active_list.specs.inner.Places.{IsPlaced}
 use Rattle.active_list.specs.inner.States.{state_of as page_state}
 use Rattle.active_list.proofs.StateLaws.{state_of-with_state}
 use Rattle.sgx_types.proofs.Pages.{same_pages}
-use Rattle.version_array.specs.inner.Keeper.{Keeper, count_out}
+use Rattle.slot_keeper.specs.inner.Keeper.{Keeper, count_out}
 use Rattle.paging_laws.specs.inner.State.{row_of}
 use Rattle.paging_laws.specs.inner.Steps.{did_by, refused_by}
 use Rattle.paging_machine.specs.inner.Parts.{Parts, cpu_at, state_of}

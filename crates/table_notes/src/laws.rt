@@ -16,7 +16,7 @@ ghost use Rattle.sgx_rules.specs.declared.entries.Event.{Event};
 ghost use Rattle.sgx_types.specs.declared.names.Page.{Page};
 ghost use Rattle.table_notes.specs.inner.Arrays.{KeepsArrays, is_move};
 ghost use Rattle.turn_rules.specs.Script.{is_builder};
-ghost use Rattle.version_array.specs.inner.Keeper.{Keeper};
+ghost use Rattle.slot_keeper.specs.inner.Keeper.{Keeper};
 
 /// The new tables of a job have room for the version array pages of its build, and until the first page is added they keep it: an entry of
 /// another actor than the builder makes none. Once a page was added there is nothing more to keep, whatever the keeper: so it is behind an

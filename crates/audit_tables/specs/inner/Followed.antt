@@ -11,7 +11,7 @@ use Rattle.sgx_rules.specs.inner.Starts.{bare_start}
 use Rattle.cached_translations.specs.declared.processor.Mode.{Mode}
 use Rattle.job_grammar.specs.Jobs.{JobView}
 use Rattle.turn_rules.specs.Script.{action_of}
-use Rattle.version_array.specs.inner.Keeper.{count_out}
+use Rattle.slot_keeper.specs.inner.Keeper.{count_out}
 use Rattle.paging_laws.specs.inner.Steps.{IsStep}
 use Rattle.paging_machine.specs.declared.starts.Start as starts
 use Rattle.paging_machine.specs.inner.Parts.{Parts, start_of, state_of}

@@ -18,7 +18,7 @@ use Rattle.active_list.specs.inner.Listing.{head_of}
 use Rattle.active_list.specs.inner.Places.{IsPlaced}
 use Rattle.active_list.specs.inner.Ring.{is_listed}
 use Rattle.active_list.specs.inner.States.{state_of, with_state}
-use Rattle.version_array.specs.inner.Keeper.{Takes, is_out}
+use Rattle.slot_keeper.specs.inner.Keeper.{Takes, is_out}
 use Rattle.paging_machine.specs.declared.starts.Start.{Start}
 use Rattle.driver_tables.specs.declared.driver.Driver.{Driver}
 use Rattle.driver_tables.specs.inner.Moves.{IsLoaded, IsLooked, slot_away, with_load}

@@ -1,7 +1,7 @@
 -- Slots that are taken by name.
 use Rattle.std.specs.Prelude.{◌≡◌, true, false}
 use Rattle.sgx_types.specs.declared.names.SlotAt.{SlotAt}
-use Rattle.version_array.specs.inner.Keeper.{Keeper, is_ours, is_out}
+use Rattle.slot_keeper.specs.inner.Keeper.{Keeper, is_ours, is_out}
 
 -- a slot that can be taken: it is the keeper's, and is not out
 pub record IsLeft (keeper : Keeper) (slot : SlotAt) : Type 0 where

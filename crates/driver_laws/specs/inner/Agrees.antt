@@ -12,7 +12,7 @@ use Rattle.sgx_rules.specs.Frames.{content}
 use Rattle.driver_laws.specs.inner.ByFrame.{version_in}
 use Rattle.driver_laws.specs.inner.ByFrame.{IsIdle}
 use Rattle.sgx_rules.specs.Table.{is_va}
-use Rattle.version_array.specs.inner.Keeper.{Keeper, is_added, is_out}
+use Rattle.slot_keeper.specs.inner.Keeper.{Keeper, is_added, is_out}
 use Rattle.job_grammar.specs.Jobs.{JobView, va_pages}
 use Rattle.driver_rules.specs.Places.{active, is_young}
 use Rattle.driver_laws.specs.inner.Sound.{slot_of}

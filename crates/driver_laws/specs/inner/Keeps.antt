@@ -6,7 +6,7 @@ use Rattle.sgx_rules.specs.declared.entries.Event.{Event}
 use Rattle.sgx_rules.specs.declared.entries.Event.TheVariants.{Did, Refused}
 use Rattle.sgx_types.specs.declared.names.SlotAt.{SlotAt}
 use Rattle.driver_laws.specs.inner.ByFrame.{open_slot}
-use Rattle.version_array.specs.inner.Keeper.{Adds, Gives, Keeper, Takes, count_out, is_out}
+use Rattle.slot_keeper.specs.inner.Keeper.{Adds, Gives, Keeper, Takes, count_out, is_out}
 use Rattle.job_grammar.specs.Jobs.{JobView, va_pages}
 use Rattle.turn_rules.specs.declared.steps.BuildStep.{BuildStep}
 use Rattle.turn_rules.specs.declared.steps.BuildStep.TheVariants as builds

@@ -12,7 +12,7 @@ use Rattle.active_list.specs.inner.Keeping.{keeping}
 use Rattle.active_list.specs.inner.States.{state_of, with_state}
 use Rattle.active_list.specs.declared.page_states.PageState.{PageState}
 use Rattle.active_list.specs.declared.page_states.PageState.TheVariants.{Away, Here, Leaving, Loading}
-use Rattle.version_array.specs.inner.Keeper.{Gives}
+use Rattle.slot_keeper.specs.inner.Keeper.{Gives}
 use Rattle.driver_tables.specs.declared.driver.Driver.{Driver}
 
 -- a page that is here leaves

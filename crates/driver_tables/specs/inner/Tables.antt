@@ -10,7 +10,7 @@ use Rattle.active_list.specs.inner.Active.{new_active}
 use Rattle.active_list.specs.inner.Keeping.{kept_at, page_kept}
 use Rattle.active_list.specs.inner.Places.{IsPlaced}
 use Rattle.active_list.specs.inner.States.{all_absent, state_of}
-use Rattle.version_array.specs.inner.Keeper.{new_keeper}
+use Rattle.slot_keeper.specs.inner.Keeper.{new_keeper}
 use Rattle.driver_rules.specs.Places.{Absent, Away, Here, Leaving, Loading, Place, place}
 use Rattle.driver_rules.specs.Turns.{last_of}
 use Rattle.driver_laws.specs.inner.Agrees.{Listed, ShowsSlots, listed_by, loaded_by}

@@ -2,7 +2,7 @@
 use Rattle.std.specs.Prelude.{ℕ, ◌≡◌, true, List, length}
 use Rattle.sgx_types.specs.declared.names.Frame.{Frame}
 use Rattle.sgx_types.specs.declared.names.SlotAt.{SlotAt}
-use Rattle.version_array.specs.inner.Keeper.{is_among, is_out}
+use Rattle.slot_keeper.specs.inner.Keeper.{is_among, is_out}
 use Rattle.driver_tables.specs.declared.driver.Driver.{Driver}
 use Rattle.driver_tests.specs.declared.tables.Tables.TheInside.{Inside}
 

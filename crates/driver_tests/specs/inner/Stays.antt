@@ -13,7 +13,7 @@ use Rattle.fault_handler.specs.inner.Finishing.{CanFinish}
 use Rattle.fault_handler.specs.inner.Repeating.{WaitsFor}
 use Rattle.paging_machine.specs.inner.Parts.{Parts}
 use Rattle.active_list.specs.inner.Places.{IsPlaced}
-use Rattle.version_array.specs.inner.Keeper.{Keeper, is_among, is_out}
+use Rattle.slot_keeper.specs.inner.Keeper.{Keeper, is_among, is_out}
 use Rattle.driver_tables.specs.declared.driver.Driver.{Driver}
 use Rattle.reclaim_worker.specs.declared.turns.PassTurn.{PassTurn}
 use Rattle.reclaim_worker.specs.declared.turns.PassTurn.TheVariants as turns

@@ -21,7 +21,7 @@ use Rattle.paging_laws.specs.inner.Shape.{FitsApart, ShapeWithRules}
 use Rattle.paging_laws.specs.inner.State.{State, making_of}
 use Rattle.paging_laws.specs.inner.Steps.{IsReloaded}
 use Rattle.paging_machine.specs.inner.Parts.{Parts, state_of}
-use Rattle.version_array.specs.inner.Keeper.{is_out}
+use Rattle.slot_keeper.specs.inner.Keeper.{is_out}
 use Rattle.active_list.specs.inner.Keeping.{keeping, kept_at}
 use Rattle.active_list.specs.inner.Places.{IsPlaced}
 use Rattle.active_list.specs.inner.Ring.{is_listed}

@@ -2,13 +2,13 @@
 
 ghost use Rattle.std.specs.Prelude.{◌≡◌, true, IfOk};
 ghost use Rattle.version_array.specs.inner.Slots.{IsSlot};
-ghost use Rattle.version_array.specs.inner.Keeper.{is_out};
+ghost use Rattle.slot_keeper.specs.inner.Keeper.{is_out};
 
 use sgx_rules::refusals::Refusal;
 use sgx_types::names::{Frame, SlotAt};
 use std::process::Abort;
 use std::test::Fail;
-use version_array::slot_keeper::SlotKeeper;
+use slot_keeper::keeper::SlotKeeper;
 use version_array::va_table::VaTable;
 use version_array::versions::Versions;
 

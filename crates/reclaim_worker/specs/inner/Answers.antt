@@ -17,7 +17,7 @@ use Rattle.sgx_rules.specs.Epochs.{epoch, epoch_in}
 use Rattle.sgx_rules.specs.Eviction.{is_drained, kept_back}
 use Rattle.sgx_types.specs.Making.{Making}
 use Rattle.sgx_rules.specs.Slots.{next_version}
-use Rattle.version_array.specs.inner.Keeper.{AllOut, Keeper, is_out}
+use Rattle.slot_keeper.specs.inner.Keeper.{AllOut, Keeper, is_out}
 use Rattle.turn_rules.specs.Script.{frame_at}
 use Rattle.driver_rules.specs.Dues.{Due, KicksAll, LooksAt, Makes, TriesOut, Waits, is_look}
 use Rattle.reclaim_worker.specs.declared.turns.PassTurn.{PassTurn}

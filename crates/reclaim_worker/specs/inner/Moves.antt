@@ -6,7 +6,7 @@ use Rattle.sgx_rules.specs.declared.entries.Event.TheVariants.{Did, Refused}
 use Rattle.sgx_types.specs.declared.names.Actor.TheVariants as actors
 use Rattle.sgx_rules.specs.declared.entries.Action.TheVariants.{Block, EwbStart, Track}
 use Rattle.sgx_rules.specs.declared.refusals.Refusal.TheVariants as why
-use Rattle.version_array.specs.inner.Keeper.{AllOut}
+use Rattle.slot_keeper.specs.inner.Keeper.{AllOut}
 use Rattle.paging_laws.specs.inner.State.{State}
 use Rattle.paging_laws.specs.inner.Steps.{IsStep}
 use Rattle.driver_tables.specs.declared.driver.Driver.{Driver}

@@ -7,7 +7,7 @@ use Rattle.sgx_types.specs.declared.names.Frame.{Frame}
 use Rattle.sgx_types.specs.declared.names.SlotAt.{SlotAt}
 use Rattle.cached_translations.specs.declared.processor.Mode.{Mode}
 use Rattle.cached_translations.specs.declared.processor.Mode.TheVariants.{Outside, Inside}
-use Rattle.version_array.specs.inner.Keeper.{Keeper, count_out, is_ours, is_out, Takes}
+use Rattle.slot_keeper.specs.inner.Keeper.{Keeper, count_out, is_ours, is_out, Takes}
 use Rattle.paging_laws.specs.inner.State.{State}
 use Rattle.paging_laws.specs.inner.Steps.{IsStep}
 use Rattle.driver_rules.specs.inner.Reclaims.{is_refused}

@@ -4,7 +4,7 @@ use Rattle.sgx_rules.specs.declared.entries.Action.TheVariants.{EwbStart, Ewb, E
 use Rattle.sgx_rules.specs.declared.entries.Entry.{Entry}
 use Rattle.sgx_rules.specs.declared.entries.Event.{Event}
 use Rattle.sgx_rules.specs.declared.entries.Event.TheVariants.{Did, Refused, Age}
-use Rattle.version_array.specs.inner.Keeper.{Keeper}
+use Rattle.slot_keeper.specs.inner.Keeper.{Keeper}
 use Rattle.job_grammar.specs.Jobs.{JobView, va_pages}
 use Rattle.driver_laws.specs.inner.Agrees.{has_pages}
 use Rattle.driver_laws.specs.inner.Keeps.{ArraysAreBuilt}

@@ -7,7 +7,7 @@ use Rattle.sgx_types.specs.Making.{Making}
 use Rattle.cached_translations.specs.declared.processor.Mode.{Mode}
 use Rattle.job_grammar.specs.Jobs.{JobView}
 use Rattle.backing_store.specs.Calls.{Call}
-use Rattle.version_array.specs.inner.Keeper.{count_out}
+use Rattle.slot_keeper.specs.inner.Keeper.{count_out}
 use Rattle.paging_laws.specs.inner.Steps.{IsStep}
 use Rattle.paging_machine.specs.inner.Parts.{Parts, state_of}
 use Rattle.driver_rules.specs.Scripts.{ScriptRule}

@@ -16,7 +16,7 @@ use Rattle.active_list.specs.inner.Listing.{touched}
 use Rattle.active_list.specs.inner.Places.{IsPlaced}
 use Rattle.active_list.specs.inner.Ring.{is_listed}
 use Rattle.active_list.specs.inner.States.{with_state}
-use Rattle.version_array.specs.inner.Keeper.{Adds, is_added}
+use Rattle.slot_keeper.specs.inner.Keeper.{Adds, is_added}
 use Rattle.driver_tables.specs.declared.driver.Driver.{Driver}
 use Rattle.turn_tables.specs.declared.turns.Turns.{Turns}
 use Rattle.turn_tables.specs.inner.Asked.{last_save_of, next_save_of, page_of}

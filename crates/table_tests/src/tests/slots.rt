@@ -1,12 +1,12 @@
 //! A million slots that are handed out.
 
 ghost use Rattle.std.specs.Prelude.{◌≡◌};
-ghost use Rattle.version_array.specs.inner.Keeper.{new_keeper};
+ghost use Rattle.slot_keeper.specs.inner.Keeper.{new_keeper};
 
 use sgx_types::names::{Frame, SlotAt};
 use std::process::Abort;
 use std::test::Fail;
-use version_array::slot_keeper::SlotKeeper;
+use slot_keeper::keeper::SlotKeeper;
 
 const PAGES: u32 = 64;
 

@@ -1,4 +1,4 @@
-use Rattle.version_array.specs.inner.Keeper.{count_all, count_out}
+use Rattle.slot_keeper.specs.inner.Keeper.{count_all, count_out}
 use Rattle.std.proofs.Common.{◌-◌}
 use Rattle.audit_tables.proofs.naming.+take_named.Given as goal
 

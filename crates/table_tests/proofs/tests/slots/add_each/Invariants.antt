@@ -1,5 +1,5 @@
 use Rattle.std.proofs.Common.{◌≡◌, ℕ, ◌≤◌, false, length}
-use Rattle.version_array.specs.inner.Keeper.{is_added}
+use Rattle.slot_keeper.specs.inner.Keeper.{is_added}
 use Rattle.table_tests.proofs.tests.slots.add_each.Given as goal
 
 abbrev pub invariant-loop-number : goal.invariant-loop-number

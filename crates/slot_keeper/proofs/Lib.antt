@@ -1,0 +1,4 @@
+pub mod SlotLaws
+pub mod KeyLaws
+pub mod KeeperLaws
+pub mod SlabLaws

@@ -1,0 +1,4 @@
+pub mod Keeper
+pub mod Pages
+pub mod Keys
+pub mod KeeperKept

@@ -1,0 +1,4 @@
+// The slots of version array pages that a driver hands out, and which of them are in use.
+#![tactic(auto)]
+
+pub mod keeper;
