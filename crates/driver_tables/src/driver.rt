@@ -10,8 +10,8 @@ use active_list::kept_records::KeptRecords;
 use active_list::page_states::PageStates;
 use job_grammar::jobs::{Job, Marks};
 use sgx_types::names::Memory;
-use std::alloc::Global;
 use slot_keeper::keeper::SlotKeeper;
+use std::alloc::Global;
 
 /// What the driver keeps of a job: the list of the pages that may be written out and the holds of pages, what became of each page,
 /// the slots for versions, the record that each processor's started load looks at, and the job's numbers. No call but `new` takes

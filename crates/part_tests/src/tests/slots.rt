@@ -6,9 +6,9 @@ ghost use Rattle.slot_keeper.specs.inner.Keeper.{is_out};
 
 use sgx_rules::refusals::Refusal;
 use sgx_types::names::{Frame, SlotAt};
+use slot_keeper::keeper::SlotKeeper;
 use std::process::Abort;
 use std::test::Fail;
-use slot_keeper::keeper::SlotKeeper;
 use version_array::va_table::VaTable;
 use version_array::versions::Versions;
 

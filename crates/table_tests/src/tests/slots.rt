@@ -4,9 +4,9 @@ ghost use Rattle.std.specs.Prelude.{◌≡◌};
 ghost use Rattle.slot_keeper.specs.inner.Keeper.{new_keeper};
 
 use sgx_types::names::{Frame, SlotAt};
+use slot_keeper::keeper::SlotKeeper;
 use std::process::Abort;
 use std::test::Fail;
-use slot_keeper::keeper::SlotKeeper;
 
 const PAGES: u32 = 64;
 
