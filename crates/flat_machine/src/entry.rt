@@ -152,7 +152,7 @@ impl Flat {
     }
 
     // The fields of a TCS page.
-    fn tcs_fields(&self, enclave: u16, tcs: u32) -> TcsFields
+    pub(crate) fn tcs_fields(&self, enclave: u16, tcs: u32) -> TcsFields
         ensures { fields_of result ≡ fields_in (memory_of self.now) enclave tcs }
     {
         let counts = self.word(enclave, u64::from(tcs), 3);

@@ -6,10 +6,13 @@ ghost use Rattle.sgx_rules.specs.Flat.{fresh, flat_content, reg_perm, added_as, 
 ghost use Rattle.flat_machine.specs.inner.Parts.{memory_of, look, added_in, kind_of, content_in, words_in, enclave_of, inside_of};
 ghost use Rattle.flat_machine.specs.inner.Parts.{cpu_of, idle};
 ghost use Rattle.flat_machine.specs.inner.Parts.{with_slot, with_word, with_busy_mark};
+ghost use Rattle.flat_machine.specs.inner.Parts.{page_of};
 ghost use Rattle.flat_machine.specs.inner.Bytes.{bytes_in};
+ghost use Rattle.flat_words.specs.Words.{word_of, word_in};
 
 use crate::table::{Added, Table};
 use crate::words::Words;
+use flat_words::writes::WordAt;
 use job_grammar::jobs::Job;
 use sgx_types::names::{Cpu, Kind, Memory, PROCESSORS, Page, Perm};
 use std::alloc::Global;
@@ -85,6 +88,14 @@ impl Flat {
             Some(table) => table.copy_to(u64::from(page.number), into),
             None => false,
         }
+    }
+
+    /// A word of a page, None where the page was not added.
+    pub fn added_word(&self, at: WordAt) -> Option<u64>
+        requires { at.index < 512 }
+        ensures { result ≡ word_in (memory_of self.now) (page_at at.enclave at.number) at.index }
+    {
+        added_word_at(&self.tables, at)
     }
 
     /// The enclave of a number, None where it was not created.
@@ -182,6 +193,15 @@ fn added_at(tables: &[Table], enclave: u16, number: u64) -> Option<Added>
     ensures { result ≡ added_in (look tables.now (page_at enclave number)) }
 {
     tables.get(usize::from(enclave))?.added(number)
+}
+
+fn added_word_at(tables: &[Table], at: WordAt) -> Option<u64>
+    requires { at.index < 512 }
+    ensures { result ≡ word_of (page_of (look tables.now (page_at at.enclave at.number))) at.index }
+{
+    tables
+        .get(usize::from(at.enclave))?
+        .added_word(at.number, usize::from(at.index))
 }
 
 fn word_at(tables: &[Table], enclave: u16, number: u64, index: usize) -> u64

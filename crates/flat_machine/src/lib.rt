@@ -9,3 +9,4 @@ pub mod flat;
 pub mod reply;
 mod table;
 mod words;
+mod writes;

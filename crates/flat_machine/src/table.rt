@@ -5,6 +5,7 @@ ghost use Rattle.std.specs.Prelude.{IfOk, None, Some};
 ghost use Rattle.std.specs.Option.{option_copied};
 ghost use Rattle.flat_machine.specs.inner.Parts.{added_in, busy_of, page_of, words_in, with_word, with_busy_mark};
 ghost use Rattle.flat_machine.specs.inner.Bytes.{bytes_in};
+ghost use Rattle.flat_words.specs.Words.{word_of};
 
 use crate::words::Words;
 use sgx_types::names::{Kind, Memory, Perm};
@@ -93,6 +94,15 @@ impl Table {
             Some(page) => page.words.get(index),
             None => 0,
         }
+    }
+
+    /// A word of a page, None where it was not added.
+    pub fn added_word(&self, number: u64, index: usize) -> Option<u64>
+        requires { index < 512 }
+        ensures { result ≡ word_of (page_of (slice_index_or self.now number None)) index }
+    {
+        let page = self.page(number)?;
+        Some(page.words.get(index))
     }
 
     /// Writes the bytes of a page, if it was added, and tells whether it was.

@@ -22,7 +22,7 @@ use Rattle.sgx_rules.specs.declared.entries.Event.TheVariants.{Did}
 use Rattle.sgx_rules.specs.declared.refusals.Refusal.{Refusal}
 use Rattle.sgx_rules.specs.Table.{EnclaveSight, first_of_row, add_row}
 use Rattle.sgx_rules.proofs.Rows.{none_holds}
-use Rattle.sgx_rules.specs.Flat.{FlatMemory, FlatPage, Inside, accepts, memory_after, event_after, cpu_after, with_words, rewritten}
+use Rattle.sgx_rules.specs.Flat.{FlatMemory, FlatPage, Inside, accepts, memory_after, event_after, cpu_after, with_words, with_cssa, rewritten}
 use Rattle.sgx_rules.specs.Flat.{word_index, fields_in, stored, saved, first_words, open_frame, settled, enclave_sight}
 use Rattle.flat_words.specs.declared.writes.NewPage.{NewPage}
 use Rattle.flat_words.specs.Words.{word_of, word_in}
@@ -110,6 +110,75 @@ after m actor event g k apart = refl
 pub words_after : (m : FlatMemory) (e : Entry) (g : Page) (k : ℕ) → is_touched (touched m e.actor e.event) g k ≡ false
     → word_in (event_after e.actor e.event m) g k ≡ word_with (added_by m e.actor e.event) g k (word_in m g k)
 words_after m e g k apart = after m e.actor e.event g k apart
+
+-- ---- which pages there are
+
+kept_of : (page : Option FlatPage) (change : List ℕ → List ℕ) (k : ℕ)
+    → is_some (word_of (rewritten change page) k) ≡ is_some (word_of page k)
+kept_of None change k = refl
+kept_of (Some x) change k = refl
+
+kept_if : (here : Bool) (page : Option FlatPage) (change : List ℕ → List ℕ) (k : ℕ)
+    → is_some (word_of (if here then rewritten change page else page) k) ≡ is_some (word_of page k)
+kept_if true page change k = kept_of page change k
+kept_if false page change k = refl
+
+-- a page whose words are changed is there as before
+kept : (m : FlatMemory) (h g : Page) (change : List ℕ → List ℕ) (k : ℕ)
+    → is_some (word_in (with_words m h change) g k) ≡ is_some (word_in m g k)
+kept m h g change k = kept_if (same_page g h) (m.pages g) change k
+
+stored_keeps : (m : FlatMemory) (inside : Option Inside) (off value : ℕ) (g : Page) (k : ℕ)
+    → is_some (word_in (stored m inside off value) g k) ≡ is_some (word_in m g k)
+stored_keeps m None off value g k = refl
+stored_keeps m (Some i) off value g k = kept m (page_at i.enclave (off / 4096)) g (λ words. set words (word_index off) value) k
+
+saved_keeps : (m : FlatMemory) (acc : ℕ) (inside : Option Inside) (g : Page) (k : ℕ)
+    → is_some (word_in (saved m acc inside) g k) ≡ is_some (word_in m g k)
+saved_keeps m acc None g k = refl
+saved_keeps m acc (Some i) g k =
+    let fields = fields_in m i.enclave i.tcs in
+    kept (with_words m (page_at i.enclave (fields.ossa + fields.cssa)) (λ words. set words 0 acc)) (page_at i.enclave i.tcs) g
+    (λ words. with_cssa words (fields.cssa + 1)) k
+    ∙ kept m (page_at i.enclave (fields.ossa + fields.cssa)) g (λ words. set words 0 acc) k
+
+cpu_keeps : (m : FlatMemory) (p : ℕ) (action : Action) (g : Page) (k : ℕ)
+    → is_some (word_in (cpu_after p action m) g k) ≡ is_some (word_in m g k)
+cpu_keeps m p (Resume enclave tcs tf sf) g k =
+    let cssa = (fields_in m enclave tcs).cssa in
+    kept m (page_at enclave tcs) g (λ words. with_cssa words (cssa - 1)) k
+cpu_keeps m p (Aex cause) g k = saved_keeps m (m.cpus p).acc (m.cpus p).inside g k
+cpu_keeps m p (Store off value) g k = stored_keeps m (m.cpus p).inside off value g k
+cpu_keeps m p (Xadd off value) g k = stored_keeps m (m.cpus p).inside off _ g k
+cpu_keeps m p action g k = refl
+
+added_by_actor : (m : FlatMemory) (actor : Actor) (action : Action) (g : Page) (k : ℕ)
+    → is_some (word_in (memory_after actor action m) g k) ≡ is_some (word_with (new_page action) g k (word_in m g k))
+added_by_actor m actor (Add enclave number f kind perm init) g k =
+    ap is_some
+    (added_if (same_page g (page_at enclave number)) (record { kind = kind; perm = perm; words = first_words init }) (m.pages g) k)
+added_by_actor m (Cpu p) (Resume enclave tcs tf sf) g k = cpu_keeps m p.0 (Resume enclave tcs tf sf) g k
+added_by_actor m (Cpu p) (Aex cause) g k = cpu_keeps m p.0 (Aex cause) g k
+added_by_actor m (Cpu p) (Store off value) g k = cpu_keeps m p.0 (Store off value) g k
+added_by_actor m (Cpu p) (Xadd off value) g k = cpu_keeps m p.0 (Xadd off value) g k
+added_by_actor m (Cpu p) action g k = refl
+added_by_actor m Builder action g k = refl
+added_by_actor m Reclaimer action g k = refl
+
+added_if_taken : (b : Bool) (m : FlatMemory) (actor : Actor) (action : Action) (g : Page) (k : ℕ)
+    → is_some (word_in (if b then memory_after actor action m else m) g k)
+    ≡ is_some (word_with (if b then new_page action else None) g k (word_in m g k))
+added_if_taken true m actor action g k = added_by_actor m actor action g k
+added_if_taken false m actor action g k = refl
+
+added_by_event : (m : FlatMemory) (actor : Actor) (event : Event) (g : Page) (k : ℕ)
+    → is_some (word_in (event_after actor event m) g k) ≡ is_some (word_with (added_by m actor event) g k (word_in m g k))
+added_by_event m actor (Did action answer) g k = added_if_taken (accepts m actor action) m actor action g k
+added_by_event m actor event g k = refl
+
+pub added_or_kept : (m : FlatMemory) (e : Entry) (g : Page) (k : ℕ)
+    → is_some (word_in (event_after e.actor e.event m) g k) ≡ is_some (word_with (added_by m e.actor e.event) g k (word_in m g k))
+added_or_kept m e g k = added_by_event m e.actor e.event g k
 
 -- ---- pages
 

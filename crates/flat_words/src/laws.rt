@@ -24,6 +24,13 @@ pub fn words_are_first_or_stay()
         → word_in (event_after e.actor e.event m) g k ≡ word_with (added_by m e.actor e.event) g k (word_in m g k) }
 {}
 
+/// A page is there behind an entry exactly where it was there before it, or the entry adds it.
+#[tactic(auto, using(crate::proofs::WriteLaws::added_or_kept))]
+pub fn pages_are_added_or_stay()
+    ensures { (m : FlatMemory) (e : Entry) (g : Page) (k : ℕ) → is_some (word_in (event_after e.actor e.event m) g k)
+        ≡ is_some (word_with (added_by m e.actor e.event) g k (word_in m g k)) }
+{}
+
 /// A page is added only where there was none.
 #[tactic(auto, using(crate::proofs::WriteLaws::none_before))]
 pub fn added_pages_are_new()

@@ -18,6 +18,14 @@ pub struct Writes {
     pub second: Option<WordAt>,
 }
 
+impl Writes {
+    /// No word may be written.
+    pub const NONE: Writes = Writes {
+        first: None,
+        second: None,
+    };
+}
+
 /// A page that is added, and the words with which it is.
 #[derive(Clone, Copy, Debug, PartialEq, Eq)]
 pub struct NewPage {
