@@ -1,9 +1,14 @@
-pub mod WriteLaws
-pub mod SplitLaws
+pub mod MapLaws
+pub mod LastLaws
+pub mod PageKeys
 pub mod PlaceLaws
 pub mod SpanWrites
-pub mod SpanSplits
 pub mod SpanLaws
 pub mod SpanPlaces
 pub mod SeenLaws
+pub mod WordKeys
+pub mod WordLaws
+pub mod FirstWords
+pub mod TakenLaws
+pub mod WrittenLaws
 mod Worked

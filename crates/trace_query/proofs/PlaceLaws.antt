@@ -1,6 +1,6 @@
 -- The moves of a page rise by place, and the last one up to a place led where the page was there.
 use Rattle.std.proofs.Common.{inl, inr}
-use Rattle.std.proofs.Common.{◌≡◌, ℕ, zero, suc, ◌+◌, ◌-◌, ◌<◌, ◌≤◌, Bool, true, false, nat_le, if◌then◌else◌, List, [], ◌∷◌}
+use Rattle.std.proofs.Common.{◌≡◌, ℕ, zero, suc, ◌+◌, ◌-◌, ◌<◌, ◌≤◌, Bool, true, false, if◌then◌else◌, List, [], ◌∷◌}
 use Rattle.std.proofs.Common.{◌++◌, length, drop, get_or, Option, Some, None, option_to_list, refl, sym, ap, ◌∙◌, subst, append-nil, arith}
 use Rattle.std.proofs.lemmas.Bool.{false≢true, cases_lt, le-leb, lt-leb, eqb-true}
 use Rattle.std.proofs.lemmas.List.Sorted.{IsNonDecreasingBy-push}
@@ -12,6 +12,7 @@ use Rattle.trace_places.specs.Places.{same_where, moved, moved_by, place_of}
 use Rattle.trace_query.specs.declared.page_moves.Move.{Move}
 use Rattle.trace_query.specs.Moves.{before, moves_at, moves}
 use Rattle.trace_query.specs.inner.Lists.{at_place_from, at_place, Rises}
+use Rattle.trace_query.proofs.LastLaws.{last_append}
 
 -- ---- places
 
@@ -69,8 +70,7 @@ moves_rise (e ∷ past) g = rises_by (length past) (moves past g) (moved_by past
 
 at_append : (first : Where) (xs ys : List Move) (n : ℕ)
     → at_place_from first (xs ++ ys) n ≡ at_place_from (at_place_from first xs n) ys n
-at_append first [] ys n = refl
-at_append first (x ∷ xs) ys n = at_append (if nat_le x.place n then x.to else first) xs ys n
+at_append first xs ys n = last_append (λ (step : Move). step.place) (λ (step : Move). step.to) first xs ys n
 
 -- where no move is later than b, all later places are the same
 at_end : (first : Where) (steps : List Move) (b n : ℕ) → UpTo b steps → b ≤ n → at_place_from first steps n ≡ at_place_from first steps b
@@ -117,21 +117,21 @@ before_all past n le =
 
 -- ---- all entries
 
-pub place_before : (past : List Entry) (g : Page) (n : ℕ) → n ≤ length past → at_place (moves past g) n ≡ place_of (before n past) g
-place_before [] g n le = ap (λ past. place_of past g) (sym (drop_none (length {A = Entry} [] - n)))
-place_before (e ∷ past) g n le =
+pub place_before : (past : List Entry) (g : Page) (n : ℕ) → at_place (moves past g) n ≡ place_of (before n past) g
+place_before [] g n = ap (λ past. place_of past g) (sym (drop_none (length {A = Entry} [] - n)))
+place_before (e ∷ past) g n =
     let was = moves past g in
     let new = moves_at (length past + 1) (option_to_list (moved_by past e g)) in
     at_append Nowhere was new n
     ∙ (elim (cases_lt (length past) n) [
       | inl behind ↦
           ap (λ w. at_place_from w new n)
-          (at_end Nowhere was (length past) n (moves_up_to past g) (omega (arith, behind)) ∙ place_before past g (length past) (omega arith)
+          (at_end Nowhere was (length past) n (moves_up_to past g) (omega (arith, behind)) ∙ place_before past g (length past)
           ∙ ap (λ q. place_of q g) (before_all past (length past) (omega arith)))
           ∙ then_there (place_of past g) (place_of (e ∷ past) g) (length past + 1) n (omega (arith, behind))
           ∙ ap (λ q. place_of q g) (sym (before_all (e ∷ past) n (omega (arith, behind))))
       | inr up ↦
           not_yet (at_place was n) (length past + 1) n (moved_by past e g) (omega (arith, up))
-          ∙ place_before past g n up
+          ∙ place_before past g n
           ∙ ap (λ q. place_of q g) (sym (before_more e past n up))
     ])

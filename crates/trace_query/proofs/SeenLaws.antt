@@ -1,9 +1,10 @@
 -- What is kept of the caches is that of one entry more.
-use Rattle.std.proofs.Common.{◌≡◌, ◌+◌, List, ◌∷◌, length, Option, sym, ap, ◌∙◌, arith}
+use Rattle.std.proofs.Common.{◌≡◌, ◌+◌, List, ◌∷◌, length, Option, sym, ap, ◌∙◌, subst, arith}
 use Rattle.sgx_rules.specs.declared.entries.Entry.{Entry}
 use Rattle.trace_query.specs.declared.steps.Step.{Step}
 use Rattle.trace_query.specs.declared.page_spans.PageSpans.{PageSpans}
-use Rattle.trace_query.specs.inner.SpanLists.{spans_in}
+use Rattle.trace_query.specs.inner.SpanLists.{spans_in, Covers}
+use Rattle.trace_query.specs.declared.span_lists.SpanLists.{SpanLists}
 use Rattle.trace_query.specs.inner.Sights.{sight, sight_in, sight_after, step_by}
 use Rattle.trace_query.specs.inner.Seen.{Follows, Makes, Keeps, spans_after}
 use Rattle.trace_query.proofs.SpanLaws.{sight_more, spans_more}
@@ -28,6 +29,7 @@ follows_more old mid new e past step f is processors lists len makes =
           ∙ ap (λ s. spans_after (step_by e.actor e.event) (length past + 1) s q (spans_in mid.lists q)) seen
           ∙ ap (spans_after (step_by e.actor e.event) (length past + 1) (sight past) q) (ap (λ k. spans_in k q) lists ∙ f.lists q)
           ∙ spans_more e past q;
+      covers = makes.covers (subst (λ (k : SpanLists). Covers k) (sym lists) f.covers);
       len = omega (arith, makes.len, len, f.len);
     }
 
@@ -35,5 +37,6 @@ pub follows_kept : (old new : PageSpans) (past : List Entry) → Keeps old new �
 follows_kept old new past keeps f = record {
   sights = λ p. keeps.sights p ∙ f.sights p;
   lists = λ q. keeps.lists q ∙ f.lists q;
+  covers = keeps.covers f.covers;
   len = keeps.len ∙ f.len;
 }

@@ -1,7 +1,8 @@
 -- The spans of a page rise, and the last one up to a place is not over there exactly where the page was cached.
 use Rattle.std.proofs.Common.{inl, inr}
 use Rattle.std.proofs.Common.{◌≡◌, ℕ, zero, suc, ◌+◌, ◌-◌, ◌<◌, ◌≤◌, Bool, true, false, if◌then◌else◌, nat_le, List, [], ◌∷◌}
-use Rattle.std.proofs.Common.{length, get_or, Option, Some, None, is_none, refl, sym, ap, ◌∙◌, subst, arith}
+use Rattle.std.proofs.Common.{length, get_or, Option, Some, None, is_none, refl, sym, ap, ◌∙◌, subst, append-nil, arith}
+use Rattle.std.proofs.Common.{◌++◌}
 use Rattle.std.proofs.lemmas.Bool.{cases_lt, le-leb, lt-leb, lt-ltb, le-ltb}
 use Rattle.std.proofs.lemmas.List.Sorted.{IsNonDecreasingBy-push}
 use Rattle.sgx_rules.specs.declared.entries.Entry.{Entry}
@@ -9,9 +10,12 @@ use Rattle.sgx_types.specs.Pages.{page_at}
 use Rattle.trace_query.specs.declared.span_lists.Span.{Span}
 use Rattle.trace_query.specs.declared.span_lists.SpanKey.{SpanKey}
 use Rattle.trace_query.specs.Moves.{before}
-use Rattle.trace_query.specs.Spans.{caches}
+use Rattle.sgx_types.specs.declared.names.Page.{Page}
+use Rattle.trace_query.specs.declared.page_spans.PageSpans.{PageSpans}
+use Rattle.trace_query.specs.Spans.{caches, cachers_before, cachers}
 use Rattle.trace_query.specs.inner.SpanLists.{lasts, end_by, ended, begun, Rises, is_before, cached_from, cached_at}
-use Rattle.trace_query.specs.inner.Seen.{settled, spans}
+use Rattle.trace_query.specs.inner.SpanLists.{key_of, up_to}
+use Rattle.trace_query.specs.inner.Seen.{settled, spans, Follows}
 use Rattle.trace_query.proofs.PlaceLaws.{before_more, before_all}
 use Rattle.trace_query.proofs.SpanLaws.{spans_last}
 
@@ -149,10 +153,10 @@ settled_not_yet false s place n lt = ended_not_yet false s place n lt
 
 -- ---- all entries
 
-pub cached_before : (past : List Entry) (q : SpanKey) (n : ℕ) → n ≤ length past
+pub cached_before : (past : List Entry) (q : SpanKey) (n : ℕ)
     → cached_at (spans past q) n ≡ caches (before n past) q.cpu (page_at q.enclave q.number)
-cached_before [] q n le = ap (λ h. caches h q.cpu (page_at q.enclave q.number)) (sym (before_all [] n (omega arith)))
-cached_before (e ∷ past) q n le =
+cached_before [] q n = ap (λ h. caches h q.cpu (page_at q.enclave q.number)) (sym (before_all [] n (omega arith)))
+cached_before (e ∷ past) q n =
     elim (cases_lt (length past) n) [
       | inl behind ↦
           at_last (spans (e ∷ past) q) (length (e ∷ past)) n (spans_up_to (e ∷ past) q) (omega (arith, behind))
@@ -160,6 +164,34 @@ cached_before (e ∷ past) q n le =
           ∙ ap (λ h. caches h q.cpu (page_at q.enclave q.number)) (sym (before_all (e ∷ past) n (omega (arith, behind))))
       | inr up ↦
           settled_not_yet (caches (e ∷ past) q.cpu (page_at q.enclave q.number)) (spans past q) (length past + 1) n (omega (arith, up))
-          ∙ cached_before past q n up
+          ∙ cached_before past q n
           ∙ ap (λ h. caches h q.cpu (page_at q.enclave q.number)) (sym (before_more e past n up))
     ]
+
+-- ---- processors that cached nothing
+
+no_cachers : (k n : ℕ) (past : List Entry) (g : Page) → k ≤ n → ((p : ℕ) → k ≤ p → caches past p g ≡ false)
+    → cachers_before k past g ≡ cachers_before n past g
+no_cachers k zero past g le none =
+    let is : k ≡ 0 = omega (arith, le) in
+    ap (λ j. cachers_before j past g) is
+no_cachers k (suc n) past g le none =
+    elim (cases_lt n k) [
+      | inl all ↦
+          (let is : k ≡ suc n = omega (arith, le, all) in
+          ap (λ j. cachers_before j past g) is)
+      | inr up ↦
+          no_cachers k n past g up none
+          ∙ sym (append-nil (cachers_before n past g))
+          ∙ ap (λ b. cachers_before n past g ++ (if b then record { 0 = n } ∷ [] else [])) (sym (none n up))
+    ]
+
+-- no processor beyond those that cached a page is among the cachers
+pub none_beyond : (known : PageSpans) (past : List Entry) (n : ℕ) (g : Page) (k : ℕ) → Follows known past → k ≡ up_to known.lists.last
+    → k ≤ 256 → cachers_before k (before n past) g ≡ cachers (before n past) g
+none_beyond known past n g k f is most =
+    no_cachers k 256 (before n past) g most
+    (λ p le.
+    sym (cached_before past (key_of p g.enclave g.number) n)
+    ∙ ap (λ spans. cached_at spans n)
+    (sym (f.lists (key_of p g.enclave g.number)) ∙ f.covers (key_of p g.enclave g.number) (omega (arith, le, is))))

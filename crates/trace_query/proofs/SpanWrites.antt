@@ -1,12 +1,12 @@
 -- What lists of spans are once one of them was written.
-use Rattle.std.proofs.Common.{◌≡◌, ℕ, zero, suc, ◌+◌, ◌≤◌, ◌==◌, ◌&&◌, Bool, true, false, cond, List, [], ◌∷◌}
+use Rattle.std.proofs.Common.{◌≡◌, ℕ, zero, suc, ◌+◌, ◌≤◌, ◌==◌, ◌&&◌, Bool, true, false, if◌then◌else◌, nat_le, subst}
+use Rattle.std.proofs.Common.{List, [], ◌∷◌}
 use Rattle.std.proofs.Common.{length, drop, get_or, set, Option, Some, None, is_some, refl, sym, ap, ◌∙◌, arith}
-use Rattle.std.specs.Global.{Vec}
-use Rattle.std.proofs.lemmas.Bool.{false≢true, eqb-true}
-use Rattle.sgx_types.proofs.Truths.{both_true}
+use Rattle.std.proofs.lemmas.Bool.{false≢true, eqb-true, leb-true, leb-false}
+use Rattle.sgx_types.proofs.Truths.{both_true, apart}
 use Rattle.trace_query.specs.declared.span_lists.Span.{Span}
 use Rattle.trace_query.specs.declared.span_lists.SpanKey.{SpanKey}
-use Rattle.trace_query.specs.inner.SpanLists.{same_key, items_of, end_by, ended}
+use Rattle.trace_query.specs.inner.SpanLists.{same_key, end_by, begun, ended, greatest, up_to}
 
 -- ---- maps
 
@@ -19,34 +19,6 @@ same_keys a b h =
       enclave = eqb-true a.enclave b.enclave l.0 i;
       number = eqb-true a.number b.number l.1 i;
     }
-
-none_of : (o : Option (Vec Span)) → is_some o ≡ false → items_of o ≡ []
-none_of None h = refl
-none_of (Some v) h = absurd (false≢true (sym h))
-
-begun_if : (b : Bool) (was : Option (Vec Span)) (v : Vec Span) → (b ≡ true → is_some was ≡ false) → v.items ≡ []
-    → items_of (cond b (Some v) was) ≡ items_of was
-begun_if true was v none empty = empty ∙ sym (none_of was (none refl))
-begun_if false was v none empty = refl
-
--- an empty list is as none
-pub list_begun : (key q : SpanKey) (was is : SpanKey → Option (Vec Span)) (v : Vec Span) → is_some (was key) ≡ false → v.items ≡ []
-    → ((q : SpanKey) → is q ≡ cond (same_key key q) (Some v) (was q)) → items_of (is q) ≡ items_of (was q)
-list_begun key q was is v none empty reads =
-    ap items_of (reads q)
-    ∙ begun_if (same_key key q) (was q) v (λ same. ap (λ k. is_some (was k)) (sym (same_keys key q same)) ∙ none) empty
-
-rewritten_if : (b : Bool) (was : Option (Vec Span)) (v w : Vec Span) → (b ≡ true → was ≡ Some v) → w.items ≡ v.items
-    → items_of (cond b (Some w) was) ≡ items_of was
-rewritten_if true was v w at is = is ∙ ap items_of (sym (at refl))
-rewritten_if false was v w at is = refl
-
--- a list that got room is the same
-pub list_rewritten : (key q : SpanKey) (was is : SpanKey → Option (Vec Span)) (v w : Vec Span) → was key ≡ Some v → w.items ≡ v.items
-    → ((q : SpanKey) → is q ≡ cond (same_key key q) (Some w) (was q)) → items_of (is q) ≡ items_of (was q)
-list_rewritten key q was is v w has writes reads =
-    ap items_of (reads q)
-    ∙ rewritten_if (same_key key q) (was q) v w (λ same. ap was (sym (same_keys key q same)) ∙ has) writes
 
 -- ---- the last span
 
@@ -83,3 +55,43 @@ drop_end [] zero h = refl
 drop_end [] (suc i) h = refl
 drop_end (x ∷ xs) zero h = absurd (omega (arith, h))
 drop_end (x ∷ xs) (suc i) h = drop_end xs i (omega (arith, h))
+
+-- ---- the greatest number of a processor
+
+greatest_if : (b : Bool) (last p : ℕ) → nat_le p last ≡ b
+    → (last + 1 ≤ up_to (if b then Some last else Some p)) × (p + 1 ≤ up_to (if b then Some last else Some p))
+greatest_if true last p h = (omega arith, omega (arith, leb-true p last h))
+greatest_if false last p h = (omega (arith, leb-false p last h), omega arith)
+
+pub greatest_covers : (last : Option ℕ) (p : ℕ) → (up_to last ≤ up_to (greatest last p)) × (p + 1 ≤ up_to (greatest last p))
+greatest_covers None p = (omega arith, omega arith)
+greatest_covers (Some last) p = greatest_if (nat_le p last) last p refl
+
+begun_not : (b : Bool) (place : ℕ) (spans : List Span) → b ≡ false → spans ≡ [] → (if b then begun place spans else spans) ≡ []
+begun_not true place spans other none = absurd (false≢true (sym other))
+begun_not false place spans other none = none
+
+-- where a span of a processor begins, no later one has any
+pub covers_begun : (key : SpanKey) (place : ℕ) (last is_last : Option ℕ) (was is : SpanKey → List Span)
+    → is_last ≡ greatest last key.cpu
+    → ((q : SpanKey) → is q ≡ (if same_key key q then begun place (was q) else was q))
+    → ((q : SpanKey) → up_to last ≤ q.cpu → was q ≡ []) → (q : SpanKey) → up_to is_last ≤ q.cpu → is q ≡ []
+covers_begun key place last is_last was is new reads covers q le =
+    let beyond : up_to (greatest last key.cpu) ≤ q.cpu = subst (λ o. up_to o ≤ q.cpu) new le in
+    let most = greatest_covers last key.cpu in
+    reads q
+    ∙ begun_not (same_key key q) place (was q)
+    (ap (λ b. b && ((key.enclave == q.enclave) && (key.number == q.number)))
+    (apart key.cpu q.cpu (λ same. absurd (omega (arith, most.1, beyond, same)))))
+    (covers q (omega (arith, most.0, beyond)))
+
+ended_not : (b : Bool) (place : ℕ) (spans : List Span) → spans ≡ [] → (if b then ended place spans else spans) ≡ []
+ended_not true place spans none = ap (ended place) none
+ended_not false place spans none = none
+
+-- where spans end, no later processor has any
+pub covers_ended : (key : SpanKey) (place : ℕ) (last is_last : Option ℕ) (was is : SpanKey → List Span) → is_last ≡ last
+    → ((q : SpanKey) → is q ≡ (if same_key key q then ended place (was q) else was q))
+    → ((q : SpanKey) → up_to last ≤ q.cpu → was q ≡ []) → (q : SpanKey) → up_to is_last ≤ q.cpu → is q ≡ []
+covers_ended key place last is_last was is same reads covers q le =
+    reads q ∙ ended_not (same_key key q) place (was q) (covers q (subst (λ o. up_to o ≤ q.cpu) same le))

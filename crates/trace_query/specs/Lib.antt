@@ -1,3 +1,4 @@
 pub mod Moves
 pub mod Spans
+pub mod Index
 pub mod inner

@@ -3,3 +3,6 @@ pub mod Kept
 pub mod SpanLists
 pub mod Sights
 pub mod Seen
+pub mod Last
+pub mod WordLists
+pub mod Written

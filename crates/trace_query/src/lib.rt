@@ -1,9 +1,13 @@
-// Questions to a trace: where a page was behind any number of its entries, the moves that it made, and which processors cached it.
+// Questions to a trace: where a page was behind any number of its entries, the moves that it made, which processors cached it, and what
+// its words were.
 #![tactic(auto)]
 
+pub mod index;
 mod move_lists;
 pub mod page_moves;
 pub mod page_spans;
+pub mod page_words;
 mod processors;
 mod span_lists;
 mod steps;
+mod word_lists;

@@ -11,14 +11,14 @@ use std::alloc::Global;
 use std::collections::HashMap;
 use trace_places::moves::Where;
 
-// A page, as the key of a map.
+/// A page, as the key of a map.
 #[derive(Clone, Copy, Debug, PartialEq, Eq, Hash)]
-struct PageKey {
-    enclave: u16,
-    number: u32,
+pub(crate) struct PageKey {
+    pub enclave: u16,
+    pub number: u32,
 }
 
-fn page_key(page: Page) -> PageKey
+pub(crate) fn page_key(page: Page) -> PageKey
     ensures { result ≡ page_key page }
 {
     PageKey {

@@ -1,6 +1,6 @@
 //! Where pages were behind each number of entries of a trace.
 
-ghost use Rattle.std.specs.Prelude.{◌≡◌, ◌≤◌, ◌∷◌, [], List, length, IfOk, OnOk, OnErr};
+ghost use Rattle.std.specs.Prelude.{◌≡◌, ◌∷◌, [], List, length, IfOk, OnOk, OnErr};
 ghost use Rattle.sgx_rules.specs.declared.entries.Entry.{Entry};
 ghost use Rattle.trace_places.specs.Places.{place_of};
 ghost use Rattle.trace_query.specs.Moves.{before, moves};
@@ -49,10 +49,9 @@ impl PageMoves {
         self.len
     }
 
-    /// Where a page was behind the first `n` entries. The SECS of enclave E is asked for as page 4294967295 of E, and the version
+    /// Where a page was behind the first `n` entries, or behind all where there are fewer. The SECS of enclave E is asked for as page 4294967295 of E, and the version
     /// array page that was made as the K-th, counted from 0, as page K of enclave 0.
     pub fn where_is(&self, n: u64, page: Page) -> Where
-        requires { n ≤ self.now.len }
         ensures { (past : List Entry) → Follows self.now past → result ≡ place_of (before n past) page }
     {
         self.lists.at(n, page)

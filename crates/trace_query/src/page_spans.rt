@@ -1,12 +1,12 @@
 //! Which processors cached pages behind each number of entries of a trace.
 
-ghost use Rattle.std.specs.Prelude.{◌≡◌, ◌≤◌, ◌+◌, ◌<◌, ◌^◌, ◌∷◌, [], List, length, IfOk, OnOk, OnErr, Some};
+ghost use Rattle.std.specs.Prelude.{◌≡◌, ◌+◌, ◌<◌, ◌^◌, ◌∷◌, [], List, length, IfOk, OnOk, OnErr, Some};
 ghost use Rattle.sgx_rules.specs.declared.entries.Entry.{Entry};
 ghost use Rattle.trace_query.specs.declared.steps.Step.TheVariants as steps;
 ghost use Rattle.trace_query.specs.Moves.{before};
 ghost use Rattle.trace_query.specs.Spans.{caches, cachers};
 ghost use Rattle.trace_query.specs.declared.span_lists.SpanKey.{SpanKey};
-ghost use Rattle.trace_query.specs.inner.SpanLists.{spans_in};
+ghost use Rattle.trace_query.specs.inner.SpanLists.{spans_in, Covers};
 ghost use Rattle.trace_query.specs.inner.Seen.{Follows, HasRoom, HasRoomToStep, Keeps, Makes, ended_if};
 
 use crate::processors::Processors;
@@ -16,11 +16,8 @@ use sgx_rules::entries::Entry;
 use sgx_types::names::{Cpu, Memory, Page};
 use std::alloc::Global;
 
-/// How many numbers of processors there are.
-const PROCESSORS: u16 = 256;
-
 /// Which processors cached each page along entries that were pushed one by one, any entries at all. A question takes one look into a
-/// hash table and one binary search for each processor.
+/// hash table and one binary search for each processor up to the greatest number of one that cached a page.
 #[derive(Drop)]
 pub struct PageSpans {
     processors: Processors,
@@ -48,14 +45,13 @@ impl PageSpans {
         self.len
     }
 
-    /// The processors that cached a page behind the first `n` entries, rising. The SECS of enclave E is asked for as page 4294967295
-    /// of E.
+    /// The processors that cached a page behind the first `n` entries, or behind all where there are fewer, rising. The SECS of enclave
+    /// E is asked for as page 4294967295 of E.
     pub fn who_caches(&self, alloc: Global, n: u64, page: Page) -> Result<Vec<Cpu>, Memory>
-        requires { n ≤ self.now.len }
         ensures { IfOk result (λ cpus. (past : List Entry) → Follows self.now past → cpus.items ≡ cachers (before n past) page) }
     {
         let mut cpus = Vec::new(alloc);
-        for number in 0..PROCESSORS {
+        for number in 0..self.lists.cpus() {
             let cpu = number as u8;
             if self.caches(n, cpu, page) {
                 cpus.push(Cpu(cpu))?;
@@ -66,7 +62,6 @@ impl PageSpans {
 
     // Whether a processor cached a page behind the first `n` entries.
     fn caches(&self, n: u64, cpu: u8, page: Page) -> bool
-        requires { n ≤ self.now.len }
         ensures { (past : List Entry) → Follows self.now past → result ≡ caches (before n past) cpu page }
     {
         self.lists.at(
@@ -181,6 +176,7 @@ impl PageSpans {
     fn close_dropped(&mut self, cpu: u8, enclave: u16, dropped: Option<u32>)
         ensures lists { (q : SpanKey) → spans_in self.new.lists q
             ≡ ended_if dropped self.old.len cpu enclave q (spans_in self.old.lists q) }
+        ensures covers { Covers self.old.lists → Covers self.new.lists }
         ensures processors { self.new.processors ≡ self.old.processors }
         ensures len { self.new.len ≡ self.old.len }
     {

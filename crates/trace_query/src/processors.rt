@@ -3,7 +3,7 @@
 ghost use Rattle.std.specs.Prelude.{◌≡◌, ◌+◌, ◌≤◌, ◌++◌, ◌∷◌, [], ℕ, if◌then◌else◌, OnOk, IfSome, IsSome, Some, ◌==◌};
 ghost use Rattle.std.specs.Prelude.{vec_len, vec_capacity};
 ghost use Rattle.trace_query.specs.declared.span_lists.SpanKey.{SpanKey};
-ghost use Rattle.trace_query.specs.inner.SpanLists.{spans_in, ended_of};
+ghost use Rattle.trace_query.specs.inner.SpanLists.{spans_in, ended_of, Covers};
 ghost use Rattle.trace_query.specs.inner.Sights.{
   outside,
   sight_of,
@@ -145,8 +145,9 @@ impl Processors {
 
     /// The spans end of all that a processor caches.
     pub(crate) fn close_spans(&self, cpu: u8, lists: &mut SpanLists, place: u64)
-        ensures { (q : SpanKey) → spans_in lists.new q
+        ensures spans { (q : SpanKey) → spans_in lists.new q
             ≡ ended_of (sight_in self.now cpu).enclave place cpu (sight_in self.now cpu).numbers q (spans_in lists.old q) }
+        ensures covers { Covers lists.old → Covers lists.new }
     {
         if let Some(processor) = self.processors.get(&cpu)
             && let Some(enclave) = processor.enclave

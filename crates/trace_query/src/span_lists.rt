@@ -2,7 +2,7 @@
 
 ghost use Rattle.std.specs.Prelude.{◌≡◌, ◌+◌, ◌≤◌, ◌∷◌, [], ℕ, if◌then◌else◌, OnOk, vec_len, vec_capacity};
 ghost use Rattle.trace_query.specs.inner.SpanLists.{same_key, spans_in, HasList, HasRoomFor};
-ghost use Rattle.trace_query.specs.inner.SpanLists.{begun, ended, all_ended, Rises, cached_at, is_before};
+ghost use Rattle.trace_query.specs.inner.SpanLists.{begun, ended, all_ended, Rises, cached_at, is_before, greatest, up_to, Covers};
 
 use sgx_types::names::Memory;
 use std::alloc::Global;
@@ -24,25 +24,41 @@ pub(crate) struct Span {
     pub to: Option<u64>,
 }
 
-/// For each processor and each page the spans in which the one cached the other, oldest first.
+/// For each processor and each page the spans in which the one cached the other, oldest first, and the greatest number of a processor
+/// that cached any.
 #[derive(Drop)]
 pub(crate) struct SpanLists {
     lists: HashMap<SpanKey, Vec<Span>>,
+    last: Option<u8>,
 }
 
 impl SpanLists {
     /// Nothing was cached.
     pub(crate) fn new(alloc: Global) -> SpanLists
-        ensures { (q : SpanKey) → spans_in result q ≡ [] }
+        ensures none { (q : SpanKey) → spans_in result q ≡ [] }
+        ensures covers { Covers result }
     {
         SpanLists {
             lists: HashMap::new(alloc),
+            last: None,
+        }
+    }
+
+    /// How many numbers of processors there are up to the greatest one that cached a page.
+    pub(crate) fn cpus(&self) -> u16
+        ensures value { result ≡ up_to self.now.last }
+        ensures bound { result ≤ 256 }
+    {
+        match self.last {
+            Some(last) => u16::from(last) + 1,
+            None => 0,
         }
     }
 
     /// Makes room for a span more.
     pub(crate) fn reserve(&mut self, alloc: Global, key: SpanKey) -> Result<(), Memory>
         ensures same { (q : SpanKey) → spans_in self.new q ≡ spans_in self.old q }
+        ensures covers { Covers self.old → Covers self.new }
         ensures room { OnOk result (HasRoomFor self.new key) }
     {
         self.begin(alloc, key)?;
@@ -55,6 +71,7 @@ impl SpanLists {
     // Sees to it that there is a list, be it an empty one.
     fn begin(&mut self, alloc: Global, key: SpanKey) -> Result<(), Memory>
         ensures same { (q : SpanKey) → spans_in self.new q ≡ spans_in self.old q }
+        ensures last { self.new.last ≡ self.old.last }
         ensures begun { OnOk result (HasList self.new key) }
     {
         if !self.lists.contains_key(&key) {
@@ -66,9 +83,11 @@ impl SpanLists {
     /// A span begins.
     pub(crate) fn open_span(&mut self, key: SpanKey, place: u64)
         requires room { HasRoomFor self.old key }
-        ensures { (q : SpanKey) → spans_in self.new q
+        ensures spans { (q : SpanKey) → spans_in self.new q
             ≡ (if same_key key q then begun place (spans_in self.old q) else spans_in self.old q) }
+        ensures covers { Covers self.old → Covers self.new }
     {
+        self.last = greatest(self.last, key.cpu);
         if let Some(list) = self.lists.get_mut(&key) {
             add(list, place);
         }
@@ -76,8 +95,9 @@ impl SpanLists {
 
     /// The last span ends, if it lasts.
     pub(crate) fn close_span(&mut self, key: SpanKey, place: u64)
-        ensures { (q : SpanKey) → spans_in self.new q
+        ensures spans { (q : SpanKey) → spans_in self.new q
             ≡ (if same_key key q then ended place (spans_in self.old q) else spans_in self.old q) }
+        ensures covers { Covers self.old → Covers self.new }
     {
         if let Some(list) = self.lists.get_mut(&key) {
             end(list, place);
@@ -86,7 +106,8 @@ impl SpanLists {
 
     /// The spans of these pages of an enclave end.
     pub(crate) fn close_all(&mut self, cpu: u8, enclave: u16, numbers: &[u32], place: u64)
-        ensures { (q : SpanKey) → spans_in self.new q ≡ all_ended place cpu enclave numbers.now q (spans_in self.old q) }
+        ensures spans { (q : SpanKey) → spans_in self.new q ≡ all_ended place cpu enclave numbers.now q (spans_in self.old q) }
+        ensures covers { Covers self.old → Covers self.new }
     {
         for number in numbers {
             self.close_span(
@@ -108,6 +129,15 @@ impl SpanLists {
             Some(list) => is_cached(list, n),
             None => false,
         }
+    }
+}
+
+fn greatest(last: Option<u8>, cpu: u8) -> Option<u8>
+    ensures { result ≡ greatest last cpu }
+{
+    match last {
+        Some(last) if cpu <= last => Some(last),
+        _ => Some(cpu),
     }
 }
 

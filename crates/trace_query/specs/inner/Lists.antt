@@ -1,5 +1,5 @@
 -- The lists of moves, by page.
-use Rattle.std.specs.Prelude.{ℕ, ◌+◌, ◌≤◌, ◌==◌, ◌&&◌, Bool, nat_le, if◌then◌else◌, List, [], ◌∷◌}
+use Rattle.std.specs.Prelude.{ℕ, ◌+◌, ◌≤◌, ◌==◌, ◌&&◌, Bool, List, []}
 use Rattle.std.specs.Prelude.{IsSome, IsSomeAnd, Option, Some, None, vec_len, vec_capacity}
 use Rattle.std.specs.Global.{Vec}
 use Rattle.std.specs.HashMap.{get}
@@ -10,6 +10,7 @@ use Rattle.trace_places.specs.declared.moves.Where.TheVariants.{Nowhere}
 use Rattle.trace_query.specs.declared.page_moves.Move.{Move}
 use Rattle.trace_query.specs.declared.move_lists.PageKey.{PageKey}
 use Rattle.trace_query.specs.declared.move_lists.MoveLists.{MoveLists}
+use Rattle.trace_query.specs.inner.Last.{last_from}
 
 -- the keys are those of the same page
 abbrev pub same_key : PageKey → PageKey → Bool
@@ -42,8 +43,7 @@ abbrev pub Rises : List Move → Type 0
 Rises steps = IsNonDecreasingBy (λ step. step.place) steps
 
 abbrev pub at_place_from : Where → List Move → ℕ → Where
-at_place_from first [] n = first
-at_place_from first (step ∷ steps) n = at_place_from (if nat_le step.place n then step.to else first) steps n
+at_place_from first steps n = last_from (λ step. step.place) (λ step. step.to) first steps n
 
 -- where the last move up to a place led
 abbrev pub at_place : List Move → ℕ → Where

@@ -10,7 +10,7 @@ use Rattle.trace_query.specs.declared.steps.Step.TheVariants.{Turns, Fills}
 use Rattle.trace_query.specs.declared.processors.Filled.{Filled}
 use Rattle.trace_query.specs.declared.page_spans.PageSpans.{PageSpans}
 use Rattle.trace_query.specs.Spans.{caches}
-use Rattle.trace_query.specs.inner.SpanLists.{same_key, key_of, spans_in, lasts, begun, ended, ended_of}
+use Rattle.trace_query.specs.inner.SpanLists.{same_key, key_of, spans_in, lasts, begun, ended, ended_of, Covers}
 use Rattle.trace_query.specs.inner.SpanLists as lists
 use Rattle.trace_query.specs.inner.Sights.{Sight, sight, sight_in, sight_after, step_by, filled, HasPlace}
 use Rattle.trace_query.specs.inner.Sights as sights
@@ -29,6 +29,7 @@ spans (e ∷ past) q = settled (caches (e ∷ past) q.cpu (page_at q.enclave q.n
 pub record Follows (known : PageSpans) (past : List Entry) : Type 0 where
   pub sights : (p : ℕ) → sight_in known.processors p ≡ sight past p
   pub lists : (q : SpanKey) → spans_in known.lists q ≡ spans past q
+  pub covers : Covers known.lists
   pub len : known.len ≡ length past
 
 -- ---- room
@@ -54,6 +55,7 @@ pub record HasRoom (known : PageSpans) (e : Entry) : Type 0 where
 pub record Keeps (old new : PageSpans) : Type 0 where
   pub sights : (p : ℕ) → sight_in new.processors p ≡ sight_in old.processors p
   pub lists : (q : SpanKey) → spans_in new.lists q ≡ spans_in old.lists q
+  pub covers : Covers old.lists → Covers new.lists
   pub len : new.len ≡ old.len
 
 abbrev pub ended_if : Option ℕ → ℕ → ℕ → ℕ → SpanKey → List Span → List Span
@@ -76,4 +78,5 @@ spans_after (Some (Fills p n)) place seen q before = spans_filled (filled (seen 
 pub record Makes (old : PageSpans) (step : Option Step) (new : PageSpans) : Type 0 where
   pub sights : (p : ℕ) → sight_in new.processors p ≡ sight_after step p (sight_in old.processors p)
   pub lists : (q : SpanKey) → spans_in new.lists q ≡ spans_after step old.len (sight_in old.processors) q (spans_in old.lists q)
+  pub covers : Covers old.lists → Covers new.lists
   pub len : new.len ≡ old.len

@@ -1,5 +1,5 @@
 -- The lists of spans, by processor and page.
-use Rattle.std.specs.Prelude.{ℕ, ◌+◌, ◌≤◌, ◌==◌, ◌&&◌, Bool, true, false, nat_le, nat_lt, if◌then◌else◌, List, [], ◌∷◌, ◌++◌}
+use Rattle.std.specs.Prelude.{◌≡◌, ℕ, ◌+◌, ◌≤◌, ◌==◌, ◌&&◌, Bool, true, false, nat_le, nat_lt, if◌then◌else◌, List, [], ◌∷◌, ◌++◌}
 use Rattle.std.specs.Prelude.{IsSome, IsSomeAnd, is_none, Option, Some, None, vec_len, vec_capacity}
 use Rattle.std.specs.Global.{Vec}
 use Rattle.std.specs.HashMap.{get}
@@ -7,6 +7,7 @@ use Rattle.std.specs.List.Sorted.{IsNonDecreasingBy}
 use Rattle.trace_query.specs.declared.span_lists.Span.{Span}
 use Rattle.trace_query.specs.declared.span_lists.SpanKey.{SpanKey}
 use Rattle.trace_query.specs.declared.span_lists.SpanLists.{SpanLists}
+use Rattle.trace_query.specs.inner.Last.{last_from}
 
 -- the keys are those of the same processor and page
 abbrev pub same_key : SpanKey → SpanKey → Bool
@@ -30,6 +31,21 @@ HasList known q = IsSome (get same_key known.lists q)
 -- a span more needs no memory
 abbrev pub HasRoomFor : SpanLists → SpanKey → Type 0
 HasRoomFor known q = IsSomeAnd (get same_key known.lists q) (λ spans. vec_len spans + 1 ≤ vec_capacity spans)
+
+-- ---- processors
+
+-- how many numbers there are up to one
+abbrev pub up_to : Option ℕ → ℕ
+up_to None = 0
+up_to (Some p) = p + 1
+
+abbrev pub greatest : Option ℕ → ℕ → Option ℕ
+greatest None p = Some p
+greatest (Some last) p = if nat_le p last then Some last else Some p
+
+-- no later processor has a span
+abbrev pub Covers : SpanLists → Type 0
+Covers known = (q : SpanKey) → up_to known.last ≤ q.cpu → spans_in known q ≡ []
 
 -- ---- the last span
 
@@ -79,8 +95,7 @@ is_before n None = true
 is_before n (Some to) = nat_lt n to
 
 abbrev pub cached_from : Bool → List Span → ℕ → Bool
-cached_from first [] n = first
-cached_from first (span ∷ spans) n = cached_from (if nat_le span.from n then is_before n span.to else first) spans n
+cached_from first spans n = last_from (λ span. span.from) (λ span. is_before n span.to) first spans n
 
 -- the last span that began up to a place is not over there
 abbrev pub cached_at : List Span → ℕ → Bool

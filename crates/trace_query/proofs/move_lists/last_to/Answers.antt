@@ -2,7 +2,7 @@ use Rattle.std.proofs.Common.{ℕ, ◌-◌, nat_le, sym, arith, rules}
 use Rattle.std.proofs.lemmas.List.Sorted.{IsPartitionedBy-leb, IsPartitionPoint-from_clause}
 use Rattle.trace_places.specs.declared.moves.Where.TheVariants.{Nowhere}
 use Rattle.trace_query.specs.declared.page_moves.Move.{Move}
-use Rattle.trace_query.proofs.SplitLaws.{none_up_to, some_up_to}
+use Rattle.trace_query.proofs.LastLaws.{none_up_to, some_up_to}
 use Rattle.trace_query.proofs.move_lists.last_to.Goals as goal
 
 abbrev none : Move
@@ -15,7 +15,7 @@ returns-then-count-eq0 c = λ rises.
     let count : ℕ = c.partition_point-count.result in
     let parts = IsPartitionPoint-from_clause (λ (step : Move). nat_le step.place n) list count c.partition_point-count.ensures.partitioned
     (IsPartitionedBy-leb (λ (step : Move). step.place) list n rises) (λ a r f h. search rules) in
-    sym (none_up_to Nowhere list n none (λ k h. parts.1 k none (omega (arith, c.if-count-eq0.true)) h))
+    sym (none_up_to (λ (step : Move). step.place) (λ (step : Move). step.to) Nowhere list n none (λ k h. parts.1 k none (omega (arith, c.if-count-eq0.true)) h))
 
 pub returns : goal.returns
 returns c = λ rises.
@@ -24,6 +24,6 @@ returns c = λ rises.
     let count : ℕ = c.partition_point-count.result in
     let parts = IsPartitionPoint-from_clause (λ (step : Move). nat_le step.place n) list count c.partition_point-count.ensures.partitioned
     (IsPartitionedBy-leb (λ (step : Move). step.place) list n rises) (λ a r f h. search rules) in
-    sym (some_up_to Nowhere list n (count - 1) none (omega (arith, c.partition_point-count.ensures.bound, c.if-count-eq0.false))
+    sym (some_up_to (λ (step : Move). step.place) (λ (step : Move). step.to) Nowhere list n (count - 1) none (omega (arith, c.partition_point-count.ensures.bound, c.if-count-eq0.false))
     (λ k h. parts.0 k none (omega arith) (omega (arith, h, c.if-count-eq0.false)))
     (λ k h l. parts.1 k none (omega (arith, h, c.if-count-eq0.false)) l))

@@ -1,4 +1,4 @@
-use Rattle.std.proofs.Common.{List, sym, ap, subst, ◌∙◌, arith}
+use Rattle.std.proofs.Common.{List, sym, ap, subst, ◌∙◌}
 use Rattle.trace_query.specs.declared.span_lists.Span.{Span}
 use Rattle.trace_query.specs.inner.SpanLists.{key_of, cached_at, Rises}
 use Rattle.trace_query.proofs.SpanPlaces.{spans_rise, cached_before}
@@ -10,4 +10,4 @@ returns c = λ past f.
     let q = key_of c.args.cpu c.args.page.enclave c.args.page.number in
     c.at.ensures (subst AreRising (sym (f.lists q)) (spans_rise past q))
     ∙ ap (λ spans. cached_at spans c.args.n) (f.lists q)
-    ∙ cached_before past q c.args.n (omega (arith, c.requires, f.len))
+    ∙ cached_before past q c.args.n
