@@ -1,17 +1,11 @@
 -- The command that the words of the command line name, which stand without the program's name.
-use Rattle.std.specs.Prelude.{ℕ, ◌&&◌, Bool, if◌then◌else◌, List, [], ◌∷◌, Option, Some, None, bytes_eq, codes}
+use Rattle.std.specs.Prelude.{ℕ, ◌&&◌, if◌then◌else◌, List, [], ◌∷◌, Option, Some, None, bytes_eq, codes}
 use Rattle.std.specs.Prelude.{length, nat_le, nat_lt}
-use Rattle.std.specs.List.{list_all}
-use Rattle.text_words.specs.Reading.{◌>>=◌, number_of}
+use Rattle.text_words.specs.Reading.{◌>>=◌}
 use Rattle.command_words.specs.declared.command.Command.{Command}
 use Rattle.command_words.specs.declared.command.Command.TheVariants as commands
-
-abbrev pub is_digit : ℕ → Bool
-is_digit c = nat_le 48 c && nat_le c 57
-
--- NUMBER is one to twenty decimal digits, with a value below 2 ^ 64
-abbrev pub count_of : List ℕ → Option ℕ
-count_of word = if nat_le (length word) 20 && list_all is_digit word then number_of word else None
+use Rattle.command_words.specs.Numbers.{count_of}
+use Rattle.command_words.specs.Questions.{asks_behind, asks_moves}
 
 -- SIZE is such a number from 4 to 2000
 abbrev pub size_of : List ℕ → Option ℕ
@@ -62,4 +56,6 @@ with_size name first second = do
 abbrev pub command_in : List (List ℕ) → Option Command
 command_in (name ∷ word ∷ []) = with_word name word
 command_in (name ∷ first ∷ second ∷ []) = with_size name first second
+command_in (name ∷ path ∷ letter ∷ page ∷ []) = asks_moves name path letter page
+command_in (name ∷ path ∷ place ∷ letter ∷ page ∷ []) = asks_behind name path place letter page
 command_in words = None

@@ -1,12 +1,16 @@
 //! The command that the words of the command line name.
 
-ghost use Rattle.command_words.specs.Commands.{command_in, count_of, is_digit, path_by, rounds_of, size_of, sized_by, with_path};
+ghost use Rattle.command_words.specs.Commands.{command_in, path_by, rounds_of, size_of, sized_by, with_path};
+ghost use Rattle.command_words.specs.Numbers.{count_of, is_digit};
+ghost use Rattle.command_words.specs.Questions.{asks_behind, asks_moves, behind_of, moves_of, number_below, own_page, page_of};
 ghost use Rattle.command_words.specs.inner.Commands.{IsSized};
 ghost use Rattle.command_words.specs.Commands.{with_rounds, with_size, with_word};
 ghost use Rattle.std.specs.List.{list_all};
-ghost use Rattle.std.specs.Prelude.{◌≡◌, ◌≤◌, IfSome, map, string_bytes};
+ghost use Rattle.std.specs.Prelude.{◌≡◌, ◌≤◌, ◌^◌, IfSome, map, string_bytes};
 
-use text_words::readers::number;
+use crate::question::Question;
+use sgx_types::names::{Page, SECS_NUMBER};
+use text_words::readers::{letter, number};
 
 /// A command (this project's own).
 #[derive(Clone, Copy, Debug, PartialEq, Eq)]
@@ -30,12 +34,17 @@ pub enum Command {
     /// `migrate PATH`: the text in the second edition of a trace in the first, which is the file at the path, which is not empty.
     Migrate,
 
+    /// `query PATH PLACE L PAGE` or `moves PATH L PAGE`: what is asked of a trace of a job, which is the file at the path, which is not
+    /// empty.
+    Ask { question: Question },
+
     /// `gate ROUNDS`: from 1 to 100,000 rounds of four processors and a pager at a gate with no lock.
     Gate { rounds: u32 },
 }
 
-/// The command that these words name, which stand without the program's name. NUMBER, SIZE and ROUNDS are one to twenty decimal digits,
-/// with a value below 2^64.
+/// The command that these words name, which stand without the program's name. NUMBER, SIZE, ROUNDS and PLACE are one to twenty decimal
+/// digits, with a value below 2^64. L is a letter from A to H, whether a job has the enclave or not, and PAGE the number of a page in it,
+/// below 4294967295, or `secs`. Where L is `va`, PAGE is the number of a version array page, counted from 0 as they were made.
 pub fn command_of(words: &[String]) -> Option<Command>
     ensures value { result ≡ command_in (map string_bytes words.now) }
     ensures sized { IfSome result IsSized }
@@ -43,6 +52,8 @@ pub fn command_of(words: &[String]) -> Option<Command>
     match words {
         [name, word] => word_command(name, word),
         [name, first, second] => sized_command(name, first, second),
+        [name, path, letter, page] => moves_command(name, path, letter, page),
+        [name, path, place, letter, page] => query_command(name, path, place, letter, page),
         _ => None,
     }
 }
@@ -113,6 +124,90 @@ fn command_by(name: &str, number: u64, size: u32) -> Option<Command>
         Some(Command::Make { number, size })
     } else if name == "demo" {
         Some(Command::Demo { number, size })
+    } else {
+        None
+    }
+}
+
+fn query_command(name: &str, path: &str, place: &str, letter: &str, page: &str) -> Option<Command>
+    ensures value { result ≡ asks_behind name.now path.now place.now letter.now page.now }
+    ensures sized { IfSome result IsSized }
+{
+    if name == "query" && !path.is_empty() {
+        behind(place.as_bytes(), letter.as_bytes(), page.as_bytes())
+    } else {
+        None
+    }
+}
+
+fn behind(place: &[u8], letter: &[u8], page: &[u8]) -> Option<Command>
+    ensures value { result ≡ behind_of place.now letter.now page.now }
+    ensures sized { IfSome result IsSized }
+{
+    let place = count(place)?;
+    let page = page_of(letter, page)?;
+    Some(Command::Ask {
+        question: Question::Behind { place, page },
+    })
+}
+
+fn moves_command(name: &str, path: &str, letter: &str, page: &str) -> Option<Command>
+    ensures value { result ≡ asks_moves name.now path.now letter.now page.now }
+    ensures sized { IfSome result IsSized }
+{
+    if name == "moves" && !path.is_empty() {
+        moves(letter.as_bytes(), page.as_bytes())
+    } else {
+        None
+    }
+}
+
+fn moves(letter: &[u8], page: &[u8]) -> Option<Command>
+    ensures value { result ≡ moves_of letter.now page.now }
+    ensures sized { IfSome result IsSized }
+{
+    let page = page_of(letter, page)?;
+    Some(Command::Ask {
+        question: Question::Moves { page },
+    })
+}
+
+// The page that two words name.
+fn page_of(name: &[u8], page: &[u8]) -> Option<Page>
+    ensures { result ≡ page_of name.now page.now }
+{
+    if name == b"va".as_slice() {
+        let number = number_below(1 << 32, page)?;
+        Some(Page { enclave: 0, number })
+    } else {
+        let enclave = letter(name)?;
+        own_page(enclave, page)
+    }
+}
+
+// A page of an enclave, or its SECS.
+fn own_page(enclave: u16, page: &[u8]) -> Option<Page>
+    ensures { result ≡ own_page enclave page.now }
+{
+    if page == b"secs".as_slice() {
+        Some(Page {
+            enclave,
+            number: SECS_NUMBER,
+        })
+    } else {
+        let number = number_below(u64::from(SECS_NUMBER), page)?;
+        Some(Page { enclave, number })
+    }
+}
+
+// .. below a limit.
+fn number_below(limit: u64, word: &[u8]) -> Option<u32>
+    requires { limit ≤ 2 ^ 32 }
+    ensures { result ≡ number_below limit word.now }
+{
+    let number = count(word)?;
+    if number < limit {
+        Some(number as u32)
     } else {
         None
     }
