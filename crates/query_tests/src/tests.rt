@@ -4,3 +4,4 @@ mod done;
 mod moves;
 mod places;
 mod spans;
+mod words;

@@ -88,7 +88,6 @@ fn processors_cache_what_they_filled_inside(rt: HostRuntime) -> Result<(), Fail>
     let known = pushed(rt.alloc())?;
     for (place, (_, _, page, wanted)) in ROWS.iter().enumerate() {
         let n = place as u64 + 1;
-        assert!(rt; n <= known.len());
         let cpus = known.who_caches(rt.alloc(), n, *page)?;
         assert_eq!(rt; cpus.as_slice(), *wanted, "behind {n}");
     }
@@ -105,7 +104,6 @@ fn the_oldest_translation_goes(rt: HostRuntime) -> Result<(), Fail> {
         known.push(alloc, &entry_of(0, Deed::Fill(number)))?;
     }
     for (n, wanted) in [(65, true), (66, false)] {
-        assert!(rt; n <= known.len());
         let cpus = known.who_caches(alloc, n, P2)?;
         assert_eq!(rt; !cpus.is_empty(), wanted, "behind {n}");
     }
