@@ -22,6 +22,8 @@ mod meeting_tests;
 #[cfg(test)]
 mod paged_jobs;
 #[cfg(test)]
+mod question_tests;
+#[cfg(test)]
 mod reply_tests;
 #[cfg(test)]
 mod run_tests;

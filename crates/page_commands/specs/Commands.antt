@@ -2,6 +2,7 @@
 use Rattle.std.specs.Prelude.{ℕ, ◌≡◌, ◌⊎◌, Option, Some}
 use Rattle.command_words.specs.declared.command.Command.{Command}
 use Rattle.command_words.specs.declared.command.Command.TheVariants as commands
+use Rattle.command_words.specs.declared.question.Question.{Question}
 use Rattle.io_edges.specs.Faults.{HasRisen}
 use Rattle.run_jobs.specs.declared.ends.End.{End}
 use Rattle.run_jobs.specs.declared.ends.End.TheVariants as ends
@@ -12,9 +13,13 @@ use Rattle.page_commands.specs.declared.status.Status.TheVariants as statuses
 abbrev pub NoFault : ℕ → ℕ → Type 0
 NoFault old new = HasRisen old new → ⊥
 
+-- the command asks a question of an old trace
+abbrev pub Asks : Option Command → Type 0
+Asks command = (question : Question) × (command ≡ Some (commands.Ask question))
+
 -- the command reads an old trace, behind its job
 abbrev pub ReadsOld : Option Command → Type 0
-ReadsOld command = (command ≡ Some commands.Least) ⊎ (command ≡ Some commands.Audit)
+ReadsOld command = (command ≡ Some commands.Least) ⊎ (command ≡ Some commands.Audit) ⊎ Asks command
 
 -- the command reads a trace in the first edition
 abbrev pub Migrates : Option Command → Type 0
@@ -59,6 +64,7 @@ IsDemoEnd statuses.AuditNo = ⊥
 IsDemoEnd statuses.ReadFault = ⊥
 IsDemoEnd status = Unit {0}
 
+-- how `least` may end, and a question
 abbrev pub IsLeastEnd : Status → Type 0
 IsLeastEnd statuses.Done = Unit {0}
 IsLeastEnd status = IsUntraced status

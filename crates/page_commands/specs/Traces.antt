@@ -11,7 +11,9 @@ use Rattle.audit_command.specs.Verdict.{Verdict}
 use Rattle.audit_command.specs.Verdict.TheVariants as verdicts
 use Rattle.audit_command.specs.Judged.{Judges}
 use Rattle.audit_command.specs.VerdictText.{verdict_text}
+use Rattle.command_words.specs.declared.question.Question.{Question}
 use Rattle.least_command.specs.Fewest.{IsLeastText}
+use Rattle.query_command.specs.AnswerText.{answer_text}
 use Rattle.trace_migrate.specs.Migrated.{numbered}
 use Rattle.trace_text.specs.declared.edition.Edition.{Edition}
 use Rattle.trace_text.specs.declared.edition.Edition.TheVariants as editions
@@ -50,6 +52,10 @@ pub record TracedBy (bytes old_bytes : List ℕ) (Is : JobView → List Entry �
   pub entries : List Entry
   pub reads : Reads editions.Two old_bytes (Ok entries)
   pub is : Is job (reverse entries)
+
+-- .. and something was given of the text that answers a question to the trace
+abbrev pub AnsweredBy : Question → List ℕ → List ℕ → (List ℕ → Type 0) → Type 0
+AnsweredBy question bytes old_bytes Given = TracedBy bytes old_bytes (λ j past. Given (answer_text question past))
 
 -- the trace is a history of the job
 abbrev pub IsRight : List ℕ → List ℕ → Type 0

@@ -4,6 +4,7 @@ ghost use Rattle.std.specs.Prelude.{◌≡◌, ◌+◌, ◌^◌, ◌⊎◌, ◌�
 ghost use Rattle.std.specs.Prelude.{Some};
 ghost use Rattle.command_words.specs.Commands.{command_in};
 ghost use Rattle.command_words.specs.declared.command.Command.TheVariants as commands;
+ghost use Rattle.command_words.specs.declared.question.Question.{Question};
 ghost use Rattle.gate_command.specs.GateText.{gate_text};
 ghost use Rattle.io_edges.specs.Faults.{HasRisen};
 ghost use Rattle.io_edges.specs.Sinks.{GivesPart, followed_by};
@@ -12,15 +13,16 @@ ghost use Rattle.job_make.specs.MadeJob.{made_job};
 ghost use Rattle.job_print.specs.JobText.{job_text};
 ghost use Rattle.run_summary.specs.Summary.{summary_of};
 ghost use Rattle.old_trace.specs.Reading.{OfRead};
-ghost use Rattle.page_commands.specs.Commands.{HasEnded, IsAuditEnd, IsDemoEnd, IsLeastEnd, IsMigrateEnd, MayStandIn, Migrates};
+ghost use Rattle.page_commands.specs.Commands.{Asks, HasEnded, IsAuditEnd, IsDemoEnd, IsLeastEnd, IsMigrateEnd, MayStandIn, Migrates};
 ghost use Rattle.page_commands.specs.Commands.{NoFault, ReadsJob, ReadsOld};
 ghost use Rattle.page_commands.specs.Commands.{status_of};
 ghost use Rattle.page_commands.specs.Runs.{BothGiven, DemoBy, HalfGiven, HalfTold, HasFault, HasJob, IsTextGiven, RanBy, Told};
-ghost use Rattle.page_commands.specs.Traces.{HalfJudged, HalfLineTold, HasTrace, HasWrongLine, IsRight, IsWrong, LeastBy};
+ghost use Rattle.page_commands.specs.Traces.{AnsweredBy, HalfJudged, HalfLineTold, HasTrace, HasWrongLine, IsRight, IsWrong, LeastBy};
 ghost use Rattle.page_commands.specs.Traces.{LineTold, MigratedBy, NoTold};
 ghost use Rattle.page_commands.specs.Traces.{YesTold};
 ghost use Rattle.run_jobs.specs.declared.ends.End.{End};
 
+use crate::asking::ask_command;
 use crate::audit::audit_command;
 use crate::ended::{Ended, unrun};
 use crate::gates::rounds_command;
@@ -54,6 +56,10 @@ use turn_gate::gate::Gate;
 ///
 /// `audit PATH` reads the same two, whoever made the trace, and gives to `out` the verdict: `yes` where the trace is a history of the job,
 /// and else the first place at which a rule fails, and that rule.
+///
+/// `query PATH PLACE L PAGE` and `moves PATH L PAGE` read the same two, whoever made the trace, and answer a question to it. The one gives
+/// to `out` where the page was behind so many entries, which processors cached it there, and its first word. The other gives a line for
+/// each move of the page.
 ///
 /// `migrate PATH` reads a trace in the first edition from `old`, without a job, and gives to `out` the text of its entries in the second,
 /// whose version array pages are numbered. The other commands read and write the second edition alone.
@@ -193,6 +199,26 @@ pub fn sgxpage<
     ensures audit_else { command_in (map string_bytes words.now) ≡ Some commands.Audit →
         IsAuditEnd result.status × (trace.new ≡ trace.old) × (result.store ≡ None) }
 
+    // The answer to a question to the old trace.
+    ensures ask { (question : Question) → command_in (map string_bytes words.now) ≡ Some (commands.Ask question) →
+        result.status ≡ Status.Done → OfRead (J.left job.old) (λ bytes. OfRead (O.left old.old) (λ old_bytes.
+        AnsweredBy question bytes old_bytes (λ text. K.given out.new ≡ followed_by (K.given out.old) text))) }
+    ensures ask_complete { Asks (command_in (map string_bytes words.now)) →
+        IsSomeAnd (J.left job.old) HasJob → IsSomeAnd (O.left old.old) (HasTrace Edition.Two) →
+        NoFault (J.faults job.old) (J.faults job.new) →
+        NoFault (O.faults old.old) (O.faults old.new) →
+        NoFault (K.faults out.old) (K.faults out.new) →
+        (result.status ≡ Status.Done) ⊎ (result.status ≡ Status.Memory) }
+    ensures ask_broke { (question : Question) → command_in (map string_bytes words.now) ≡ Some (commands.Ask question) →
+        result.status ≡ Status.WriteFault →
+        OfRead (J.left job.old) (λ bytes. HalfTold bytes (K.given out.old) (K.given out.new)) × (old.new ≡ old.old)
+        ⊎ OfRead (J.left job.old) HasJob × OfRead (O.left old.old)
+        (λ bytes. HalfLineTold Edition.Two bytes (K.given out.old) (K.given out.new))
+        ⊎ OfRead (J.left job.old) (λ bytes. OfRead (O.left old.old) (λ old_bytes.
+        AnsweredBy question bytes old_bytes (λ text. GivesPart (K.given out.old) (K.given out.new) text))) }
+    ensures ask_else { Asks (command_in (map string_bytes words.now)) →
+        IsLeastEnd result.status × (trace.new ≡ trace.old) × (result.store ≡ None) }
+
     // The old trace of the first edition in the second.
     ensures migrate { Migrates (command_in (map string_bytes words.now)) → result.status ≡ Status.Done →
         OfRead (O.left old.old) (λ bytes. MigratedBy bytes (λ text. K.given out.new ≡ followed_by (K.given out.old) text)) }
@@ -229,6 +255,7 @@ pub fn sgxpage<
         ),
         Some(Command::Least) => unrun(least_command(alloc, job, old, out)),
         Some(Command::Audit) => unrun(audit_command(alloc, job, old, out)),
+        Some(Command::Ask { question }) => unrun(ask_command(alloc, question, job, old, out)),
         Some(Command::Migrate) => unrun(migrate_command(alloc, old, out)),
         Some(Command::Gate { rounds }) => unrun(rounds_command(rt, alloc, rounds, out)),
     }

@@ -1,6 +1,7 @@
 // The commands of the program, over sources, sinks and a store of any kind: what each does, and how it ends.
 #![tactic(auto)]
 
+mod asking;
 mod audit;
 pub mod command;
 pub mod complaints;

@@ -87,8 +87,16 @@ fn unread_words(why: ErrorKind) -> Status {
 // The path that the words name: of the trace that a run gives, or of the old one that is read. Other commands open none.
 fn trace_path(words: &[String]) -> &str {
     match (command_of(words), words.get(1)) {
-        (Some(Command::Run | Command::Audit | Command::Least | Command::Migrate), Some(path)) =>
-            path.as_str(),
+        (
+            Some(
+                Command::Run
+                | Command::Audit
+                | Command::Least
+                | Command::Ask { .. }
+                | Command::Migrate,
+            ),
+            Some(path),
+        ) => path.as_str(),
         _ => "",
     }
 }

@@ -1,6 +1,39 @@
-use Rattle.std.proofs.Common.{sym, ◌∙◌}
+use Rattle.std.proofs.Common.{◌≡◌, ◌⊎◌, Some, inl, inr, ⊎_elim, refl, sym, ap, ◌∙◌, subst}
+use Rattle.command_words.specs.declared.command.Command.TheVariants as commands
+use Rattle.command_words.specs.declared.question.Question.{Question}
+use Rattle.io_edges.specs.Sinks.{GivesPart}
+use Rattle.old_trace.specs.Reading.{OfRead}
+use Rattle.page_commands.specs.Traces.{AnsweredBy}
+use Rattle.page_commands.specs.declared.status.Status.{Status}
+use Rattle.page_commands.specs.declared.status.Status.TheVariants as statuses
 use Rattle.page_commands.proofs.command.sgxpage.Goals as goal
 
 pub returns-in-Some-Audit-clause-audit_broke : goal.returns-in-Some-Audit-clause-audit_broke
 returns-in-Some-Audit-clause-audit_broke g c = λ named failed.
     c.audit_command.ensures.broke (sym c.unrun-in-Some-Audit.ensures.status ∙ failed)
+
+pub returns-in-Some-Ask-clause-read_fault : goal.returns-in-Some-Ask-clause-read_fault
+returns-in-Some-Ask-clause-read_fault g c = λ fault.
+    let read = c.ask_command.ensures.read_fault (sym c.unrun-in-Some-Ask.ensures.status ∙ fault) in
+    let named = sym c.command_of.ensures.value ∙ c.in-Some-Ask.is ∙ ap Some c.in-Some-Ask.field-0-is in (
+      ⊎_elim (λ job. inl job) (λ old. inr (inl (inr (inr (c.in-Some-Ask.question, named)), old.0, old.1))) read.0,
+      read.1,
+      refl,
+      c.unrun-in-Some-Ask.ensures.store,
+    )
+
+pub returns-in-Some-Ask-clause-ask_complete : goal.returns-in-Some-Ask-clause-ask_complete
+returns-in-Some-Ask-clause-ask_complete g c = λ asks job trace job_read trace_read given.
+    let Ends : Status → Type 0 = λ status. (status ≡ statuses.Done) ⊎ (status ≡ statuses.Memory) in
+    subst Ends (sym c.unrun-in-Some-Ask.ensures.status) (c.ask_command.ensures.complete job trace job_read trace_read given)
+
+pub returns-in-Some-Ask-clause-ask_broke : goal.returns-in-Some-Ask-clause-ask_broke
+returns-in-Some-Ask-clause-ask_broke g c = λ question named failed.
+    let both : Some (commands.Ask c.in-Some-Ask.question) ≡ Some (commands.Ask question)
+    = ap Some (sym c.in-Some-Ask.field-0-is) ∙ sym c.in-Some-Ask.is ∙ c.command_of.ensures.value ∙ named in
+    let is : c.in-Some-Ask.question ≡ question = cc in
+    let Part : Question → Type 0 = λ q.
+    OfRead (g.J.Source.left c.args.job.now) (λ bytes. OfRead (g.O.Source.left c.args.old.now) (λ old_bytes.
+    AnsweredBy q bytes old_bytes (λ text. GivesPart (g.K.Sink.given c.args.out.now) (g.K.Sink.given c.ask_command.new.out) text))) in
+    ⊎_elim (λ line. inl line) (⊎_elim (λ line. inr (inl line)) (λ part. inr (inr (subst Part is part))))
+    (c.ask_command.ensures.broke (sym c.unrun-in-Some-Ask.ensures.status ∙ failed))
