@@ -22,7 +22,8 @@ use Rattle.sgx_rules.specs.declared.entries.Event.TheVariants.{Did}
 use Rattle.sgx_rules.specs.declared.refusals.Refusal.{Refusal}
 use Rattle.sgx_rules.specs.Table.{EnclaveSight, first_of_row, add_row}
 use Rattle.sgx_rules.proofs.Rows.{none_holds}
-use Rattle.sgx_rules.specs.Flat.{FlatMemory, FlatPage, Inside, accepts, memory_after, event_after, cpu_after, with_words, with_cssa, rewritten}
+use Rattle.sgx_rules.specs.Flat.{FlatMemory, FlatPage, Inside, accepts, memory_after, event_after, cpu_after, with_words, with_cssa}
+use Rattle.sgx_rules.specs.Flat.{rewritten}
 use Rattle.sgx_rules.specs.Flat.{word_index, fields_in, stored, saved, first_words, open_frame, settled, enclave_sight}
 use Rattle.flat_words.specs.declared.writes.NewPage.{NewPage}
 use Rattle.flat_words.specs.Words.{word_of, word_in}

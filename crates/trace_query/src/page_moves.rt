@@ -49,8 +49,8 @@ impl PageMoves {
         self.len
     }
 
-    /// Where a page was behind the first `n` entries, or behind all where there are fewer. The SECS of enclave E is asked for as page 4294967295 of E, and the version
-    /// array page that was made as the K-th, counted from 0, as page K of enclave 0.
+    /// Where a page was behind the first `n` entries, or behind all where there are fewer. The SECS of enclave E is asked for as page
+    /// 4294967295 of E, and the version array page that was made as the K-th, counted from 0, as page K of enclave 0.
     pub fn where_is(&self, n: u64, page: Page) -> Where
         ensures { (past : List Entry) → Follows self.now past → result ≡ place_of (before n past) page }
     {

@@ -15,7 +15,8 @@ returns-then-count-eq0 c = λ rises.
     let count : ℕ = c.partition_point-count.result in
     let parts = IsPartitionPoint-from_clause (λ (step : Move). nat_le step.place n) list count c.partition_point-count.ensures.partitioned
     (IsPartitionedBy-leb (λ (step : Move). step.place) list n rises) (λ a r f h. search rules) in
-    sym (none_up_to (λ (step : Move). step.place) (λ (step : Move). step.to) Nowhere list n none (λ k h. parts.1 k none (omega (arith, c.if-count-eq0.true)) h))
+    sym (none_up_to (λ (step : Move). step.place) (λ (step : Move). step.to) Nowhere list n none
+    (λ k h. parts.1 k none (omega (arith, c.if-count-eq0.true)) h))
 
 pub returns : goal.returns
 returns c = λ rises.
@@ -24,6 +25,7 @@ returns c = λ rises.
     let count : ℕ = c.partition_point-count.result in
     let parts = IsPartitionPoint-from_clause (λ (step : Move). nat_le step.place n) list count c.partition_point-count.ensures.partitioned
     (IsPartitionedBy-leb (λ (step : Move). step.place) list n rises) (λ a r f h. search rules) in
-    sym (some_up_to (λ (step : Move). step.place) (λ (step : Move). step.to) Nowhere list n (count - 1) none (omega (arith, c.partition_point-count.ensures.bound, c.if-count-eq0.false))
+    sym (some_up_to (λ (step : Move). step.place) (λ (step : Move). step.to) Nowhere list n (count - 1) none
+    (omega (arith, c.partition_point-count.ensures.bound, c.if-count-eq0.false))
     (λ k h. parts.0 k none (omega arith) (omega (arith, h, c.if-count-eq0.false)))
     (λ k h l. parts.1 k none (omega (arith, h, c.if-count-eq0.false)) l))

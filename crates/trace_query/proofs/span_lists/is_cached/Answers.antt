@@ -15,7 +15,8 @@ returns-then-count-eq0 c = λ rises.
     let count : ℕ = c.partition_point-count.result in
     let parts = IsPartitionPoint-from_clause (λ (span : Span). nat_le span.from n) list count c.partition_point-count.ensures.partitioned
     (IsPartitionedBy-leb (λ (span : Span). span.from) list n rises) (λ a r f h. search rules) in
-    sym (none_up_to (λ (span : Span). span.from) (λ (span : Span). is_before n span.to) false list n none (λ k h. parts.1 k none (omega (arith, c.if-count-eq0.true)) h))
+    sym (none_up_to (λ (span : Span). span.from) (λ (span : Span). is_before n span.to) false list n none
+    (λ k h. parts.1 k none (omega (arith, c.if-count-eq0.true)) h))
 
 pub returns : goal.returns
 returns c = λ rises.
