@@ -1,6 +1,7 @@
 //! Tests of questions to a trace.
 
 mod done;
+mod long;
 mod moves;
 mod places;
 mod spans;
