@@ -76,11 +76,33 @@ fn words_are(rt: &impl Abort, index: &Index, most: u64) {
     }
 }
 
+// Where page 2 is behind so many entries, and whether processor 0 caches it there.
+const SEEN: &[(u64, Where, bool)] = &[
+    (3, Where::Nowhere, false),
+    (4, Where::At(Frame(4)), false),
+    (9, Where::At(Frame(4)), false),
+    (10, Where::At(Frame(4)), true),
+    (12, Where::At(Frame(4)), false),
+];
+
+fn is_seen(rt: &impl Abort, alloc: Global, index: &Index, most: u64) {
+    for (n, there, cached) in SEEN {
+        if *n <= most {
+            assert_eq!(rt; index.where_is(*n, P2), *there, "behind {n}");
+            if let Ok(cpus) = index.who_caches(alloc, *n, P2) {
+                assert_eq!(rt; !cpus.is_empty(), *cached, "cached behind {n}");
+            }
+        }
+    }
+}
+
 // Pushes the entries. Where one is refused memory, what was known is known still, and the next try takes the entry.
 fn push_all(rt: &impl Abort, alloc: Global, index: &mut Index, entries: &[Entry]) {
     for (place, entry) in entries.iter().enumerate() {
         if index.push(alloc, entry).is_err() {
+            assert_eq!(rt; index.len(), place as u64);
             words_are(rt, index, place as u64);
+            is_seen(rt, alloc, index, place as u64);
             let again = index.push(alloc, entry);
             assert!(rt; again.is_ok());
         }
@@ -101,6 +123,7 @@ fn questions_are_answered_behind_each_entry(rt: HostRuntime) -> Result<(), Fail>
     push_all(&rt, alloc, &mut index, &entries);
     assert_eq!(rt; index.len(), 13);
     words_are(&rt, &index, u64::MAX);
+    is_seen(&rt, alloc, &index, u64::MAX);
     assert_eq!(rt; index.where_is(13, P2), Where::At(Frame(4)));
     assert_eq!(rt; index.where_is(3, P2), Where::Nowhere);
     let cpus = index.who_caches(alloc, 10, P2)?;
