@@ -71,8 +71,8 @@ r eld 2 A 0 2 abababababababababababababababababababababababababababababababab\n
     ),
 ];
 
-// Calls the program with these words, this job and this old trace over edges that move and fail so, and compares how that ends and what is given. The trace that a
-// run would give fails at its first call.
+// Calls the program with these words, this job and this old trace over edges that move and fail so, and compares how that ends and what is
+// given. The trace that a run would give fails at its first call.
 fn tells(
     rt: &(impl Abort + Alloc<A = Global> + Threads + Wait + Sync),
     words: &[&str],

@@ -316,7 +316,8 @@ can_move k j past e positive s keeps fits script age = by_event e.event keeps.re
         absent_is (place past g) (sym (s.added g) ∙ ap is_some (added_flat past before.flat g) ∙ some_added ((flat past).pages g) ∙ none)
 
     added_row : (n number : ℕ) (kind : Kind) (perm : Perm) (init : PageInit) (f : Frame)
-        → first_of_row (add_row number kind perm init (enclave_sight (flat past) n) (secs_sight_at k.frames past n) (is_some ((flat past).pages (page_at n number)))
+        → first_of_row (add_row number kind perm init (enclave_sight (flat past) n) (secs_sight_at k.frames past n)
+        (is_some ((flat past).pages (page_at n number)))
         (sight_at k.frames past f.0)) ≡ None → is_some ((flat past).pages (page_at n number)) ≡ false
     added_row n number kind perm init f h =
         let o = enclave_sight (flat past) n in

@@ -175,7 +175,8 @@ put_starting at held opened f a slot named v q who s leaving = record {
     no_loads g = sym (s.loads g f) ∙ no_load_slot (opened f) g (s.loading f ∙ no_load)
 
     by_write : (n : ℕ) (b : Bool) → (f == n) ≡ b
-        → is_write_start (if b then Some (record { at = slot; slot = named; version = v; loads = None; place = q; actor = who }) else opened n) ≡ true
+        → is_write_start (if b then Some (record { at = slot; slot = named; version = v; loads = None; place = q; actor = who })
+        else opened n) ≡ true
         → (g : Page) × (at g ≡ Leaving n)
     by_write n true is h = (a, leaving ∙ ap Leaving (eqb-true f n is))
     by_write n false is h = s.writes n h
@@ -244,7 +245,8 @@ put_loading at held opened f a before slot named v q who s free away = record {
     no_loads g = sym (s.loads g f) ∙ no_load_slot (opened f) g (s.loading f ∙ ap is_loading free)
 
     by_write : (n : ℕ) (b : Bool) → (f == n) ≡ b
-        → is_write_start (if b then Some (record { at = slot; slot = named; version = v; loads = Some a; place = q; actor = who }) else opened n) ≡ true
+        → is_write_start (if b then Some (record { at = slot; slot = named; version = v; loads = Some a; place = q; actor = who })
+        else opened n) ≡ true
         → (g : Page) × ((if same_page a g then Loading f slot else at g) ≡ Leaving n)
     by_write n true is h = cc
     by_write n false is h = let w = s.writes n h in (w.0, grind (arith, same_pages))

@@ -17,7 +17,8 @@ use Rattle.sgx_rules.specs.Slots.{is_busy_at, is_busy_of, is_va_of, version_at}
 use Rattle.sgx_types.specs.inner.Places.{same_place}
 use Rattle.driver_laws.specs.inner.ByFrame.{IsIdle, version_in}
 use Rattle.sgx_rules.specs.Starts.{Start, open_start}
-use Rattle.sgx_rules.specs.Table.{DrainSight, FrameSight, LoadSight, SecsSight, eldstart_row, ewbstart_row, first_of_row, is_busy, is_loading}
+use Rattle.sgx_rules.specs.Table.{DrainSight, FrameSight, LoadSight, SecsSight, eldstart_row}
+use Rattle.sgx_rules.specs.Table.{ewbstart_row, first_of_row, is_busy, is_loading}
 use Rattle.sgx_rules.specs.Table.{is_out_of_range, is_own, is_secs, is_va}
 use Rattle.sgx_rules.specs.declared.entries.Action.TheVariants.{Add, Create, Eld, EldStart, Epa, Ewb}
 use Rattle.sgx_rules.specs.declared.entries.Answer.TheVariants.{Moved}
@@ -244,7 +245,8 @@ load_goes frames j keeper past g slot f load s u sealing shows at free low slot_
     idle = rw (stays, free) (place_free frames past slot s sealing page (away_idle past g slot s at))
 
     some : (version_at past slot == 0) ≡ false
-    some = ap (λ v. v == 0) (sym (version_there past slot s.slots)) ∙ by_test (version_in past slot == 0) refl (u.filled g slot (ap slot_outside at))
+    some = ap (λ v. v == 0) (sym (version_there past slot s.slots))
+        ∙ by_test (version_in past slot == 0) refl (u.filled g slot (ap slot_outside at))
       where
         by_test : (b : Bool) → (version_in past slot == 0) ≡ b → 0 < version_in past slot → b ≡ false
         by_test false is low_version = refl

@@ -110,7 +110,8 @@ pub apart_starting : (at : Page → Place) (held : ℕ → Content) (opened : �
     (named : VaSlot) (v q : ℕ) (who : Actor)
     → PlacesAreFrames at held opened → at a ≡ Leaving f
     → ((g : Page) → slot_at opened (at g) ≡ Some slot → ⊥) → SlotsAreApart at opened
-    → SlotsAreApart at (λ n. if f == n then Some (record { at = slot; slot = named; version = v; loads = None; place = q; actor = who }) else opened n)
+    → SlotsAreApart at (λ n. if f == n then Some (record { at = slot; slot = named; version = v; loads = None; place = q; actor = who })
+    else opened n)
 apart_starting at held opened f a slot named v q who s leaving fresh h =
     more (λ g. slot_at opened (at g)) (λ g. slot_at now (at g)) a slot (λ g t. by_place g t (at g) refl) fresh h
   where
@@ -121,7 +122,8 @@ apart_starting at held opened f a slot named v q who s leaving fresh h =
     here = s.frames a f ∙ ap (λ y. stands_in y f) leaving ∙ eq-eqb f f refl
 
     by_frame : (g : Page) (t : SlotAt) (n : ℕ) (b : Bool) → (f == n) ≡ b → at g ≡ Leaving n
-        → slot_of_start (if b then Some (record { at = slot; slot = named; version = v; loads = None; place = q; actor = who }) else opened n) ≡ Some t
+        → slot_of_start (if b then Some (record { at = slot; slot = named; version = v; loads = None; place = q; actor = who })
+        else opened n) ≡ Some t
         → (slot_at opened (at g) ≡ Some t) ⊎ ((a ≡ g) × (slot ≡ t))
     by_frame g t n true is it k =
         let other : is_page (held f) g ≡ true = s.frames g f ∙ ap (λ y. stands_in y f) it ∙ rw (eqb-true f n is) (eq-eqb n n refl) in
@@ -181,7 +183,8 @@ apart_loading at held opened f a slot named v q who s free away h =
     now n = if f == n then Some (record { at = slot; slot = named; version = v; loads = Some a; place = q; actor = who }) else opened n
 
     by_frame : (g : Page) (t : SlotAt) (n : ℕ) (b : Bool) → (f == n) ≡ b → at g ≡ Leaving n
-        → slot_of_start (if b then Some (record { at = slot; slot = named; version = v; loads = Some a; place = q; actor = who }) else opened n)
+        → slot_of_start (if b then Some (record { at = slot; slot = named; version = v; loads = Some a; place = q; actor = who })
+        else opened n)
         ≡ Some t
         → slot_of_start (opened n) ≡ Some t
     by_frame g t n true is it k =

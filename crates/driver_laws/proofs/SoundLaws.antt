@@ -22,7 +22,8 @@ use Rattle.sgx_types.specs.declared.names.SlotAt.{SlotAt}
 use Rattle.sgx_rules.specs.declared.refusals.Refusal.{Refusal}
 use Rattle.sgx_types.specs.declared.names.TheConstants.{SECS_NUMBER}
 use Rattle.sgx_types.specs.Pages.{is_own_page, is_va_page, page_at, same_page, secs_page, va_page}
-use Rattle.sgx_rules.specs.Frames.{Content, Free, Holds, IsLoading, IsVa, SecsOf, added, content, is_page, reloaded, reloaded_as, stands, vas_made}
+use Rattle.sgx_rules.specs.Frames.{Content, Free, Holds, IsLoading, IsVa, SecsOf, added}
+use Rattle.sgx_rules.specs.Frames.{content, is_page, reloaded, reloaded_as, stands, vas_made}
 use Rattle.driver_laws.specs.inner.ByFrame.{PlacesAreSlots, SlotsByFrame, names_slot, open_slot, starting, version_in}
 use Rattle.sgx_rules.specs.Slots.{names_slot as names_found, open_slot as found_slot, version_in as version_of_slot}
 use Rattle.sgx_rules.specs.Starts.{Start, is_load_of, open_start, version_told}
@@ -79,7 +80,8 @@ sound_create past a e f base size answer free s = record {
   added = s.added;
   own = s.own;
   home = s.home;
-  slots = slots_moved (content past) (open_start past) (version_in past) (version_of_slot past) (vas_made past) f.0 (SecsOf e) (ap is_va free) refl s.slots;
+  slots = slots_moved (content past) (open_start past) (version_in past) (version_of_slot past) (vas_made past) f.0 (SecsOf e)
+      (ap is_va free) refl s.slots;
   secs = secs_created past f.0 e base size free s.secs;
 }
 
@@ -435,7 +437,8 @@ sound_eld past a f page version tag can s =
       slots =
           slots_left past f.0 (reloaded page (added past page)) 0 (loading_no_va (content past f.0) waits)
           (reloaded_no_va page (added past page) (there_own past page (Loading f.0 slot) s loading refl)) s.slots;
-      secs = secs_kept (λ e. is_some (created past e)) (content past) f.0 (reloaded page (added past page)) (loading_no_secs (content past f.0) waits) s.secs;
+      secs = secs_kept (λ e. is_some (created past e)) (content past) f.0 (reloaded page (added past page))
+          (loading_no_secs (content past f.0) waits) s.secs;
     }
 
 absent-back : (p : Place) → is_absent (back_to p) ≡ is_absent p

@@ -1,4 +1,5 @@
-//! Entries that break the rule Kick, and no rule before it. The reference program names Kick at half of them; the others are written by hand.
+//! Entries that break the rule Kick, and no rule before it. The reference program names Kick at half of them; the others are written by
+//! hand.
 
 ghost use Rattle.std.specs.Prelude.{◌≡◌, true};
 ghost use Rattle.sgx_types.specs.declared.names.Actor.TheVariants.{Reclaimer};

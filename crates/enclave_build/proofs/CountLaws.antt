@@ -39,12 +39,14 @@ pub counted_put : (frames : ℕ) (old new : ℕ → Content) (f : ℕ) (c : Cont
     → IsCountedIn frames old e x → IsCountedIn frames new e y
 counted_put frames old new f c e x y low put none no_secs frame children_are h = record {
   children =
-      let now : children frames new e ≡ _ = count_below-agrees (λ n. is_child (new n) e) (λ n. cond (f == n) (is_child c e) (is_child (old n) e))
+      let now : children frames new e ≡ _ = count_below-agrees (λ n. is_child (new n) e)
+      (λ n. cond (f == n) (is_child c e) (is_child (old n) e))
       (λ n. ap (λ v. is_child v e) (put n) ∙ moved (λ v. is_child v e) (f == n) (old n)) frames in
       let one = count_below-put (λ n. is_child (old n) e) frames f (is_child c e) low in
       omega (arith, now, one, h.children, children_are);
   frame = ap (option_map (λ (f : Frame). f.0)) frame ∙ h.frame
-      ∙ sym (least_agrees (λ n. is_secs_of (new n) e) (λ n. is_secs_of (old n) e) frames (λ n less. ap (λ v. is_secs_of v e) (put n) ∙ same n));
+      ∙ sym (least_agrees (λ n. is_secs_of (new n) e) (λ n. is_secs_of (old n) e) frames
+      (λ n less. ap (λ v. is_secs_of v e) (put n) ∙ same n));
 }
   where
     moved : (test : Content → Bool) (b : Bool) (v : Content) → test (cond b c v) ≡ cond b (test c) (test v)

@@ -47,7 +47,8 @@ pub fn eadd(
     requires counted { IsCountedIn (length epc.old) (held_in epc.old) secs.old.enclave secs.old }
     requires small { length epc.old ≤ MOST_FRAMES }
     ensures row { refusal_in result
-        ≡ first_of_row (add_row number kind perm init (Some (sight_of secs.old)) (secs_sight epc.old secs.old.enclave) (is_some (added_at secs.old number))
+        ≡ first_of_row (add_row number kind perm init (Some (sight_of secs.old)) (secs_sight epc.old secs.old.enclave)
+        (is_some (added_at secs.old number))
         (sight_in epc.old frame.0)) }
     ensures done { OnOk result (epc.new ≡ with_added epc.old frame.0 (page_at secs.old.enclave number) kind perm init) }
     ensures secs { OnOk result (secs.new ≡ with_resident secs.old number kind perm) }
@@ -78,7 +79,8 @@ fn add_refusal(
 ) -> Option<Refusal>
     requires { IsCountedIn (length epc.now) (held_in epc.now) secs.now.enclave secs.now }
     ensures { result
-        ≡ first_of_row (add_row number kind perm init (Some (sight_of secs.now)) (secs_sight epc.now secs.now.enclave) (is_some (added_at secs.now number))
+        ≡ first_of_row (add_row number kind perm init (Some (sight_of secs.now)) (secs_sight epc.now secs.now.enclave)
+        (is_some (added_at secs.now number))
         (sight_in epc.now frame.0)) }
 {
     if frame.0 >= epc.frames() {

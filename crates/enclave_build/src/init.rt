@@ -19,8 +19,8 @@ use sgx_rules::refusals::Refusal;
 
 /// EINIT (Intel SDM volume 3D): an enclave is initialised, and answers the measurement of its log, SHA-256.
 ///
-/// Refused, in this order, as Absent where no frame holds the SECS; Conflict while it is on its way out; IsInit; and as BadMeasure, with the measurement, where `expect` has another digest. No
-/// signature, token or attribute is looked at, which is this project's own.
+/// Refused, in this order, as Absent where no frame holds the SECS; Conflict while it is on its way out; IsInit; and as BadMeasure, with
+/// the measurement, where `expect` has another digest. No signature, token or attribute is looked at, which is this project's own.
 pub fn einit(
     epc: &Epc,
     secs: &mut Secs,
@@ -28,10 +28,12 @@ pub fn einit(
     expect: Option<[u8; 32]>,
 ) -> Result<[u8; 32], Refusal>
     requires counted { IsCountedIn (length epc.now) (held_in epc.now) secs.old.enclave secs.old }
-    ensures row { unless_measured (refusal_in result) ≡ first_of_row (init_row (Some (sight_of secs.old)) (secs_sight epc.now secs.old.enclave)) }
+    ensures row { unless_measured (refusal_in result)
+        ≡ first_of_row (init_row (Some (sight_of secs.old)) (secs_sight epc.now secs.old.enclave)) }
     // The row with one case more behind its others: that another digest is expected.
     ensures measured { (bytes : List ℕ) → HoldsLog log.now bytes
-        → refusal_in result ≡ first_of_row (measured_row (sight_of secs.old) (secs_sight epc.now secs.old.enclave) expect (measurement_of bytes)) }
+        → refusal_in result ≡ first_of_row (measured_row (sight_of secs.old) (secs_sight epc.now secs.old.enclave) expect
+        (measurement_of bytes)) }
     ensures expected { AgreesWith expect result }
     ensures done { OnOk result (secs.new ≡ with_init secs.old) }
     ensures answer { (bytes : List ℕ) → HoldsLog log.now bytes → IfOk result (λ digest. digest ≡ measurement_of bytes) }

@@ -20,7 +20,12 @@ module _ (entries : List EntryView) (pages : List (List (List ℕ))) (same : len
   secs_found k low here before =
       let size = length-frames_of entries pages same in
       sym (least_is (λ n. is_secs_of (held_in (frames_of entries pages) n) e) (length (frames_of entries pages)) k
-      (record { below = omega (arith, low, size); passes = seen k low ∙ here; least = λ j less. seen j (omega (arith, low, less)) ∙ before j less }))
+      (record {
+        below = omega (arith, low, size);
+        passes = seen k low ∙ here;
+        least = λ j less. seen j (omega (arith, low, less))
+            ∙ before j less;
+      }))
 
   pub secs_none : (end : ℕ) → length entries ≤ end → ((j : ℕ) → j < end → at j ≡ false)
       → None ≡ secs_frame (length (frames_of entries pages)) (held_in (frames_of entries pages)) e

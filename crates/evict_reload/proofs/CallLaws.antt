@@ -74,7 +74,8 @@ after_start_in epc epc' va va' f page slot load (Ok version) pages row loads mar
     (pages-with_entry epc va f (views.Loading page) pages range.frame (sym (invalid_no_va (sight_in epc f).content d.0))) at)
 
 -- the start of EWB
-pub after_start_out : (epc epc' : List EpcFrame) (va va' : List (Option (List SlotState))) (f : ℕ) (slot : SlotAt) (uses : UseSight) (drain : DrainSight)
+pub after_start_out : (epc epc' : List EpcFrame) (va va' : List (Option (List SlotState))) (f : ℕ) (slot : SlotAt) (uses : UseSight)
+    (drain : DrainSight)
     (next next' : ℕ) (result : Result ℕ Refusal) → AreVaPages epc va
     → refusal_in result ≡ first_of_row (ewbstart_row (sight_in epc f) uses (slot_sight epc va slot) drain (is_spent_at next))
     → OnOk result (epc' ≡ with_sealing epc f) → OnOk result (va' ≡ with_busy va slot true)
@@ -111,7 +112,8 @@ pages_put epc after va after_va f c pages put table n =
     moved false v = refl
 
 -- a table that has no page at a frame, and none once it is taken out
-none_at : (va : List (Option (List SlotState))) (f : ℕ) → has_page va f ≡ false → (n : ℕ) → has_page va n ≡ cond (f == n) false (has_page va n)
+none_at : (va : List (Option (List SlotState))) (f : ℕ) → has_page va f ≡ false → (n : ℕ)
+    → has_page va n ≡ cond (f == n) false (has_page va n)
 none_at va f none n =
     sym (cond_both (f == n) false (has_page va n) (λ v. v ≡ has_page va n)
     (λ here. sym none ∙ ap (has_page va) (eqb-true f n here)) (λ _. refl))
@@ -129,7 +131,8 @@ slot_beside va after_va f b slot at apart table = record {
 }
 
 -- the table with the page that came into a Loading frame
-table_in : (va : List (Option (List SlotState))) (f : ℕ) (plain : List ℕ) (array : Bool) → (array ≡ true → f < length va) → has_page va f ≡ false → (n : ℕ)
+table_in : (va : List (Option (List SlotState))) (f : ℕ) (plain : List ℕ) (array : Bool) → (array ≡ true → f < length va)
+    → has_page va f ≡ false → (n : ℕ)
     → has_page (refilled array va f plain) n ≡ cond (f == n) array (has_page va n)
 table_in va f plain true few none n =
     ap is_some (page_at-filled va f n plain (few refl)) ∙ some_moved (f == n) (Some (filled_page plain)) (page_at va n)
@@ -146,7 +149,8 @@ pub after_commit_in : (epc epc' : List EpcFrame) (va va' : List (Option (List Sl
     (kind : Option (Kind × Perm)) (plain : List ℕ) (result : Result (Unit {0}) Refusal)
     → OnOk result (epc' ≡ with_plain epc f page kind plain) → OnOk result (va' ≡ with_in va f page plain slot)
     → OnErr result ((epc' ≡ cleared epc f) × (va' ≡ with_busy va slot false))
-    → AreVaPages epc va → IsSlot va slot → f < length epc → (is_va_page page ≡ true → f < length va) → held_in epc f ≡ IsLoading page → is_some kind ≡ true
+    → AreVaPages epc va → IsSlot va slot → f < length epc → (is_va_page page ≡ true → f < length va) → held_in epc f ≡ IsLoading page
+    → is_some kind ≡ true
     → IfSome kind (λ x. is_va_page page ≡ is_array x.0) → AreVaPages epc' va'
 after_commit_in epc epc' va va' f slot page kind plain (Err refusal) loads ends same pages at low few waits known array =
     rw (same.0, same.1) (pages-with_slot (cleared epc f) va slot _

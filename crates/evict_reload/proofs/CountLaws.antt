@@ -42,12 +42,14 @@ pub counted_put : (frames : ℕ) (old new : ℕ → Content) (f : ℕ) (c : Cont
     → IsCountedIn frames old e x → IsCountedIn frames new e y
 counted_put frames old new f c e x y low put none no_secs frame children_are h = record {
   children =
-      let now : children frames new e ≡ _ = count_below-agrees (λ n. is_child (new n) e) (λ n. cond (f == n) (is_child c e) (is_child (old n) e))
+      let now : children frames new e ≡ _ = count_below-agrees (λ n. is_child (new n) e)
+      (λ n. cond (f == n) (is_child c e) (is_child (old n) e))
       (λ n. ap (λ v. is_child v e) (put n) ∙ moved (λ v. is_child v e) (f == n) (old n)) frames in
       let one = count_below-put (λ n. is_child (old n) e) frames f (is_child c e) low in
       omega (arith, now, one, h.children, children_are);
   frame = ap (option_map (λ (f : Frame). f.0)) frame ∙ h.frame
-      ∙ sym (least_agrees (λ n. is_secs_of (new n) e) (λ n. is_secs_of (old n) e) frames (λ n less. ap (λ v. is_secs_of v e) (put n) ∙ same n));
+      ∙ sym (least_agrees (λ n. is_secs_of (new n) e) (λ n. is_secs_of (old n) e) frames
+      (λ n less. ap (λ v. is_secs_of v e) (put n) ∙ same n));
 }
   where
     moved : (test : Content → Bool) (b : Bool) (v : Content) → test (cond b c v) ≡ cond b (test c) (test v)
@@ -96,7 +98,8 @@ loading_counted epc table f page low free eight numbered h e = by_page (is_own_p
         → IfSome (enclave_at (with_child_of table page.enclave o) e) (IsCountedIn (length (with_loading epc f page)) new e)
     by_enclave None own is = by_number (page.enclave == e) refl
       where
-        by_number : (b : Bool) → (page.enclave == e) ≡ b → IfSome (enclave_at table e) (IsCountedIn (length (with_loading epc f page)) new e)
+        by_number : (b : Bool) → (page.enclave == e) ≡ b → IfSome (enclave_at table e)
+            (IsCountedIn (length (with_loading epc f page)) new e)
         by_number false other = same_one (rw (own, other) refl) (enclave_at table e) (h e)
         by_number true here = rw (ap (enclave_at table) (sym (eqb-true page.enclave e here)) ∙ is) tt
     by_enclave (Some x) own is =
@@ -104,11 +107,13 @@ loading_counted epc table f page low free eight numbered h e = by_page (is_own_p
         (by_number (page.enclave == e) refl)
       where
         by_number : (b : Bool) → (page.enclave == e) ≡ b
-            → IfSome (cond b (Some (with_children x (x.children + 1))) (enclave_at table e)) (IsCountedIn (length (with_loading epc f page)) new e)
+            → IfSome (cond b (Some (with_children x (x.children + 1))) (enclave_at table e))
+            (IsCountedIn (length (with_loading epc f page)) new e)
         by_number false other = same_one (rw (own, other) refl) (enclave_at table e) (h e)
         by_number true here =
             let was : IsCountedIn (length epc) (held_in epc) e x =
-            subst (λ o. IfSome o (IsCountedIn (length epc) (held_in epc) e)) (ap (enclave_at table) (sym (eqb-true page.enclave e here)) ∙ is) (h e) in
+            subst (λ o. IfSome o (IsCountedIn (length epc) (held_in epc) e))
+            (ap (enclave_at table) (sym (eqb-true page.enclave e here)) ∙ is) (h e) in
             one x (with_children x (x.children + 1)) refl (rw (own, here) refl) was
 
     by_page : (b : Bool) → is_own_page page ≡ b
@@ -221,7 +226,8 @@ module _ (epc : List EpcFrame) (table : List (Option SecsState)) (f : ℕ) (low 
       by_enclave : (o : Option SecsState) → IfSome o (IsCountedIn (length epc) (held_in epc) e)
           → IfSome o (IsCountedIn (length (cleared epc f)) new e)
       by_enclave None was = tt
-      by_enclave (Some x) was = rw frames_same (counted_put (length epc) (held_in epc) new f Free e x x low (held-cleared epc f low) no_secs refl refl
+      by_enclave (Some x) was = rw frames_same
+          (counted_put (length epc) (held_in epc) new f Free e x x low (held-cleared epc f low) no_secs refl refl
           (rw no_child refl) was)
 
   -- a page went out, or its load was refused
@@ -268,7 +274,8 @@ module _ (epc : List EpcFrame) (table : List (Option SecsState)) (f : ℕ) (low 
 
   -- a SECS went out
   pub secs_out : (enclave : ℕ) → held_in epc f ≡ SecsOf enclave
-      → AreCountedIn (cleared epc f) (with_frame_of table enclave (secs_frame (length (cleared epc f)) new enclave) (enclave_at table enclave))
+      → AreCountedIn (cleared epc f)
+      (with_frame_of table enclave (secs_frame (length (cleared epc f)) new enclave) (enclave_at table enclave))
   secs_out enclave holds = by_enclave (enclave_at table enclave) refl
     where
       others : (n : ℕ) → (enclave == n) ≡ false → IfSome (enclave_at table n) (IsCountedIn (length (cleared epc f)) new n)
@@ -291,7 +298,8 @@ module _ (epc : List EpcFrame) (table : List (Option SecsState)) (f : ℕ) (low 
           number (Some n) = refl
 
           here : IsCountedIn (length (cleared epc f)) new enclave
-              (with_frame x (option_map (λ (n : ℕ). (let g : Frame = record { 0 = n } in g)) (secs_frame (length (cleared epc f)) new enclave)))
+              (with_frame x (option_map (λ (n : ℕ). (let g : Frame = record { 0 = n } in g))
+              (secs_frame (length (cleared epc f)) new enclave)))
           here = record {
             children =
                 let now : children (length epc) new enclave ≡ _ =
@@ -316,8 +324,10 @@ pub page_out : (epc : List EpcFrame) (table : List (Option SecsState)) (f : ℕ)
     → length table ≡ 8 → AreCountedIn epc table → held_in epc f ≡ content_of page kind perm
     → AreCountedIn (cleared epc f) (without_page_of (cleared epc f) table page kind)
 page_out epc table f page kinds.Secs perm low eight h holds = secs_out epc table f low eight h page.enclave holds
-page_out epc table f page kinds.Tcs perm low eight h holds = child_out epc table f low eight h page.enclave (λ n. rw holds refl) (λ n. rw holds refl)
-page_out epc table f page kinds.Reg perm low eight h holds = child_out epc table f low eight h page.enclave (λ n. rw holds refl) (λ n. rw holds refl)
+page_out epc table f page kinds.Tcs perm low eight h holds =
+    child_out epc table f low eight h page.enclave (λ n. rw holds refl) (λ n. rw holds refl)
+page_out epc table f page kinds.Reg perm low eight h holds =
+    child_out epc table f low eight h page.enclave (λ n. rw holds refl) (λ n. rw holds refl)
 page_out epc table f page kinds.Va perm low eight h holds = array_out epc table f low eight h page.number holds
 
 -- a page of an enclave counts in it while it is there
@@ -325,8 +335,10 @@ pub page_there : (epc : List EpcFrame) (table : List (Option SecsState)) (f : �
     → length table ≡ 8 → AreCountedIn epc table → held_in epc f ≡ content_of page kind perm → is_kind_own kind ≡ true
     → IfSome (enclave_at table page.enclave) (λ x. x.children ≢ 0)
 page_there epc table f page kinds.Secs perm low eight h holds own = cc own
-page_there epc table f page kinds.Tcs perm low eight h holds own = child_there epc table f low eight h page.enclave (rw (holds, eq-eqb page.enclave page.enclave refl) refl)
-page_there epc table f page kinds.Reg perm low eight h holds own = child_there epc table f low eight h page.enclave (rw (holds, eq-eqb page.enclave page.enclave refl) refl)
+page_there epc table f page kinds.Tcs perm low eight h holds own =
+    child_there epc table f low eight h page.enclave (rw (holds, eq-eqb page.enclave page.enclave refl) refl)
+page_there epc table f page kinds.Reg perm low eight h holds own =
+    child_there epc table f low eight h page.enclave (rw (holds, eq-eqb page.enclave page.enclave refl) refl)
 page_there epc table f page kinds.Va perm low eight h holds own = cc own
 
 -- a table that is as it was
@@ -334,7 +346,8 @@ same_beside : (table : List (Option SecsState)) → SameBeside table table
 same_beside table = record { places = refl; each = λ n. refl }
 
 -- what is changed of one enclave's counts changes nothing beside them
-with_beside : (table : List (Option SecsState)) (e : ℕ) (x y : SecsState) → length table ≡ 8 → enclave_at table e ≡ Some x → beside y ≡ beside x
+with_beside : (table : List (Option SecsState)) (e : ℕ) (x y : SecsState) → length table ≡ 8 → enclave_at table e ≡ Some x
+    → beside y ≡ beside x
     → SameBeside table (with_enclave table e y)
 with_beside table e x y eight is same = record {
   places = length-set table (e - 1) (Some y);
@@ -370,7 +383,8 @@ sealing_within epc f leaves = by_order (nat_le (length epc) f) refl
 
 -- ---- what comes in
 
-module _ (epc after : List EpcFrame) (table : List (Option SecsState)) (f : ℕ) (c : Content) (low : f < length epc) (eight : length table ≡ 8)
+module _ (epc after : List EpcFrame) (table : List (Option SecsState)) (f : ℕ) (c : Content) (low : f < length epc)
+    (eight : length table ≡ 8)
     (h : AreCountedIn epc table) (frames_same : length after ≡ length epc)
     (put : (n : ℕ) → held_in after n ≡ cond (f == n) c (held_in epc n)) where
   -- an enclave with as many pages and with its SECS as before
@@ -414,11 +428,13 @@ module _ (epc after : List EpcFrame) (table : List (Option SecsState)) (f : ℕ)
           moved false v = refl
 
           here : IsCountedIn (length after) (held_in after) enclave
-              (with_frame x (option_map (λ (n : ℕ). (let g : Frame = record { 0 = n } in g)) (secs_frame (length after) (held_in after) enclave)))
+              (with_frame x (option_map (λ (n : ℕ). (let g : Frame = record { 0 = n } in g))
+              (secs_frame (length after) (held_in after) enclave)))
           here = record {
             children =
                 let now : children (length epc) (held_in after) enclave ≡ _ =
-                count_below-agrees (λ n. is_child (held_in after n) enclave) (λ n. cond (f == n) (is_child c enclave) (is_child (held_in epc n) enclave))
+                count_below-agrees (λ n. is_child (held_in after n) enclave)
+                (λ n. cond (f == n) (is_child c enclave) (is_child (held_in epc n) enclave))
                 (λ n. ap (λ v. is_child v enclave) (put n) ∙ moved (f == n) (held_in epc n)) (length epc) in
                 let one = count_below-put (λ n. is_child (held_in epc n) enclave) (length epc) f (is_child c enclave) low in
                 rw frames_same (omega (arith, now, rw (same enclave) at one, was.children));

@@ -66,7 +66,8 @@ pub stay_first : (s : FrameSight) (uses : UseSight) (slot : SlotSight) (drain : 
     → (not (is_va slot.frame.content) || uses.is_its_own) ≡ false → first_of_row (stay_row s uses.children drain) ≡ Some r
     → Some r ≡ first_of_row (ewbstart_row s uses slot drain spent)
 stay_first s uses slot drain spent r range busy free kind is =
-    rw (range, busy, free, kind) (sym (first_longer (stay_row s uses.children drain) (when (not (slot.version == 0)) (why.SlotOccupied slot.version)
+    rw (range, busy, free, kind) (sym (first_longer (stay_row s uses.children drain)
+    (when (not (slot.version == 0)) (why.SlotOccupied slot.version)
     otherwise when spent why.VersionSpent
     otherwise allowed) r is))
 

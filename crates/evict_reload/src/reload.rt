@@ -48,7 +48,8 @@ pub fn eld_start(
     requires small { length epc.old ≤ MOST_FRAMES }
     requires places { length secs.old ≡ 8 }
     ensures row { refusal_in result
-        ≡ first_of_row (eldstart_row (sight_in epc.old frame.0) (load_sight epc.old va.old.made secs.old page) (slot_sight epc.old va.old.pages slot)) }
+        ≡ first_of_row (eldstart_row (sight_in epc.old frame.0) (load_sight epc.old va.old.made secs.old page)
+        (slot_sight epc.old va.old.pages slot)) }
     ensures answer { IfOk result (λ version. version ≡ version_in va.old.pages slot) }
     ensures epc { OnOk result (epc.new ≡ with_loading epc.old frame.0 page) }
     ensures va { OnOk result (va.new ≡ record va.old { pages = with_busy va.old.pages slot true }) }
@@ -79,7 +80,8 @@ fn start_refusal(
     requires pages { AreVaPages epc.now va.now.pages }
     requires counted { AreCountedIn epc.now secs.now }
     ensures { result
-        ≡ first_of_row (eldstart_row (sight_in epc.now frame.0) (load_sight epc.now va.now.made secs.now page) (slot_sight epc.now va.now.pages slot)) }
+        ≡ first_of_row (eldstart_row (sight_in epc.now frame.0) (load_sight epc.now va.now.made secs.now page)
+        (slot_sight epc.now va.now.pages slot)) }
 {
     if is_out_of_range(epc, va, frame, slot) {
         return Some(Refusal::BadRange);
@@ -167,7 +169,8 @@ pub fn eld_commit(
     ensures row { refusal_in result ≡ first_of_row (eld_row work.now.rec work.now.computed (header_in secs.old page)) }
     ensures epc { OnOk result (epc.new ≡ with_reloaded epc.old secs.old frame.0 page work.now.plain.items) }
     ensures va { OnOk result (va.new ≡ record va.old { pages = with_in va.old.pages frame.0 page work.now.plain.items slot }) }
-    ensures refused { OnErr result ((epc.new ≡ cleared epc.old frame.0) × (va.new ≡ record va.old { pages = with_busy va.old.pages slot false })) }
+    ensures refused { OnErr result ((epc.new ≡ cleared epc.old frame.0)
+        × (va.new ≡ record va.old { pages = with_busy va.old.pages slot false })) }
     ensures beside { SameBeside secs.old secs.new }
     ensures counts { AreCountedIn epc.new secs.new }
 {

@@ -54,7 +54,8 @@ pub fn ewb_start(
     requires counted { AreCountedIn epc.old secs.now }
     requires created { HaveEnclaves epc.old secs.now }
     ensures row { refusal_in result
-        ≡ first_of_row (ewbstart_row (sight_in epc.old frame.0) (use_sight epc.old va.old.pages frame.0 slot) (slot_sight epc.old va.old.pages slot)
+        ≡ first_of_row (ewbstart_row (sight_in epc.old frame.0) (use_sight epc.old va.old.pages frame.0 slot)
+        (slot_sight epc.old va.old.pages slot)
         (drain_sight epc.old tracks.now frame.0)
         (is_spent_at versions.old)) }
     ensures answer { IfOk result (λ version. version ≡ versions.old) }
@@ -87,7 +88,8 @@ fn start_refusal(
     requires counted { AreCountedIn epc.now secs.now }
     requires created { HaveEnclaves epc.now secs.now }
     ensures { result
-        ≡ first_of_row (ewbstart_row (sight_in epc.now frame.0) (use_sight epc.now va.now.pages frame.0 slot) (slot_sight epc.now va.now.pages slot)
+        ≡ first_of_row (ewbstart_row (sight_in epc.now frame.0) (use_sight epc.now va.now.pages frame.0 slot)
+        (slot_sight epc.now va.now.pages slot)
         (drain_sight epc.now tracks.now frame.0)
         (is_spent_at versions.now)) }
 {
@@ -131,7 +133,8 @@ fn stay_refusal(epc: &Epc, secs: &SecsTable, tracks: &Tracks, frame: Frame) -> O
     requires numbered { IsNumbered (sight_in epc.now frame.0).content }
     requires counted { AreCountedIn epc.now secs.now }
     requires created { HaveEnclaves epc.now secs.now }
-    ensures { result ≡ first_of_row (stay_row (sight_in epc.now frame.0) (children_in epc.now frame.0) (drain_sight epc.now tracks.now frame.0)) }
+    ensures { result ≡ first_of_row (stay_row (sight_in epc.now frame.0) (children_in epc.now frame.0)
+        (drain_sight epc.now tracks.now frame.0)) }
 {
     let EntryView::Valid {
         page,

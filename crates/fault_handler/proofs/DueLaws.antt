@@ -54,8 +54,10 @@ use Rattle.fault_handler.proofs.LoadRows.{frames_are, load_row, slot_stands}
 -- no frame holds or loads a page that is away
 away_apart : (past : List Entry) (g : Page) (slot : SlotAt) → IsSound past → place past g ≡ Away slot → (n : ℕ)
     → (stands (content past n) g ≡ false) × (is_load_of (open_start past n) g ≡ false)
-away_apart past g slot s at n =
-    (own_nowhere (content past n) g (there_own past g (Away slot) s at refl) (s.places.frames g n ∙ ap (λ p. stands_in p n) at), no_slot (open_start past n) (s.places.loads g n ∙ ap (λ p. slot_loading p n) at))
+away_apart past g slot s at n = (
+  own_nowhere (content past n) g (there_own past g (Away slot) s at refl) (s.places.frames g n ∙ ap (λ p. stands_in p n) at),
+  no_slot (open_start past n) (s.places.loads g n ∙ ap (λ p. slot_loading p n) at),
+)
   where
     by_test : (b : Bool) (x : SlotAt) → slot_if b x ≡ None → b ≡ false
     by_test true x h = cc

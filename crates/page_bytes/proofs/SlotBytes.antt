@@ -16,7 +16,8 @@ slots_more : (pages : List (Option (List SlotState))) (n index : ℕ)
 slots_more pages n index = map-range_with_len_more (λ i. version_in pages (place n i)) 0 index index (omega arith)
 
 pub bytes_more : (pages : List (Option (List SlotState))) (n index : ℕ)
-    → bytes_of (first_slots pages n (index + 1)) ≡ bytes_of (first_slots pages n index) ++ to_le_bytes w64 (version_in pages (place n index))
+    → bytes_of (first_slots pages n (index + 1)) ≡ bytes_of (first_slots pages n index)
+    ++ to_le_bytes w64 (version_in pages (place n index))
 bytes_more pages n index =
     ap bytes_of (slots_more pages n index)
     ∙ flat_map-append (to_le_bytes w64) (first_slots pages n index) (version_in pages (place n index) ∷ [])

@@ -39,7 +39,8 @@ va_is (Holds page kind perm) k is = cc is
 va_is (IsLoading page) k is = cc is
 
 -- what comes back as a version array page is one
-reloaded_va : (page : Page) (kinds : Option (Kind × Perm)) (k : ℕ) → is_va_of (reloaded page kinds) k ≡ true → same_page page (va_page k) ≡ true
+reloaded_va : (page : Page) (kinds : Option (Kind × Perm)) (k : ℕ) → is_va_of (reloaded page kinds) k ≡ true
+    → same_page page (va_page k) ≡ true
 reloaded_va page kinds k = by_name (page.enclave == 0) (page.number == SECS_NUMBER) kinds
   where
     by_name : (va last : Bool) (o : Option (Kind × Perm))

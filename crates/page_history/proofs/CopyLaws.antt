@@ -228,7 +228,8 @@ module _ (past : List Entry) (e : Entry) (f : ℕ) (g : Page) (c : Content) (liv
       comes : Comes past f g c
       comes = record { held = q.held; vacant = q.vacant; away = λ n is. cc (is, new) }
 
-      some : (h : Page) (b : Bool) → same_page g h ≡ b → is_there (e ∷ past) h ≡ true → is_some (cond b (Some (InFrame f)) (copy past h)) ≡ true
+      some : (h : Page) (b : Bool) → same_page g h ≡ b → is_there (e ∷ past) h ≡ true
+          → is_some (cond b (Some (InFrame f)) (copy past h)) ≡ true
       some h true same there = refl
       some h false other there = live.one.some h (q.makes.others h there other)
 
@@ -334,7 +335,8 @@ live_ewb past live a f g v tag start held opened empty above = record {
     alone t x y h i false k false l a b = live.one.alone t x y h i a b
 
 -- a page that is back is the one that was to come
-pub reloaded_there : (past : List Entry) (g : Page) → is_there past g ≡ true → (h : Page) → stands (reloaded g (added past g)) h ≡ same_page g h
+pub reloaded_there : (past : List Entry) (g : Page) → is_there past g ≡ true → (h : Page)
+    → stands (reloaded g (added past g)) h ≡ same_page g h
 reloaded_there past g there h = by_name (g.enclave == 0) refl (g.number == SECS_NUMBER) refl there
   where
     own : (o : Option (Kind × Perm)) → is_some o ≡ true → stands (reloaded_as g o) h ≡ same_page g h
@@ -342,7 +344,8 @@ reloaded_there past g there h = by_name (g.enclave == 0) refl (g.number == SECS_
     own (Some k) is = refl
 
     by_name : (va : Bool) → (g.enclave == 0) ≡ va → (last : Bool) → (g.number == SECS_NUMBER) ≡ last
-        → cond va (nat_lt g.number (vas_made past)) (cond (not va && last) (is_some (created past g.enclave)) (is_some (added past g))) ≡ true
+        → cond va (nat_lt g.number (vas_made past)) (cond (not va && last) (is_some (created past g.enclave)) (is_some (added past g)))
+        ≡ true
         → stands (cond va (IsVa g.number) (cond (not va && last) (SecsOf g.enclave) (reloaded_as g (added past g)))) h ≡ same_page g h
     by_name true e last l is = ap (λ n. (n == h.enclave) && (g.number == h.number)) (sym (eqb-true g.enclave 0 e))
     by_name false e true l is = ap (λ n. (g.enclave == h.enclave) && (n == h.number)) (sym (eqb-true g.number SECS_NUMBER l))
@@ -475,12 +478,14 @@ live_more k past e low keeps refusal fresh live = by_event e.event refusal fresh
           versions = λ t. refl;
           makes = add_makes k past a enclave number f kind perm init answer keeps.refusal none;
           held = λ h. refl;
-          vacant = λ h. rw (add_free past f.0 number kind perm init (enclave_sight (flat past) enclave) (secs_sight_at k.frames past enclave) _
+          vacant = λ h. rw (add_free past f.0 number kind perm init (enclave_sight (flat past) enclave)
+              (secs_sight_at k.frames past enclave) _
               k.frames none) refl;
         })
     by_event (Did (EldStart f page slot) answer) refusal fresh =
         let none = none_holds (row_at k past a (EldStart f page slot)) refusal.0 in
-        live_still past _ (λ g. refl) (unpaged past f.0 (IsLoading page) (λ g. refl) (empty_there (content past f.0) none.1.1.1.1.1.0)) (λ s. refl)
+        live_still past _ (λ g. refl) (unpaged past f.0 (IsLoading page) (λ g. refl) (empty_there (content past f.0) none.1.1.1.1.1.0))
+        (λ s. refl)
         (λ g. refl) live
     by_event (Did (Ewb f) answer) refusal fresh =
         let out = refusal.1 in

@@ -213,7 +213,8 @@ build_kinds : (action : Action) (m : FlatMemory) (g : Page) → first_of_row (fl
     → added_as ((build_after action m).pages g) ≡ added_as (m.pages g)
 build_kinds (Add enclave number f kind perm init) m g row there =
     let k = none_holds (flat_build_row m (Add enclave number f kind perm init)) row in
-    let is_fresh = fresh_page number kind perm init (enclave_sight m enclave) settled (is_some (m.pages (page_at enclave number))) open_frame k
+    let is_fresh = fresh_page number kind perm init (enclave_sight m enclave) settled
+    (is_some (m.pages (page_at enclave number))) open_frame k
     in
     cond_both (same_page g (page_at enclave number)) (Some (record { kind = kind; perm = perm; words = first_words init })) (m.pages g)
     (λ v. added_as v ≡ added_as (m.pages g))

@@ -66,7 +66,8 @@ few_places (suc n) made at h = by_last (at n) refl (λ less at'. few_places n le
     by_last (Some k) is more =
         let here : k < made = h.below n k (omega arith) is in
         let few = more (made - 1) (λ i. option_map (lower k) (at i)) moved in
-        let same = same_count (λ i. is_some (option_map (lower k) (at i))) (λ i. is_some (at i)) n (λ i low. is_some-map (lower k) (at i)) in
+        let same = same_count (λ i. is_some (option_map (lower k) (at i))) (λ i. is_some (at i)) n
+        (λ i low. is_some-map (lower k) (at i)) in
         rw is (omega (arith, here, few, same))
       where
         other : (i j : ℕ) → i < n → at i ≡ Some j → j ≡ k → ⊥

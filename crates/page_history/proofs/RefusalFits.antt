@@ -237,7 +237,8 @@ module _ (k : Making) (past : List Entry) (a : Actor) (refusals : Along (Refusal
       (add_makes k past a enclave number f kind perm init answer refusals row) (λ g. refl)) h
   done_keeps (EwbStart f at) answer refusal away =
       let fits = row_fits k past a (EwbStart f at) refl (none_holds (row_at k past a (EwbStart f at)) refusal.0) in
-      keeps_more k.frames past _ fits (started_stands (entry_of a (Did (EwbStart f at) answer)) f.0 at answer None fits.0.0 (λ g here. cc here)) h
+      keeps_more k.frames past _ fits
+      (started_stands (entry_of a (Did (EwbStart f at) answer)) f.0 at answer None fits.0.0 (λ g here. cc here)) h
   done_keeps (EldStart f page at) answer refusal away =
       let row = none_holds (row_at k past a (EldStart f page at)) refusal.0 in
       let fits = row_fits k past a (EldStart f page at) refl row in

@@ -98,7 +98,8 @@ module _ (k : Making) (past : List Entry) (a : Actor) (number : ℕ) (refusals :
   -- the versions in it rest
   version_rests : (event : Event) → RefusalRule k past (entry_of a event) → (s : VaSlot) (v : ℕ) (index : ℕ)
       → copy (entry_of a event ∷ past) (va_page number) ≡ Some (InSlot s v)
-      → version_in (entry_of a event ∷ past) (record { va = number; index = index }) ≡ version_in past (record { va = number; index = index })
+      → version_in (entry_of a event ∷ past) (record { va = number; index = index })
+      ≡ version_in past (record { va = number; index = index })
   version_rests (Did (Ewb f) answer) refusal s v index =
       let out = refusal.1 in
       rw out.told (by_page (same_page out.page (va_page number)) refl)
@@ -217,7 +218,8 @@ module _ (k : Making) (past : List Entry) (e : Entry) (low : 1 ≤ k.first_versi
       (cond (not va && last) (secs_bytes_of ((flat (e ∷ past)).enclaves g.enclave) (digest_of (e ∷ past) g.enclave))
       (bytes_of (words_of (flat (e ∷ past)) g)))
       ≡ cond va (bytes_of (va_words past g.number))
-      (cond (not va && last) (secs_bytes_of ((flat past).enclaves g.enclave) (digest_of past g.enclave)) (bytes_of (words_of (flat past) g)))
+      (cond (not va && last) (secs_bytes_of ((flat past).enclaves g.enclave) (digest_of past g.enclave))
+      (bytes_of (words_of (flat past) g)))
   out_rest g s v out true is last l own =
       let this_array : va_page g.number ≡ g = λ i. record { enclave = sym (eqb-true g.enclave 0 is) i; number = g.number } in
       λ i. bytes_of (map (λ index. slots_rest g.number s v (ap (copy (e ∷ past)) this_array ∙ out) index i) (range_with_len 0 512))

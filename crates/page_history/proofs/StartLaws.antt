@@ -283,7 +283,8 @@ unused_elsewhere frames past f h unused n x is =
 -- ---- each entry
 
 -- a page is added only into a free frame
-pub add_free : (past : List Entry) (f : ℕ) (number : ℕ) (kind : Kind) (perm : Perm) (init : PageInit) (o : Option EnclaveSight) (secs : SecsSight)
+pub add_free : (past : List Entry) (f : ℕ) (number : ℕ) (kind : Kind) (perm : Perm) (init : PageInit) (o : Option EnclaveSight)
+    (secs : SecsSight)
     (is_added : Bool) (frames : ℕ)
     → NoneHolds (add_row number kind perm init o secs is_added (sight_at frames past f)) → content past f ≡ Free
 add_free past f number kind perm init None secs is_added frames row = let no : true ≡ false = row.1.0 in cc
@@ -337,7 +338,8 @@ module _ (k : Making) (past : List Entry) (actor : Actor) (refusals : Along (Ref
 
       busy : ((is_busy (sight_at k.frames past f.0) || is_busy_at k.frames past at) ≡ false)
           × (is_in_use k.frames past (content past f.0) ≡ false)
-      busy = neither (is_busy (sight_at k.frames past f.0) || is_busy_at k.frames past at) (is_in_use k.frames past (content past f.0)) row.1.0
+      busy = neither (is_busy (sight_at k.frames past f.0) || is_busy_at k.frames past at)
+          (is_in_use k.frames past (content past f.0)) row.1.0
 
       idle : is_slot_busy k.frames past slot ≡ false
       idle = ap (is_busy_of k.frames past) (sym named)

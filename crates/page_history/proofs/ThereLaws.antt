@@ -41,8 +41,19 @@ add_open : (number : ℕ) (kind : Kind) (perm : Perm) (init : PageInit) (o : Opt
     (v : FrameSight)
     → NoneHolds (add_row number kind perm init o secs is_added v) → NoneHolds (add_row number kind perm init o settled is_added open_frame)
 add_open number kind perm init None secs is_added v row = absurd (false≢true (sym row.1.0))
-add_open number kind perm init (Some enclave) secs is_added v row =
-    (refl, (refl, (refl, (row.1.1.1.0, (row.1.1.1.1.0, (row.1.1.1.1.1.0, (row.1.1.1.1.1.1.0, (row.1.1.1.1.1.1.1.0, (refl, (refl, tt))))))))))
+add_open number kind perm init (Some enclave) secs is_added v row = (
+  refl,
+  (
+    refl,
+    (
+      refl,
+      (
+        row.1.1.1.0,
+        (row.1.1.1.1.0, (row.1.1.1.1.1.0, (row.1.1.1.1.1.1.0, (row.1.1.1.1.1.1.1.0, (refl, (refl, tt)))))),
+      ),
+    ),
+  ),
+)
 
 -- .. nor does that of `create`
 create_open : (enclave base size : ℕ) (is_created : Bool) (s : FrameSight) → NoneHolds (create_row enclave base size is_created s)
@@ -287,12 +298,14 @@ create_makes k past a enclave f base size answer refusals row = record {
         (cond (not va && last) (is_some (created (entry_of a (Did (Create enclave f base size) answer) ∷ past) h.enclave))
         (is_some (added past h))) ≡ true
         → same_page (secs_page enclave) h ≡ false
-        → cond va (nat_lt h.number (vas_made past)) (cond (not va && last) (is_some (created past h.enclave)) (is_some (added past h))) ≡ true
+        → cond va (nat_lt h.number (vas_made past)) (cond (not va && last) (is_some (created past h.enclave)) (is_some (added past h)))
+        ≡ true
     by_name h true last is there other = there
     by_name h false false is there other = there
     by_name h false true is there other =
         let not_same : enclave ≡ h.enclave → ⊥ = λ same.
-        false≢true (sym other ∙ rw (eq-eqb enclave h.enclave same, eq-eqb SECS_NUMBER h.number (sym (eqb-true h.number SECS_NUMBER is))) refl) in
+        false≢true (sym other ∙ rw (eq-eqb enclave h.enclave same, eq-eqb SECS_NUMBER h.number (sym (eqb-true h.number SECS_NUMBER is)))
+        refl) in
         rw (apart h.enclave enclave (λ e. not_same (sym e))) at there
 
 -- what the row of `add` says of its page
@@ -324,7 +337,8 @@ adds_within number kind perm init (Some x) secs is_added s row = record {
 few_pages : (base size : ℕ) → is_lawful base size ≡ true → size / 4096 ≤ 4096
 few_pages base size is =
     let lawful = (both_true (is_power_of_two size && nat_le 8192 size && nat_le size (2 ^ 24)) _ is).0 in
-    let low : size ≤ 2 ^ 24 = leb-true size (2 ^ 24) (both_true (is_power_of_two size && nat_le 8192 size) (nat_le size (2 ^ 24)) lawful).1 in
+    let low : size ≤ 2 ^ 24 = leb-true size (2 ^ 24)
+    (both_true (is_power_of_two size && nat_le 8192 size) (nat_le size (2 ^ 24)) lawful).1 in
     omega (arith, low)
 
 -- an added page is of an enclave, and not its SECS
@@ -362,7 +376,8 @@ add_makes k past a enclave number f kind perm init answer refusals row = record 
 }
   where
     adds : AddsWithin number (enclave_sight (flat past) enclave) (is_some ((flat past).pages (page_at enclave number)))
-    adds = adds_within number kind perm init (enclave_sight (flat past) enclave) (secs_sight_at k.frames past enclave) _ (sight_at k.frames past f.0) row
+    adds = adds_within number kind perm init (enclave_sight (flat past) enclave) (secs_sight_at k.frames past enclave) _
+        (sight_at k.frames past f.0) row
 
     own : IsOwn enclave number
     own = own_page k past refusals enclave number _ adds

@@ -243,7 +243,8 @@ add_brings s past a enclave number f kind perm init longer allowed takes stands 
 -- ---- init
 
 -- the row of `init`, with a SECS that is in
-pub init_open : (o : Option EnclaveSight) (secs : SecsSight) → first_of_row (init_row o secs) ≡ None → first_of_row (init_row o settled) ≡ None
+pub init_open : (o : Option EnclaveSight) (secs : SecsSight) → first_of_row (init_row o secs) ≡ None
+    → first_of_row (init_row o settled) ≡ None
 init_open None secs allowed = cc allowed
 init_open (Some enclave) secs allowed =
     let none = none_holds (init_row (Some enclave) secs) allowed in

@@ -43,7 +43,8 @@ module _ (k : Making) (past : List Entry) (a : Actor) (e : ℕ) (refusals : Alon
   log_same other block not_this = rw (apart other e not_this) refl
 
   -- an enclave is not initialised and not yet
-  sight_there : (x : FlatEnclave) → created past e ≡ Some x → enclave_sight (flat past) e ≡ Some (record { size = x.size; is_init = x.is_init })
+  sight_there : (x : FlatEnclave) → created past e ≡ Some x
+      → enclave_sight (flat past) e ≡ Some (record { size = x.size; is_init = x.is_init })
   sight_there x is = ap enclave_sight_of (sym (created_there k past refusals e) ∙ is)
 
   digest_next : (event : Event) → RefusalRule k past (entry_of a event) → MeasureRule past (entry_of a event)
@@ -72,9 +73,11 @@ module _ (k : Making) (past : List Entry) (a : Actor) (e : ℕ) (refusals : Alon
       not_this same =
           let row = none_holds (row_at k past a (Add other number f kind perm init)) refusal.0 in
           let sight = ap (enclave_sight (flat past)) same ∙ sight_there x is in
-          let closed = add_open_enclave number kind perm init _ (secs_sight_at k.frames past other) _ (sight_at k.frames past f.0) (rw sight at row) in
+          let closed = add_open_enclave number kind perm init _ (secs_sight_at k.frames past other) _ (sight_at k.frames past f.0)
+          (rw sight at row) in
           false≢true (sym closed ∙ ready)
-  digest_next (Did (Extend f chunk) answer) refusal measure x is ready = h x is ready ∙ sym (ap measurement_of (same_log (content past f.0) refl))
+  digest_next (Did (Extend f chunk) answer) refusal measure x is ready = h x is ready
+      ∙ sym (ap measurement_of (same_log (content past f.0) refl))
     where
       row : NoneHolds (row_at k past a (Extend f chunk))
       row = none_holds (row_at k past a (Extend f chunk)) refusal.0

@@ -62,7 +62,8 @@ logs s past f chunk g stands is = by_content (s.content f) refl is
 pub extend_brings : (s : State) (past : List Entry) (a : Actor) (f : Frame) (chunk : ℕ) (g : Page) (longer : Measure)
     → first_of_row (row_of s a (Extend f chunk)) ≡ None → page_of (s.content f.0) ≡ Some g
     → IsSomeAnd (s.measure g.enclave) (λ m. TakesIn m
-    (eextend_block (4096 * g.number + 256 * chunk) (chunk_of (bytes_of (s.words f.0)) chunk)) longer) → IsNamedRight (s.content f.0) → HasEnclaves s
+    (eextend_block (4096 * g.number + 256 * chunk) (chunk_of (bytes_of (s.words f.0)) chunk)) longer) → IsNamedRight (s.content f.0)
+    → HasEnclaves s
     → Stands s past
     → BringsDone s (after_extend s g.enclave longer) past a (Extend f chunk) Plain
 extend_brings s past a f chunk g longer allowed here takes named made stands =
@@ -80,7 +81,8 @@ extend_brings s past a f chunk g longer allowed here takes named made stands =
         cpus = k.cpus;
         words = k.words;
         measure = λ e. rw (logs s past f.0 chunk g stands here)
-            (goes_on e g.enclave s.enclaves s.measure longer block (log past e) (own_made (s.content f.0) refl named here) takes (k.measure e));
+            (goes_on e g.enclave s.enclaves s.measure longer block (log past e) (own_made (s.content f.0) refl named here) takes
+            (k.measure e));
       };
     }
   where

@@ -19,7 +19,8 @@ use Rattle.sgx_types.specs.declared.names.VaSlot.{VaSlot}
 use Rattle.sgx_types.specs.Lawful.{is_enclave, is_lawful}
 use Rattle.sgx_rules.specs.declared.refusals.Refusal.{Refusal}
 use Rattle.sgx_types.specs.Pages.{is_own_page, page_at, same_page, secs_page, va_page}
-use Rattle.sgx_rules.specs.Frames.{Content, Free, IsVa, SecsOf, Holds, IsLoading, added, content, is_this, page_there, reloaded, reloaded_as}
+use Rattle.sgx_rules.specs.Frames.{Content, Free, IsVa, SecsOf, Holds, IsLoading, added}
+use Rattle.sgx_rules.specs.Frames.{content, is_this, page_there, reloaded, reloaded_as}
 use Rattle.sgx_rules.specs.Frames.{stands, vas_made}
 use Rattle.sgx_rules.specs.Starts as opening
 use Rattle.sgx_rules.specs.Starts.{Start, open_start, is_load_of, slot_found}
@@ -164,7 +165,8 @@ module _ (s : State) (past : List Entry) (a : Actor) (guarded : IsGuarded s) (fr
       → FitsApart s.frames (did_by a (Add enclave number f kind perm init) answer ∷ past)
   add_fits enclave number f kind perm init answer allowed rule own =
       let g = page_at enclave number in
-      let none = (adds number kind perm init (enclave_sight_of (s.enclaves enclave)) (secs_sight s enclave) (is_some (s.added g)) (sight s f.0)
+      let none = (adds number kind perm init (enclave_sight_of (s.enclaves enclave)) (secs_sight s enclave) (is_some (s.added g))
+      (sight s f.0)
       allowed).new in
       let names = own_names (enclave == 0) (number == SECS_NUMBER) own in
       new_fits f (Holds g kind perm) g _ (rw (names.0, names.1, none) (not_both (is_made (enclave_sight_of (s.enclaves enclave)))))

@@ -51,7 +51,8 @@ open_below frames (e ∷ past) n rules is = by_event e.event rules.0 (open_below
         (λ here is. rw (← eqb-true f n here) below) (λ _ is. before is)
 
     by_event : (v : Event) → FitsRule frames past (record { actor = e.actor; event = v })
-        → (is_some (open_start past n) ≡ true → n < frames) → is_some (opened_by e.actor (length past) (content past) v n (open_start past n)) ≡ true
+        → (is_some (open_start past n) ≡ true → n < frames)
+        → is_some (opened_by e.actor (length past) (content past) v n (open_start past n)) ≡ true
         → n < frames
     by_event (Did (EwbStart f slot) answer) rule before is = by_start f.0 _ rule.0.0 before is
     by_event (Did (EldStart f page slot) answer) rule before is = by_start f.0 _ rule.0.0 before is

@@ -225,7 +225,8 @@ pub guarded_init : (s : State) (enclave : ℕ) → IsGuarded s → IsGuarded (af
 guarded_init s enclave h =
     guarded_beside s s.words (after_init s enclave).enclaves s.measure s.acc s.version_in s.next_version
     (λ e. cond_both (e == enclave) (marked (s.enclaves e)) (s.enclaves e)
-    (λ o. is_made (enclave_sight_of (s.enclaves e)) ≡ true → is_made (enclave_sight_of o) ≡ true) (λ _. still (s.enclaves e)) (λ _ is. is)) h
+    (λ o. is_made (enclave_sight_of (s.enclaves e)) ≡ true → is_made (enclave_sight_of o) ≡ true) (λ _. still (s.enclaves e)) (λ _ is. is))
+    h
   where
     still : (o : Option FlatEnclave) → is_made (enclave_sight_of o) ≡ true → is_made (enclave_sight_of (marked o)) ≡ true
     still None is = cc is
@@ -350,7 +351,8 @@ module _ (s : State) (f : ℕ) (content : ℕ → Content) (blocked : ℕ → Op
 -- ---- building
 
 -- a frame that holds nothing holds no slots
-pub no_slot : (s : State) (f : ℕ) → (c : Content) → s.content f ≡ c → array_in c ≡ None → (x : BareStart) → IsOpen s x → f ≡ x.at.frame.0 → ⊥
+pub no_slot : (s : State) (f : ℕ) → (c : Content) → s.content f ≡ c → array_in c ≡ None → (x : BareStart) → IsOpen s x
+    → f ≡ x.at.frame.0 → ⊥
 no_slot s f c is none x o same =
     let held : c ≡ IsVa x.slot.va = sym is ∙ ap s.content same ∙ o.held in
     let some : None ≡ Some x.slot.va = sym none ∙ ap array_in held in cc some
@@ -380,7 +382,8 @@ pub free_kept : (s : State) (f : ℕ) (c : Content) → f < s.frames → IsGuard
     → ((k : ℕ) → array_in c ≡ Some k → (k < s.vas_made) × ((n : ℕ) → array_in (s.content n) ≡ Some k → f ≡ n)) → IsNamedRight c
     → FramesKept s.frames s.vas_made (with_content s f c).content s.is_sealing
 free_kept s f c low h free comes arrays named =
-    kept_put s.frames s.vas_made s.content s.is_sealing f c low (λ e. rw free refl) (stays_in s f h (rw free refl)) comes arrays named h.kept
+    kept_put s.frames s.vas_made s.content s.is_sealing f c low (λ e. rw free refl) (stays_in s f h (rw free refl)) comes
+    arrays named h.kept
 
 -- the slots of a frame that held none are named by no start
 pub guarded_empty : (s : State) (f : ℕ) → IsGuarded s → ((x : BareStart) → IsOpen s x → f ≡ x.at.frame.0 → ⊥)

@@ -29,12 +29,14 @@ use Rattle.cached_translations.specs.declared.cache.Translation.{Translation}
 use Rattle.page_history.specs.inner.Away.{SecsIsIn, array_in}
 use Rattle.page_history.proofs.SecsLaws.{start_covers}
 use Rattle.paging_laws.specs.inner.State.{State, sight, is_noting, number_noting, epoch_in, track_sight, slot_sight, drain_sight}
-use Rattle.paging_laws.specs.inner.State.{has_passed, is_busy_at, is_in_use, is_known, load_sight, place_at, slot_of_found, started, use_sight}
+use Rattle.paging_laws.specs.inner.State.{has_passed, is_busy_at, is_in_use, is_known, load_sight}
+use Rattle.paging_laws.specs.inner.State.{place_at, slot_of_found, started, use_sight}
 use Rattle.paging_laws.specs.inner.State.{is_version_spent, after_block, after_track, after_ewbstart, after_eldstart, after_ewb}
 use Rattle.paging_laws.specs.inner.State.{after_eld, version_at}
 use Rattle.paging_laws.specs.inner.State.{after_failed_eld}
 use Rattle.paging_laws.specs.inner.Stands.{IsTranslation, IsSeated, IsSound}
-use Rattle.paging_laws.specs.inner.Guarded.{FramesKept, IsNamedRight, IsNoEarlier, HasNoted, IsDrainedAt, IsOpen, WritesOut, Loads, IsGuarded}
+use Rattle.paging_laws.specs.inner.Guarded.{FramesKept, IsNamedRight, IsNoEarlier, HasNoted}
+use Rattle.paging_laws.specs.inner.Guarded.{IsDrainedAt, IsOpen, WritesOut, Loads, IsGuarded}
 use Rattle.paging_laws.proofs.TestLaws.{there_at, there_then, equal, each_there}
 use Rattle.paging_laws.proofs.SoundLaws.{seat_at}
 use Rattle.paging_laws.proofs.GuardCpus.{noted_at, unblocked}

@@ -93,7 +93,8 @@ pub eldstart_brings : (s : State) (past : List Entry) (a : Actor) (f : Frame) (p
     → BringsDone s (after_eldstart s f.0 page slot) past a (EldStart f page slot) (answers.Version (version_at s slot))
 eldstart_brings s past a f page slot allowed guarded stands = record {
   form = ap (λ (x : SlotSight). answers.Version x.version)
-      (slot_sees s past stands.columns stands.versions (busy_is s past stands.columns guarded) slot (starts_in s f.0 page slot allowed).within);
+      (slot_sees s past stands.columns stands.versions (busy_is s past stands.columns guarded) slot
+      (starts_in s f.0 page slot allowed).within);
   taken = refl;
   same = λ seen. cc seen;
   measure = tt;

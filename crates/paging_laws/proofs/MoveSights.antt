@@ -31,7 +31,8 @@ use Rattle.sgx_rules.specs.Sights.{children_under, drain_sight_at, is_in_use, is
 use Rattle.sgx_rules.specs.Sights.{sight_at, slot_sight_at, track_sight_at, use_sight_at}
 use Rattle.page_history.specs.inner.Away.{array_in}
 use Rattle.paging_laws.specs.inner.State.{making_of}
-use Rattle.paging_laws.specs.inner.State.{State, drain_sight, is_version_spent, load_sight, number_up_to, place_at, row_of, secs_sight, sight}
+use Rattle.paging_laws.specs.inner.State.{State, drain_sight, is_version_spent, load_sight}
+use Rattle.paging_laws.specs.inner.State.{number_up_to, place_at, row_of, secs_sight, sight}
 use Rattle.paging_laws.specs.inner.State.{slot_sight, track_sight, use_sight}
 use Rattle.paging_laws.specs.inner.State as state
 use Rattle.paging_laws.proofs.BuildLaws.{is_some-added_as}
@@ -45,7 +46,8 @@ use Rattle.paging_laws.proofs.SlotLaws.{arrays_as, busy_is, found_as, started_as
 -- ---- what the rows see
 
 -- what rows see of an enclave's SECS
-pub secs_sees : (s : State) (past : List Entry) → HasColumns s past → (enclave : ℕ) → secs_sight s enclave ≡ secs_sight_at s.frames past enclave
+pub secs_sees : (s : State) (past : List Entry) → HasColumns s past → (enclave : ℕ)
+    → secs_sight s enclave ≡ secs_sight_at s.frames past enclave
 secs_sees s past h enclave i = secs_seen (h.frames i).is_sealing (secs_frame s.frames (h.frames i).content enclave)
 
 -- what the row of `track` sees
@@ -245,7 +247,8 @@ ewbstart_agrees s past a f slot h versions guarded = by_range (nat_lt 511 slot.i
         (drain_sight_at s.first_epoch past f.0) (next_version s.first_version past == 2 ^ 64) e)
     by_range false e =
         ewbstart_same _ _ _ _ _ _ _ _ _ _ (sight_is h f.0) (uses_see s past h guarded f.0 slot)
-        (slot_sees s past h versions (busy_is s past h guarded) slot (let low = ltb-false 511 slot.index e in omega (arith, low))) (drain_sees s past h f.0)
+        (slot_sees s past h versions (busy_is s past h guarded) slot (let low = ltb-false 511 slot.index e in omega (arith, low)))
+        (drain_sees s past h f.0)
         (ap (λ (n : ℕ). n == 2 ^ 64) (next_version_is h))
 
 pub eldstart_agrees : (s : State) (past : List Entry) (a : Actor) (f : Frame) (page : Page) (slot : SlotAt) → HasColumns s past

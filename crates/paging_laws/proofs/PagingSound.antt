@@ -149,7 +149,8 @@ pub sound_ewbstart : (s : State) (f : ℕ) (slot : SlotAt)
 sound_ewbstart s f slot allowed h sound =
     let t = after_ewbstart s f slot in
     sound_beside (record s { is_sealing = t.is_sealing }) s.blocked s.epoch t.start s.version_in t.is_slot_named t.next_version
-    (sound_apart s f s.content t.is_sealing s.words sound (by_kind (is_own (s.content f)) refl) (λ n e. (refl, rw e refl, refl)) sound.sized)
+    (sound_apart s f s.content t.is_sealing s.words sound (by_kind (is_own (s.content f)) refl)
+    (λ n e. (refl, rw e refl, refl)) sound.sized)
   where
     k : StartsOut s f slot
     k = starts_out s f slot allowed

@@ -90,7 +90,8 @@ paged_flags kinds.Va perm is same = absurd is
 -- headers are one only where pages are
 one_page : (past : List Entry) → ArePaged past → (g h : Page) (header : Header) → header_at past g ≡ Some header
     → header_at past h ≡ Some header → g ≡ h
-one_page past paged g h header = by_names (g.enclave == 0) refl (g.number == SECS_NUMBER) refl (h.enclave == 0) refl (h.number == SECS_NUMBER)
+one_page past paged g h header = by_names (g.enclave == 0) refl (g.number == SECS_NUMBER) refl (h.enclave == 0) refl
+    (h.number == SECS_NUMBER)
     refl
   where
     same_names : g.enclave ≡ h.enclave → g.number ≡ h.number → g ≡ h
@@ -99,10 +100,12 @@ one_page past paged g h header = by_names (g.enclave == 0) refl (g.number == SEC
     of_enclave : (b : Page) (y : FlatEnclave) (x : FlatPage) → header_of y.base b x.kind x.perm ≡ header → b.enclave ≡ header.enclave
     of_enclave b y x is = ap (λ (z : Header). z.enclave) is
 
-    by_names : (va : Bool) → (g.enclave == 0) ≡ va → (last : Bool) → (g.number == SECS_NUMBER) ≡ last → (va' : Bool) → (h.enclave == 0) ≡ va'
+    by_names : (va : Bool) → (g.enclave == 0) ≡ va → (last : Bool) → (g.number == SECS_NUMBER) ≡ last → (va' : Bool)
+        → (h.enclave == 0) ≡ va'
         → (last' : Bool) → (h.number == SECS_NUMBER) ≡ last'
         → cond va (Some (va_header g.number)) (cond (not va && last) (Some (secs_header g.enclave)) (header_in (flat past) g)) ≡ Some header
-        → cond va' (Some (va_header h.number)) (cond (not va' && last') (Some (secs_header h.enclave)) (header_in (flat past) h)) ≡ Some header
+        → cond va' (Some (va_header h.number)) (cond (not va' && last') (Some (secs_header h.enclave)) (header_in (flat past) h))
+        ≡ Some header
         → g ≡ h
     by_names true e last d true e' last' d' is its =
         let one : va_header g.number ≡ header = cc is in
@@ -297,7 +300,8 @@ reload_back made s past records given f coming rec allowed guarded h unforged =
     let all : Unforged made.key (made_by made.key past)
     (given ++ given_with (length (made_by made.key past)) coming.start.version rec ∷ []) =
     subst (λ (list : List Made). Unforged made.key list (given ++ given_with (length list) coming.start.version rec ∷ [])) h.records last in
-    brought_back made made.key past h.positive (keeps_moves made s past records h) h.sealed h.outside (are_paged s past guarded h.standing.stands) f coming.start coming.page rec given
+    brought_back made made.key past h.positive (keeps_moves made s past records h) h.sealed h.outside
+    (are_paged s past guarded h.standing.stands) f coming.start coming.page rec given
     opened coming.loads headed fits all
 
 -- its entry keeps the rule on reloads

@@ -244,7 +244,8 @@ begun : (s : State) (past : List Entry) (a : Actor) (at : SlotAt) (version : ℕ
     → HasColumns s past
     → Some (started s at version loads)
     ≡ bare_start (opening.started a (length past) at (Version version) loads (slot_found (content past) at))
-begun s past a at version loads paged h = rw (content_is h at.frame.0) (by_content (content past at.frame.0) (rw (← content_is h at.frame.0) paged))
+begun s past a at version loads paged h = rw (content_is h at.frame.0)
+    (by_content (content past at.frame.0) (rw (← content_is h at.frame.0) paged))
   where
     by_content : (c : Content) → is_va c ≡ true
         → Some (record { at = at; slot = slot_of_found (slot_in c at.index); version = version; loads = loads })
@@ -402,17 +403,35 @@ module _ (s : State) (past : List Entry) (h : HasColumns s past) where
   pub enter_columns : (p : Cpu) (enclave tcs : ℕ) (tf sf : Frame) (answer : Answer)
       → HasColumns (after_enter s p.0 (seat_of enclave tcs tf.0 sf.0)) (did_by (actors.Cpu p) (Enter enclave tcs tf sf) answer ∷ past)
   enter_columns p enclave tcs tf sf answer =
-      record { frames = h.frames; cpus = entered s past p.0 (seat_of enclave tcs tf.0 sf.0) h; next_version = h.next_version; versions = h.versions; enclaves = h.enclaves }
+      record {
+        frames = h.frames;
+        cpus = entered s past p.0 (seat_of enclave tcs tf.0 sf.0) h;
+        next_version = h.next_version;
+        versions = h.versions;
+        enclaves = h.enclaves;
+      }
 
   -- .. again
   pub resume_columns : (p : Cpu) (enclave tcs : ℕ) (tf sf : Frame) (answer : Answer)
       → HasColumns (after_resume s p.0 (seat_of enclave tcs tf.0 sf.0)) (did_by (actors.Cpu p) (Resume enclave tcs tf sf) answer ∷ past)
   resume_columns p enclave tcs tf sf answer =
-      record { frames = h.frames; cpus = entered s past p.0 (seat_of enclave tcs tf.0 sf.0) h; next_version = h.next_version; versions = h.versions; enclaves = h.enclaves }
+      record {
+        frames = h.frames;
+        cpus = entered s past p.0 (seat_of enclave tcs tf.0 sf.0) h;
+        next_version = h.next_version;
+        versions = h.versions;
+        enclaves = h.enclaves;
+      }
 
   -- a processor leaves
   pub exit_columns : (p : Cpu) (answer : Answer) → HasColumns (after_exit s p.0) (did_by (actors.Cpu p) Exit answer ∷ past)
-  exit_columns p answer = record { frames = h.frames; cpus = left s past p.0 h; next_version = h.next_version; versions = h.versions; enclaves = h.enclaves }
+  exit_columns p answer = record {
+    frames = h.frames;
+    cpus = left s past p.0 h;
+    next_version = h.next_version;
+    versions = h.versions;
+    enclaves = h.enclaves;
+  }
 
   -- .. asynchronously: what it saves is in no column
   pub aex_columns : (p : Cpu) (cause : Cause) (answer : Answer)
@@ -421,8 +440,20 @@ module _ (s : State) (past : List Entry) (h : HasColumns s past) where
     where
       by_seat : (o : Option Seat) → HasColumns (after_exit (with_saved s (s.acc p.0) o) p.0)
           (did_by (actors.Cpu p) (Aex cause) answer ∷ past)
-      by_seat None = record { frames = h.frames; cpus = left s past p.0 h; next_version = h.next_version; versions = h.versions; enclaves = h.enclaves }
-      by_seat (Some seat) = record { frames = h.frames; cpus = left s past p.0 h; next_version = h.next_version; versions = h.versions; enclaves = h.enclaves }
+      by_seat None = record {
+        frames = h.frames;
+        cpus = left s past p.0 h;
+        next_version = h.next_version;
+        versions = h.versions;
+        enclaves = h.enclaves;
+      }
+      by_seat (Some seat) = record {
+        frames = h.frames;
+        cpus = left s past p.0 h;
+        next_version = h.next_version;
+        versions = h.versions;
+        enclaves = h.enclaves;
+      }
 
   -- a processor gets one more translation
   pub fill_columns : (p : Cpu) (t : Translation) (answer : Answer)
@@ -497,7 +528,8 @@ module _ (s : State) (past : List Entry) (h : HasColumns s past) where
 -- ---- the commits
 
 -- a page that comes back as a version array page is of that name
-pub back_named : (page : Page) (o : Option (Kind × Perm)) (number : ℕ) → reloaded page o ≡ IsVa number → same_page page (va_page number) ≡ true
+pub back_named : (page : Page) (o : Option (Kind × Perm)) (number : ℕ) → reloaded page o ≡ IsVa number
+    → same_page page (va_page number) ≡ true
 back_named page o number is = by_name (is_va_page page) refl (is_secs_page page) o is
   where
     by_name : (va : Bool) → is_va_page page ≡ va → (secs : Bool) (o : Option (Kind × Perm))

@@ -221,7 +221,8 @@ array_named (Holds g kind perm) page number named there same =
 array_named (IsLoading g) page number named there same = cc there
 
 -- .. and no slot of a version array page
-saved_arrays : (s : State) (past : List Entry) (acc : ℕ) (o : Option Seat) → HasAllVersions s past → HasAllVersions (with_saved s acc o) past
+saved_arrays : (s : State) (past : List Entry) (acc : ℕ) (o : Option Seat) → HasAllVersions s past
+    → HasAllVersions (with_saved s acc o) past
 saved_arrays s past acc None all = all
 saved_arrays s past acc (Some seat) all = all
 
@@ -240,7 +241,8 @@ module _ (s : State) (past : List Entry) (sound : IsSound s) (h : HasColumns s p
         rising = tt;
         right = tt;
         arrays = λ all back n number held.
-            new_arrays s past f.0 (λ _. Unit {0}) h (λ index. rest.unmade (vas_made past) index (omega arith)) (λ m k is _. all m k is) n number
+            new_arrays s past f.0 (λ _. Unit {0}) h (λ index. rest.unmade (vas_made past) index (omega arith))
+            (λ m k is _. all m k is) n number
             held tt;
       }
 
@@ -291,7 +293,8 @@ module _ (s : State) (past : List Entry) (sound : IsSound s) (h : HasColumns s p
       → IsNextTo s (after_extend s enclave longer) past (did_by a (Extend f chunk) answers.Plain)
   extend_next a f chunk enclave longer =
       quiet_done (after_extend s enclave longer) a (Extend f chunk) answers.Plain refl refl
-      (record { frames = h.frames; cpus = h.cpus; next_version = h.next_version; versions = h.versions; enclaves = h.enclaves }) tt tt tt tt (λ all. all)
+      (record { frames = h.frames; cpus = h.cpus; next_version = h.next_version; versions = h.versions; enclaves = h.enclaves })
+      tt tt tt tt (λ all. all)
 
   pub init_next : (a : Actor) (enclave : ℕ) (expect : Option (List ℕ)) (digest : List ℕ)
       → IsNextTo s (after_init s enclave) past (did_by a (Init enclave expect) (answers.Hash digest))
@@ -361,7 +364,16 @@ module _ (s : State) (past : List Entry) (sound : IsSound s) (h : HasColumns s p
   pub fill_next : (p : Cpu) (t : Translation) → IsNextTo s (after_fill s p.0 t) past
       (did_by (actors.Cpu p) (Fill t.number t.frame) answers.Plain)
   fill_next p t =
-      record { making = refl; columns = fill_columns s past h p t answers.Plain; held = held; access = tt; evict = tt; rising = tt; right = tt; arrays = λ all back. all }
+      record {
+        making = refl;
+        columns = fill_columns s past h p t answers.Plain;
+        held = held;
+        access = tt;
+        evict = tt;
+        rising = tt;
+        right = tt;
+        arrays = λ all back. all;
+      }
 
   pub load_next : (p : Cpu) (off : ℕ) → first_of_row (row_of s (actors.Cpu p) (Load off)) ≡ None
       → IsNextTo s s past (did_by (actors.Cpu p) (Load off) (answers.Value (word_at s p.0 off)))
@@ -386,12 +398,14 @@ module _ (s : State) (past : List Entry) (sound : IsSound s) (h : HasColumns s p
   pub set_next : (p : Cpu) (value : ℕ) → IsNextTo s (with_acc s p.0 value) past (did_by (actors.Cpu p) (Set value) answers.Plain)
   set_next p value =
       quiet_done (with_acc s p.0 value) (actors.Cpu p) (Set value) answers.Plain refl refl
-      (record { frames = h.frames; cpus = h.cpus; next_version = h.next_version; versions = h.versions; enclaves = h.enclaves }) tt tt tt tt (λ all. all)
+      (record { frames = h.frames; cpus = h.cpus; next_version = h.next_version; versions = h.versions; enclaves = h.enclaves })
+      tt tt tt tt (λ all. all)
 
   pub plus_next : (p : Cpu) (value sum : ℕ) → IsNextTo s (with_acc s p.0 sum) past (did_by (actors.Cpu p) (Plus value) (answers.Value sum))
   plus_next p value sum =
       quiet_done (with_acc s p.0 sum) (actors.Cpu p) (Plus value) (answers.Value sum) refl refl
-      (record { frames = h.frames; cpus = h.cpus; next_version = h.next_version; versions = h.versions; enclaves = h.enclaves }) tt tt tt tt (λ all. all)
+      (record { frames = h.frames; cpus = h.cpus; next_version = h.next_version; versions = h.versions; enclaves = h.enclaves })
+      tt tt tt tt (λ all. all)
 
   pub pf_next : (p : Cpu) (op : AccessOp) (off : ℕ) (answer : Answer) → IsNextTo s s past (did_by (actors.Cpu p) (Pf op off) answer)
   pf_next p op off answer = quiet_done s (actors.Cpu p) (Pf op off) answer refl refl h tt tt tt tt (λ all. all)
@@ -406,11 +420,29 @@ module _ (s : State) (past : List Entry) (sound : IsSound s) (h : HasColumns s p
 
   pub block_next : (a : Actor) (f : Frame) → IsNextTo s (after_block s f.0) past (did_by a (Block f) answers.Plain)
   block_next a f =
-      record { making = refl; columns = block_columns s past h a f answers.Plain; held = held; access = tt; evict = tt; rising = tt; right = tt; arrays = λ all back. all }
+      record {
+        making = refl;
+        columns = block_columns s past h a f answers.Plain;
+        held = held;
+        access = tt;
+        evict = tt;
+        rising = tt;
+        right = tt;
+        arrays = λ all back. all;
+      }
 
   pub track_next : (a : Actor) (enclave : ℕ) → IsNextTo s (after_track s enclave) past (did_by a (Track enclave) answers.Plain)
   track_next a enclave =
-      record { making = refl; columns = track_columns s past h a enclave answers.Plain; held = held; access = tt; evict = tt; rising = tt; right = tt; arrays = λ all back. all }
+      record {
+        making = refl;
+        columns = track_columns s past h a enclave answers.Plain;
+        held = held;
+        access = tt;
+        evict = tt;
+        rising = tt;
+        right = tt;
+        arrays = λ all back. all;
+      }
 
   pub ewbstart_next : (a : Actor) (f : Frame) (slot : SlotAt) → IsGuarded s → first_of_row (row_of s a (EwbStart f slot)) ≡ None
       → IsNextTo s (after_ewbstart s f.0 slot) past (did_by a (EwbStart f slot) (answers.Version s.next_version))
@@ -419,7 +451,8 @@ module _ (s : State) (past : List Entry) (sound : IsSound s) (h : HasColumns s p
       record {
         making = refl;
         columns =
-            ewbstart_columns s past h a f slot (not_false _ (neither (not (is_va (s.content slot.frame.0))) (f.0 == slot.frame.0) none.1.1.1.0).0);
+            ewbstart_columns s past h a f slot
+            (not_false _ (neither (not (is_va (s.content slot.frame.0))) (f.0 == slot.frame.0) none.1.1.1.0).0);
         held = held;
         access = tt;
         evict = goes_out past f.0 (content past f.0)

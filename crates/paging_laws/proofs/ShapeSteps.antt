@@ -293,7 +293,8 @@ reloaded_arrays_told s t made past a f e rec sound guarded loading back h all br
         let named : va_page page.number ≡ page = λ i. record { enclave = sym (eqb-true page.enclave 0 va) i; number = page.number } in
         let k = brings done back.coming.start page.number back.coming.opened (back.coming.loads ∙ ap Some (sym named)) in
         let key : made.key ≡ s.key = ap (λ (m : Making). m.key) (sym h.shape.making) in
-        ap (λ key. words_of (cipher key back.coming.start.version rec.cipher)) (sym key) ∙ k.back ∙ sym (h.rest.rest page.number k.words k.last)
+        ap (λ key. words_of (cipher key back.coming.start.version rec.cipher)) (sym key) ∙ k.back
+        ∙ sym (h.rest.rest page.number k.words k.last)
 
 pub reloaded_shaped : (s t : State) (made : Making) (past : List Entry) (a : Actor) (f : Frame) (e : Entry) (rec : Sealed) → IsSound s
     → IsGuarded s → IsSound t → IsGuarded t → is_loading (s.content f.0) ≡ true

@@ -50,19 +50,26 @@ module _ (past : List Entry) (x : Start) (found : IsFound past x) (arrays : Arra
           let at = both_true (x.at.frame.0 == n) (x.at.index == index) e in
           let here : IsVa x.slot.va ≡ IsVa k = sym found.held ∙ ap (content past) (eqb-true x.at.frame.0 n at.0) ∙ held in
           let same : x.slot.va ≡ k = cc here in
-          absurd (false≢true (sym d ∙ rw (eq-eqb x.slot.va k same, eq-eqb x.slot.index index (sym found.index ∙ eqb-true x.at.index index at.1))
+          absurd (false≢true (sym d ∙ rw (
+            eq-eqb x.slot.va k same,
+            eq-eqb x.slot.index index (sym found.index ∙ eqb-true x.at.index index at.1),
+          )
           refl))
       by_place false e true d =
           let at = both_true (x.slot.va == k) (x.slot.index == index) d in
           let frame : x.at.frame.0 ≡ n = arrays.once x.at.frame.0 n k
           (ap array_in (found.held ∙ ap IsVa (eqb-true x.slot.va k at.0))) (ap array_in held) in
-          absurd (false≢true (sym e ∙ rw (eq-eqb x.at.frame.0 n frame, eq-eqb x.at.index index (found.index ∙ eqb-true x.slot.index index at.1))
+          absurd (false≢true (sym e ∙ rw (
+            eq-eqb x.at.frame.0 n frame,
+            eq-eqb x.at.index index (found.index ∙ eqb-true x.slot.index index at.1),
+          )
           refl))
 
 -- ---- versions
 
 -- a frame's version goes into its slot, and what the frame held goes with its slots
-module _ (s : State) (past : List Entry) (a : Actor) (f : Frame) (x : Start) (opened : open_start past f.0 ≡ Some x) (found : IsFound past x)
+module _ (s : State) (past : List Entry) (a : Actor) (f : Frame) (x : Start) (opened : open_start past f.0 ≡ Some x)
+    (found : IsFound past x)
     (arrays : ArraysApart (vas_made past) (content past)) where
   pub ewb_versions : (page : Page) (tag : List ℕ) (n k : ℕ) → (n == f.0) ≡ false → content past n ≡ IsVa k → HasVersions s past n k
       → HasVersions (after_ewb s f.0 (without_place x)) (entry_of a (Did (Ewb f) (Moved page x.version tag)) ∷ past) n k

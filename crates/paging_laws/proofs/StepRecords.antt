@@ -284,7 +284,8 @@ gives key past a f page version rec k = record {
         let now : copy (e ∷ past) g ≡ Some (InSlot slot v) = rw other there in (
           old.0,
           still old.0 g v (same rests g slot v now) (array_rests past e rests g slot v now)
-              (made_now old.0 (Any-front (λ other. other ≡ old.0) (made_by key past) (new ∷ []) has.made)) has.version has.cipher has.size has.back,
+              (made_now old.0 (Any-front (λ other. other ≡ old.0) (made_by key past) (new ∷ []) has.made)) has.version has.cipher
+              has.size has.back,
         )
 
 -- the commit of a write-out gives the record of the page's bytes

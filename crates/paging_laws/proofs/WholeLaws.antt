@@ -206,7 +206,8 @@ pub noted_all : (s : State) (made : Making) (past : List Entry) (records : List 
 noted_all s made past records e note sound guarded h =
     all_more s s made past records e h (noted_shaped s made past e note sound guarded h.shaped) (noted_reload past e note)
     (noted_brings s past e note h.standing.stands) records (noted_arrays s past e note h.standing.stands.versions)
-    (noted_sealed made.key past e note) (λ rests. outside_more made.key past e (noted_keeps past e note) rests h.outside) (h.records ∙ sym (noted_made made.key past e note))
+    (noted_sealed made.key past e note) (λ rests. outside_more made.key past e (noted_keeps past e note) rests h.outside)
+    (h.records ∙ sym (noted_made made.key past e note))
 
 -- a machine that has done nothing yet
 fresh_stands : (frames cpus : ℕ) (key : List ℕ) (epoch version : ℕ) → StandsWithRules (fresh frames cpus key epoch version) []

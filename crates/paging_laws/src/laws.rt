@@ -34,7 +34,8 @@ pub fn every_run_stands()
 
 /// The rows of the instructions that build enclaves and move pages see columns alone. So where a guarded state has the columns of some
 /// entries, the slots of each version array page in a frame have the versions that the entries say, and flat memory has the enclaves and
-/// pages as these entries made them, whatever the bytes of the pages are, each such instruction is allowed in the state where it is by the entries, and else refused by the same case.
+/// pages as these entries made them, whatever the bytes of the pages are, each such instruction is allowed in the state where it is by the
+/// entries, and else refused by the same case.
 pub fn rows_see_columns()
     ensures { (s : State) (past : List Entry) (a : Actor) (action : Action) → is_of_cpus action ≡ false → HasColumns s past
         → HasAllVersions s past → IsGuarded s → EnclavesAreFlat past

@@ -21,7 +21,8 @@ use Rattle.sgx_rules.specs.Table.{is_va}
 use Rattle.epcm_entry.specs.inner.Words.{words_of}
 use Rattle.epcm_entry.proofs.Words.{length-words_of}
 use Rattle.version_array.specs.declared.va_page.SlotState.{SlotState}
-use Rattle.version_array.specs.inner.Slots.{IsVaTable, empty_slot, filled, filled_page, has_page, is_busy_at, page_at, page_slots, pages_made}
+use Rattle.version_array.specs.inner.Slots.{IsVaTable, empty_slot, filled, filled_page, has_page}
+use Rattle.version_array.specs.inner.Slots.{is_busy_at, page_at, page_slots, pages_made}
 use Rattle.version_array.specs.inner.Slots.{slot_in, version_in}
 use Rattle.version_array.proofs.TableLaws.{IsVaTable-filled, length-filled, page_at-filled}
 use Rattle.evict_reload.specs.inner.Effects.{refilled}
@@ -52,7 +53,8 @@ filled_version bytes index sized = by_order (cases_lt index 512)
     by_order : (index < 512) ⊎ (512 ≤ index)
         → (slice_index_or (filled_page bytes) index empty_slot).version ≡ slice_index (words_of bytes) index
     by_order (inl low) =
-        ap (λ (s : SlotState). s.version) (get_or-map-range_with_len (λ i. filled (long_at bytes (8 * i))) 0 512 index index empty_slot low (omega arith))
+        ap (λ (s : SlotState). s.version) (get_or-map-range_with_len (λ i. filled (long_at bytes (8 * i))) 0 512 index index empty_slot low
+        (omega arith))
         ∙ ap (from_le_bytes w64) (sym (chunk_of_chunks 8 512 index bytes low))
         ∙ sym (get_or-map (from_le_bytes w64) (first_chunks 8 512 bytes) index [] 0 (rw (length-chunks 8 512 bytes) low))
         ∙ ap (λ n. slice_index (map (from_le_bytes w64) (first_chunks 8 n bytes)) index) (sym count)
@@ -74,7 +76,8 @@ filled_idle bytes index = by_order (cases_lt index 512)
 
 module _ (table : List (Option (List SlotState))) (f : ℕ) (bytes : List ℕ) (is_array : Bool) (sized : length bytes ≡ 4096)
     (vacant : page_at table f ≡ None) (room : is_array ≡ true → f < length table) where
-  pub page_back : (n : ℕ) → page_at (refilled is_array table f bytes) n ≡ cond (is_array && (n == f)) (Some (filled_page bytes)) (page_at table n)
+  pub page_back : (n : ℕ) → page_at (refilled is_array table f bytes) n
+      ≡ cond (is_array && (n == f)) (Some (filled_page bytes)) (page_at table n)
   page_back n = by_kind is_array refl
     where
       by_kind : (b : Bool) → is_array ≡ b
@@ -87,7 +90,8 @@ module _ (table : List (Option (List SlotState))) (f : ℕ) (bytes : List ℕ) (
       ≡ cond (is_array && (slot.frame.0 == f)) (slice_index_or (filled_page bytes) slot.index empty_slot) (slot_in table slot)
   slot_back slot =
       ap (λ page. slice_index_or (page_slots page) slot.index empty_slot) (page_back slot.frame.0)
-      ∙ through (λ page. slice_index_or (page_slots page) slot.index empty_slot) (is_array && (slot.frame.0 == f)) (Some (filled_page bytes))
+      ∙ through (λ page. slice_index_or (page_slots page) slot.index empty_slot) (is_array && (slot.frame.0 == f))
+      (Some (filled_page bytes))
       (page_at table slot.frame.0)
 
   pub version_back : (slot : SlotAt) → version_in (refilled is_array table f bytes) slot
@@ -154,7 +158,8 @@ room m h f page waits va =
     false≢true (sym (ap is_va (ap held same ∙ waits)) ∙ k.1)) in
     let count : pages_made m.va.pages ≡ count_below (λ n. has_page m.va.pages n) MOST_FRAMES =
     count_places is_some None refl m.va.pages MOST_FRAMES (few_places m.va h.held.places) in
-    let same : count_below (λ n. has_page m.va.pages n) MOST_FRAMES ≡ count_below (λ n. is_some (array_in (arrays_only (held n)))) MOST_FRAMES =
+    let same : count_below (λ n. has_page m.va.pages n) MOST_FRAMES
+    ≡ count_below (λ n. is_some (array_in (arrays_only (held n)))) MOST_FRAMES =
     count_below-agrees (λ n. has_page m.va.pages n) (λ n. is_some (array_in (arrays_only (held n))))
     (λ n. h.held.pages n ∙ some_array (held n)) MOST_FRAMES in
     rw (count, same) few

@@ -152,7 +152,8 @@ pub create_state : (d : Parts) (e f base size : ℕ) (begun : Measure) → Creat
     }) ≡ after_create (state_of d) e f base size begun
 create_state d e f base size begun k new is there =
     let y = with_frame (created e base size) (Some (record { 0 = f })) in
-    let entries : (n : ℕ) → entry_at (with_secs d.epc f e) n ≡ cond (f == n) (holding (page_at e SECS_NUMBER) kinds.Secs no_perm) (entry_at d.epc n) =
+    let entries : (n : ℕ) → entry_at (with_secs d.epc f e) n
+    ≡ cond (f == n) (holding (page_at e SECS_NUMBER) kinds.Secs no_perm) (entry_at d.epc n) =
     λ n. entry_at-with_secs d.epc f e n k.takes.low in
     λ i. record (after_create (state_of d) e f base size begun) {
       frames = length-with_secs d.epc f e i;
@@ -213,7 +214,8 @@ pub adds : (d : Parts) (f e number : ℕ) (kind : Kind) (perm : Perm) (init : Pa
     → first_of_row (add_row number kind perm init (Some (sight_of x)) (secs_sight (state_of d) x.enclave) b (sight_in d.epc f)) ≡ None
     → Adds d.epc f e number kind init x
 adds d f e number kind perm init b x ours allowed =
-    let none = none_holds (add_row number kind perm init (Some (sight_of x)) (secs_sight (state_of d) x.enclave) b (sight_in d.epc f)) allowed in
+    let none = none_holds (add_row number kind perm init (Some (sight_of x)) (secs_sight (state_of d) x.enclave) b (sight_in d.epc f))
+    allowed in
     record {
       takes = takes d.epc f none.0 none.1.1.1.1.1.1.1.1.0 none.1.1.1.1.1.1.1.1.1.0;
       secs = subst (SecsIsIn (length d.epc) (held_in d.epc) (λ n. goes_out (entry_at d.epc n))) ours
@@ -267,7 +269,8 @@ add_held d g f kind perm init x k found is counts h =
     let epc = with_added d.epc f g kind perm init in
     let v = holding g kind perm in
     let holds = holds_added g kind perm init k.addable in
-    let entries : (n : ℕ) → entry_at epc n ≡ cond (f == n) v (entry_at d.epc n) = λ n. entry_at-with_added d.epc f n g kind perm init k.takes.low in
+    let entries : (n : ℕ) → entry_at epc n ≡ cond (f == n) v (entry_at d.epc n) =
+    λ n. entry_at-with_added d.epc f n g kind perm init k.takes.low in
     held_put d.epc epc d.secs (with_enclave d.secs g.enclave y) d.va d.va f v (length-with_added d.epc f g kind perm init) entries
     (pages-with_words (with_page d.epc f g kind perm) d.va.pages f (first_words init)
     (pages-with_entry d.epc d.va.pages f v h.pages k.takes.low (ap table.is_va holds ∙ sym (ap table.is_va k.takes.free)))) h.places

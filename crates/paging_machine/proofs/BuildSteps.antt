@@ -75,7 +75,8 @@ pub epa_leaves : (m : Inside) → IsWhole m → (f : ℕ) (page : Page) (perm : 
     → Leaves (record (parts_of m) { epc = epc; va = va }) (after_epa (state_of (parts_of m)) f)
 epa_leaves m h f page perm epc va k numbered none put paged =
     let few : f < MOST_FRAMES = omega (arith, k.low, h.held.small) in
-    let entries : (n : ℕ) → entry_at (with_page m.epc f page kinds.Va perm) n ≡ cond (f == n) (holding page kinds.Va perm) (entry_at m.epc n) =
+    let entries : (n : ℕ) → entry_at (with_page m.epc f page kinds.Va perm) n
+    ≡ cond (f == n) (holding page kinds.Va perm) (entry_at m.epc n) =
     λ n. entry_at-with_entry m.epc f n _ k.low in
     rw (put, paged)
     (record {
@@ -102,16 +103,19 @@ epa_leaves m h f page perm epc va k numbered none put paged =
 pub add_row_at : (d : Parts) (a : Actor) (e number : ℕ) (f : Frame) (kind : Kind) (perm : Perm) (init : PageInit) (x : SecsState)
     → enclave_at d.secs e ≡ Some x → x.enclave ≡ e
     → first_of_row (row_of (state_of d) a (Add e number f kind perm init)) ≡ first_of_row
-    (add_row number kind perm init (Some (sight_of x)) (secs_sight (state_of d) x.enclave) (is_some (added_at x number)) (sight_in d.epc f.0))
+    (add_row number kind perm init (Some (sight_of x)) (secs_sight (state_of d) x.enclave) (is_some (added_at x number))
+    (sight_in d.epc f.0))
 add_row_at d a e number f kind perm init x found ours =
-    ap (λ o. first_of_row (add_row number kind perm init (enclave_sight_of (enclave_of o)) (secs_sight (state_of d) e) (is_some (added_in o number))
+    ap (λ o. first_of_row (add_row number kind perm init (enclave_sight_of (enclave_of o)) (secs_sight (state_of d) e)
+    (is_some (added_in o number))
     (sight_in d.epc f.0))) found
     ∙ ap (λ k. first_of_row (add_row number kind perm init (Some (sight_of x)) (secs_sight (state_of d) k) (is_some (added_at x number))
     (sight_in d.epc f.0))) (sym ours)
 
 pub add_written : (d : Parts) (g : Page) (f : ℕ) (kind : Kind) (perm : Perm) (init : PageInit) (x x' : SecsState) (longer : Measure)
     (epc : List EpcFrame) → IsTable d.secs → enclave_at d.secs g.enclave ≡ Some x → length d.measures ≡ 9
-    → None ≡ first_of_row (add_row g.number kind perm init (Some (sight_of x)) (secs_sight (state_of d) x.enclave) (is_some (added_at x g.number))
+    → None ≡ first_of_row (add_row g.number kind perm init (Some (sight_of x)) (secs_sight (state_of d) x.enclave)
+    (is_some (added_at x g.number))
     (sight_in d.epc f))
     → epc ≡ with_added d.epc f (page_at x.enclave g.number) kind perm init → x' ≡ with_resident x g.number kind perm
     → state_of (record d { epc = epc; secs = with_enclave d.secs g.enclave x'; measures = set d.measures g.enclave (Some longer) })
@@ -119,7 +123,8 @@ pub add_written : (d : Parts) (g : Page) (f : ℕ) (kind : Kind) (perm : Perm) (
 add_written d g f kind perm init x x' longer epc table found nine allowed put resident =
     let page : epc ≡ with_added d.epc f g kind perm init = put
     ∙ ap (λ e. with_added d.epc f (page_at e g.number) kind perm init) (table.own g.enclave x found).number in
-    rw (page, resident) (add_state d g f kind perm init x longer (adds d f g.enclave g.number kind perm init _ x (table.own g.enclave x found).number (sym allowed)) found table
+    rw (page, resident) (add_state d g f kind perm init x longer
+    (adds d f g.enclave g.number kind perm init _ x (table.own g.enclave x found).number (sym allowed)) found table
     (measure_place d g.enclave x table found nine))
 
 -- the counts of an enclave that a page was added to, by what was written

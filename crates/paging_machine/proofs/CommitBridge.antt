@@ -1,5 +1,6 @@
 -- What the commits of EWB and ELDU leave of the machine's parts, and what they answer.
-use Rattle.std.proofs.Common.{◌≡◌, ◌≢◌, ℕ, ◌/◌, ◌<◌, ◌≤◌, ◌==◌, ◌&&◌, not, Bool, true, false, cond, refl, sym, ap, subst, ◌∙◌, ◌⊎◌, inl, inr, arith}
+use Rattle.std.proofs.Common.{◌≡◌, ◌≢◌, ℕ, ◌/◌, ◌<◌, ◌≤◌, ◌==◌, ◌&&◌, not, Bool, true, false}
+use Rattle.std.proofs.Common.{cond, refl, sym, ap, subst, ◌∙◌, ◌⊎◌, inl, inr, arith}
 use Rattle.std.proofs.Common.{Option, Some, None, IfSome, List, length, set, is_some, length-set}
 use Rattle.std.specs.Prelude.{Ok, nat_lt, slice_index}
 use Rattle.std.specs.Option.{IsSomeAnd, option_and_then}
@@ -48,7 +49,8 @@ use Rattle.seal_record.specs.inner.Row.{eld_row}
 use Rattle.version_array.specs.declared.va_page.SlotState.{SlotState}
 use Rattle.version_array.specs.inner.Slots.{IsSlot, IsVaTable, VaArrays, filled_page, page_at, version_in, with_busy, with_version}
 use Rattle.evict_reload.specs.inner.Effects as effects
-use Rattle.evict_reload.specs.inner.Effects.{SameBeside, emptied, kind_in, page_of, refilled, with_ended, with_in, with_kind, with_out, with_plain}
+use Rattle.evict_reload.specs.inner.Effects.{SameBeside, emptied, kind_in, page_of, refilled}
+use Rattle.evict_reload.specs.inner.Effects.{with_ended, with_in, with_kind, with_out, with_plain}
 use Rattle.evict_reload.specs.inner.Effects.{with_reloaded}
 use Rattle.evict_reload.specs.inner.Sights as parts
 use Rattle.evict_reload.specs.inner.Sights.{AreCountedIn, is_array, is_kind_own, owner_in}
@@ -58,7 +60,8 @@ use Rattle.paging_laws.proofs.Contents.{waits_for}
 use Rattle.paging_laws.proofs.TestLaws.{none_there}
 use Rattle.paging_laws.specs.inner.Guarded.{IsOpen, IsPaged, Loads}
 use Rattle.paging_laws.specs.inner.State.{State, is_known, after_ewb, after_eld, after_failed_eld}
-use Rattle.paging_laws.specs.inner.Steps.{SealsPage, IsWrittenOut, IsComing, IsReloaded, commit_row, did_by, refused_by, header_by, header_in}
+use Rattle.paging_laws.specs.inner.Steps.{SealsPage, IsWrittenOut, IsComing, IsReloaded}
+use Rattle.paging_laws.specs.inner.Steps.{commit_row, did_by, refused_by, header_by, header_in}
 use Rattle.paging_machine.specs.declared.machine.Machine.TheInside.{Inside}
 use Rattle.paging_machine.specs.declared.starts.Start as opened
 use Rattle.paging_machine.specs.inner.Parts.{Parts, enclave_of, added_in, start_of, state_of}
@@ -408,10 +411,12 @@ kind_entries epc f page kinds.Va perm plain low n = entry_at-with_entry epc f n 
 kind_words : (epc : List EpcFrame) (f : ℕ) (page : Page) (kind : Kind) (perm : Perm) (plain : List ℕ) → f < length epc → (n : ℕ)
     → words_at (with_kind epc f page kind perm plain) n ≡ cond (is_kind_own kind && (f == n)) (words_of plain) (words_at epc n)
 kind_words epc f page kinds.Tcs perm plain low n =
-    words_at-with_words (with_page epc f page kinds.Tcs perm) f n (words_of plain) (rw (length-with_entry epc f (holding page kinds.Tcs perm)) low)
+    words_at-with_words (with_page epc f page kinds.Tcs perm) f n (words_of plain)
+    (rw (length-with_entry epc f (holding page kinds.Tcs perm)) low)
     ∙ ap (cond (f == n) (words_of plain)) (words_at-with_entry epc f n _)
 kind_words epc f page kinds.Reg perm plain low n =
-    words_at-with_words (with_page epc f page kinds.Reg perm) f n (words_of plain) (rw (length-with_entry epc f (holding page kinds.Reg perm)) low)
+    words_at-with_words (with_page epc f page kinds.Reg perm) f n (words_of plain)
+    (rw (length-with_entry epc f (holding page kinds.Reg perm)) low)
     ∙ ap (cond (f == n) (words_of plain)) (words_at-with_entry epc f n _)
 kind_words epc f page kinds.Secs perm plain low n = words_at-with_entry epc f n _
 kind_words epc f page kinds.Va perm plain low n = words_at-with_entry epc f n _
@@ -451,7 +456,8 @@ eld_leaves m h f start page w plain secs d' at sized same counts done =
       tracked = h.tracked;
       slots = table_ended R start.at 0 table_R slot_R;
       held = held_put d.epc epc' m.secs secs m.va _ f v (kind_length d.epc f page w.kind w.perm plain) entries
-          (after_commit_in d.epc epc' d.va.pages (with_in d.va.pages f page plain start.at) f start.at page (Some (w.kind, w.perm)) plain (Ok tt)
+          (after_commit_in d.epc epc' d.va.pages (with_in d.va.pages f page plain start.at) f start.at page
+          (Some (w.kind, w.perm)) plain (Ok tt)
           refl refl tt h.held.pages k.is_slot k.low place w.waits refl w.array)
           (length-ended R start.at 0 ∙ length-refilled (is_va_page page) d.va.pages f plain ∙ h.held.places) counts
           (owned_beside m.secs secs same _ w.owned) (still_beside m.secs secs same) w.named h.held;

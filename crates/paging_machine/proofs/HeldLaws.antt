@@ -222,7 +222,8 @@ none_owned epc table e n owned absent = by_content (held_in epc n) (owned n)
 pub children_there : (epc : List EpcFrame) (table : List (Option SecsState)) (e : ℕ) (x : SecsState) → AreCountedIn epc table
     → enclave_at table e ≡ Some x → x.children ≡ children (length epc) (held_in epc) e
 children_there epc table e x counted found =
-    let k : IsCountedIn (length epc) (held_in epc) e x = subst (λ o. IfSome o (IsCountedIn (length epc) (held_in epc) e)) found (counted e) in
+    let k : IsCountedIn (length epc) (held_in epc) e x = subst (λ o. IfSome o (IsCountedIn (length epc) (held_in epc) e)) found
+    (counted e) in
     k.children
 
 pub children_none : (epc : List EpcFrame) (table : List (Option SecsState)) (e : ℕ) → HaveEnclaves epc table → enclave_at table e ≡ None
@@ -239,7 +240,8 @@ module _ (epc epc' : List EpcFrame) (table : List (Option SecsState)) (e f : ℕ
   new_counted none here = record {
     children = none ∙ sym (count_below-zero (λ n. is_child (held_in epc' n) e) (length epc) (λ n less. childless n));
     frame = ap (option_map (λ (k : Frame). k.0)) here
-        ∙ sym (least_is (λ n. is_secs_of (held_in epc' n) e) (length epc) f (record { below = low; passes = passes; least = λ j less. earlier j less }));
+        ∙ sym (least_is (λ n. is_secs_of (held_in epc' n) e) (length epc) f
+        (record { below = low; passes = passes; least = λ j less. earlier j less }));
   }
     where
       childless : (n : ℕ) → is_child (held_in epc' n) e ≡ false

@@ -144,7 +144,8 @@ kept_track s enclave allowed h = record {
 }
 
 pub kept_ewbstart : (s : State) (f : ℕ) (slot : SlotAt)
-    → first_of_row (ewbstart_row (sight s f) (use_sight s f slot) (slot_sight s slot) (drain_sight s f) (is_version_spent s)) ≡ None → IsKept s
+    → first_of_row (ewbstart_row (sight s f) (use_sight s f slot) (slot_sight s slot) (drain_sight s f) (is_version_spent s)) ≡ None
+    → IsKept s
     → IsKept (after_ewbstart s f slot)
 kept_ewbstart s f slot allowed h = record {
   measured = h.measured;

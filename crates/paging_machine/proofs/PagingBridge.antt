@@ -41,13 +41,15 @@ use Rattle.version_array.specs.inner.Slots.{empty_slot, page_at, page_slots, slo
 use Rattle.version_array.specs.inner.Versions.{is_spent_at}
 use Rattle.version_array.proofs.TableLaws.{IsVaTable-without, page_at-without, version_in-with_version, is_busy_at-with_version}
 use Rattle.version_array.proofs.TableLaws.{version_in-with_busy, is_busy_at-with_busy, slot_kept, IsVaTable-with_slot}
-use Rattle.evict_reload.specs.inner.Effects.{SameBeside, beside, emptied, epoch_of, with_blocked, with_next, with_tracked, with_ended, with_out}
+use Rattle.evict_reload.specs.inner.Effects.{SameBeside, beside, emptied, epoch_of, with_blocked}
+use Rattle.evict_reload.specs.inner.Effects.{with_next, with_tracked, with_ended, with_out}
 use Rattle.evict_reload.specs.inner.Sights as parts
 use Rattle.evict_reload.specs.inner.Sights.{AreCountedIn, AreVaPages, IsNumbered, track_seen}
 use Rattle.evict_reload.proofs.PageLaws.{pages-with_entry, pages-with_slot, is_va-with_block, is_va-outgoing}
 use Rattle.page_history.specs.inner.Away.{array_in}
 use Rattle.paging_laws.specs.inner.Guarded.{IsGuarded, IsOpen}
-use Rattle.paging_laws.specs.inner.State.{epoch_in, slot_of_found, version_at, after_block, after_track, after_ewbstart, after_eldstart, after_ewb}
+use Rattle.paging_laws.specs.inner.State.{epoch_in, slot_of_found, version_at, after_block}
+use Rattle.paging_laws.specs.inner.State.{after_track, after_ewbstart, after_eldstart, after_ewb}
 use Rattle.paging_laws.specs.inner.State.{after_failed_eld}
 use Rattle.paging_machine.specs.declared.starts.Start as opened
 use Rattle.paging_machine.specs.inner.Parts.{Parts, added_in, enclave_of, is_busy_in, is_noted, start_of, epoch_from, state_of}
@@ -253,7 +255,8 @@ ewbstart_state d f slot is k valid =
       words = λ n. words_at-with_entry d.epc f n v i;
       version_in = λ other. version_in-with_busy d.va.pages slot other true is k.is_slot i;
       is_slot_named = λ other. is_busy_at-with_busy d.va.pages slot other true is k.is_slot i;
-      start = λ n. start_column d.starts f n (Some (record { at = slot; slot = found_at d slot; version = d.versions; loads = None })) k.there i;
+      start = λ n. start_column d.starts f n (Some (record { at = slot; slot = found_at d slot; version = d.versions; loads = None }))
+          k.there i;
     }
 
 named-outgoing : (v : EntryView) → IsNamedFor v → IsNamedFor (outgoing v)
@@ -315,7 +318,8 @@ table_beside old new same is = record {
         let own = is.own e y at in
         record {
           number = sym (ap (λ (z : SecsState). z.enclave) alike) ∙ own.number;
-          sound = let k : IsSecs (beside x) = subst IsSecs alike (record { lawful = own.sound.lawful; pages = own.sound.pages; busy = own.sound.busy }) in
+          sound = let k : IsSecs (beside x) =
+              subst IsSecs alike (record { lawful = own.sound.lawful; pages = own.sound.pages; busy = own.sound.busy }) in
               record { lawful = k.lawful; pages = k.pages; busy = k.busy };
         }
 
@@ -340,13 +344,15 @@ eldstart_state d f page slot is k idle =
       words = λ n. words_at-with_entry d.epc f n (views.Loading page) i;
       version_in = λ other. version_in-with_busy d.va.pages slot other true is k.is_slot i;
       is_slot_named = λ other. is_busy_at-with_busy d.va.pages slot other true is k.is_slot i;
-      start = λ n. start_column d.starts f n (Some (record { at = slot; slot = found_at d slot; version = version_at (state_of d) slot; loads = Some page })) k.there i;
+      start = λ n. start_column d.starts f n
+          (Some (record { at = slot; slot = found_at d slot; version = version_at (state_of d) slot; loads = Some page })) k.there i;
     }
 
 -- ---- the commits
 
 -- a slot of the page that is on its way out is marked by none
-pub unmarked : (d : Parts) (f : ℕ) (slot : SlotAt) → IsGuarded (state_of d) → goes_out (entry_at d.epc f) ≡ true → (slot.frame.0 == f) ≡ true
+pub unmarked : (d : Parts) (f : ℕ) (slot : SlotAt) → IsGuarded (state_of d) → goes_out (entry_at d.epc f) ≡ true
+    → (slot.frame.0 == f) ≡ true
     → is_busy_at d.va.pages slot ≡ false
 unmarked d f slot guarded leaves here = by_mark (is_busy_at d.va.pages slot) refl
   where
@@ -355,7 +361,8 @@ unmarked d f slot guarded leaves here = by_mark (is_busy_at d.va.pages slot) ref
     by_mark true is =
         let k = guarded.apart.named slot is in
         let at : IsOpen (state_of d) k.start = rw k.is_open at (guarded.opened k.frame) in
-        let stays : goes_out (entry_at d.epc slot.frame.0) ≡ false = ap (λ (x : SlotAt). goes_out (entry_at d.epc x.frame.0)) (sym k.names) ∙ at.stays in
+        let stays : goes_out (entry_at d.epc slot.frame.0) ≡ false = ap (λ (x : SlotAt). goes_out (entry_at d.epc x.frame.0)) (sym k.names)
+        ∙ at.stays in
         absurd (false≢true (sym stays ∙ ap (λ n. goes_out (entry_at d.epc n)) (eqb-true slot.frame.0 f here) ∙ leaves))
 
 abbrev pub written_parts : Parts → ℕ → BareStart → Parts
@@ -388,9 +395,14 @@ module _ (d : Parts) (f : ℕ) (start : BareStart) (is : IsVaTable d.va.pages) (
       by_kind false none = is
 
   pub gone_slot : IsSlot gone start.at
-  gone_slot = record { paged = ap is_some (page_gone start.at.frame.0 ∙ kept (table.is_va (held (entry_at d.epc f)))) ∙ k.is_slot.paged; within = k.is_slot.within }
+  gone_slot = record {
+    paged = ap is_some (page_gone start.at.frame.0 ∙ kept (table.is_va (held (entry_at d.epc f))))
+        ∙ k.is_slot.paged;
+    within = k.is_slot.within;
+  }
     where
-      kept : (b : Bool) → cond (b && (start.at.frame.0 == f)) None (page_at d.va.pages start.at.frame.0) ≡ page_at d.va.pages start.at.frame.0
+      kept : (b : Bool) → cond (b && (start.at.frame.0 == f)) None (page_at d.va.pages start.at.frame.0)
+          ≡ page_at d.va.pages start.at.frame.0
       kept b = rw (sym (eqb-swap f start.at.frame.0) ∙ elsewhere) (never b)
         where
           never : (b : Bool) → cond (b && false) None (page_at d.va.pages start.at.frame.0) ≡ page_at d.va.pages start.at.frame.0
@@ -411,10 +423,12 @@ module _ (d : Parts) (f : ℕ) (start : BareStart) (is : IsVaTable d.va.pages) (
   version_gone : (slot : SlotAt)
       → version_in gone slot ≡ cond (table.is_va (held (entry_at d.epc f)) && (slot.frame.0 == f)) 0 (version_in d.va.pages slot)
   version_gone slot = ap (λ (x : SlotState). x.version) (slot_gone slot)
-      ∙ through (λ (x : SlotState). x.version) (table.is_va (held (entry_at d.epc f)) && (slot.frame.0 == f)) empty_slot (slot_in d.va.pages slot)
+      ∙ through (λ (x : SlotState). x.version) (table.is_va (held (entry_at d.epc f)) && (slot.frame.0 == f)) empty_slot
+      (slot_in d.va.pages slot)
 
   busy_gone : (slot : SlotAt) → is_busy_at gone slot ≡ is_busy_at d.va.pages slot
-  busy_gone slot = ap (λ (x : SlotState). x.busy) (slot_gone slot) ∙ by_place (table.is_va (held (entry_at d.epc f))) (slot.frame.0 == f) refl
+  busy_gone slot = ap (λ (x : SlotState). x.busy) (slot_gone slot)
+      ∙ by_place (table.is_va (held (entry_at d.epc f))) (slot.frame.0 == f) refl
     where
       by_place : (b here : Bool) → (slot.frame.0 == f) ≡ here
           → (cond (b && here) empty_slot (slot_in d.va.pages slot)).busy ≡ is_busy_at d.va.pages slot
@@ -482,7 +496,8 @@ block_leaves m h f epc allowed done =
       held = held_same d.epc (with_entry d.epc f v) (length-with_entry d.epc f v)
           (λ n. entry_kept d.epc (with_entry d.epc f v) f v (entries_with d.epc f v k.low) held n (held-with_block (entry_at d.epc f) _))
           m.secs m.va m.va (pages-with_entry d.epc d.va.pages f v h.held.pages k.low (is_va-with_block (entry_at d.epc f) _)) h.held.places
-          (named_put d.epc (with_entry d.epc f v) f v (entries_with d.epc f v k.low) (named-with_block (entry_at d.epc f) _ (h.held.named f))
+          (named_put d.epc (with_entry d.epc f v) f v (entries_with d.epc f v k.low)
+          (named-with_block (entry_at d.epc f) _ (h.held.named f))
           h.held.named) h.held;
       start_places = h.start_places ∙ sym (length-with_entry d.epc f v);
     })
@@ -563,7 +578,8 @@ pages_marked d epc f slot on pages k =
 
 pub slots_marked : (d : Parts) (f : ℕ) (slot : SlotAt) (on : Bool) → IsVaTable d.va.pages → IsWritable d f slot
     → IsVaTable (with_busy d.va.pages slot on)
-slots_marked d f slot on is k = IsVaTable-with_slot d.va.pages slot (record { version = version_in d.va.pages slot; busy = on }) is k.is_slot
+slots_marked d f slot on is k = IsVaTable-with_slot d.va.pages slot
+    (record { version = version_in d.va.pages slot; busy = on }) is k.is_slot
 
 -- the start of EWB
 pub record GoesOut (d : Parts) (f : ℕ) (slot : SlotAt) : Type 0 where
@@ -590,7 +606,8 @@ pub ewbstart_leaves : (m : Inside) → IsWhole m → (f : ℕ) (slot : SlotAt) (
     → Leaves d' (after_ewbstart (state_of (parts_of m)) f slot)
 ewbstart_leaves m h f slot d' allowed done =
     let d = parts_of m in
-    let k = goes d f slot (parts.use_sight d.epc d.va.pages f slot) (parts.drain_sight d.epc d.tracks f) (is_spent_at d.versions) h.held.pages
+    let k = goes d f slot (parts.use_sight d.epc d.va.pages f slot) (parts.drain_sight d.epc d.tracks f)
+    (is_spent_at d.versions) h.held.pages
     h.start_places allowed in
     let w = k.found.writable in
     let v = outgoing (entry_at d.epc f) in

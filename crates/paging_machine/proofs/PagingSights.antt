@@ -20,7 +20,8 @@ use Rattle.sgx_types.specs.Counts.{any_below, count_below}
 use Rattle.sgx_rules.specs.Epochs.{epoch_of}
 use Rattle.sgx_rules.specs.Frames.{Content, Free, IsVa, SecsOf, Holds, IsLoading, enclave_in, page_there}
 use Rattle.sgx_types.specs.Pages.{is_secs_page, is_va_page, secs_page, va_page}
-use Rattle.sgx_rules.specs.Table.{DrainSight, SlotSight, UseSight, first_of_row, track_row, ewbstart_row, eldstart_row, is_loading, is_made, is_va}
+use Rattle.sgx_rules.specs.Table.{DrainSight, SlotSight, UseSight, first_of_row, track_row}
+use Rattle.sgx_rules.specs.Table.{ewbstart_row, eldstart_row, is_loading, is_made, is_va}
 use Rattle.sgx_types.proofs.CountLaws.{any_below-none, count_below-agrees, count_below-zero}
 use Rattle.epcm_entry.specs.declared.entry_view.EntryView.{EntryView}
 use Rattle.epcm_entry.specs.declared.entry_view.EntryView.TheVariants as views
@@ -43,7 +44,8 @@ use Rattle.version_array.specs.inner.Versions.{is_spent_at}
 use Rattle.evict_reload.specs.inner.Sights as parts
 use Rattle.evict_reload.specs.inner.Sights.{AreVaPages, IsNumbered, drain_of}
 use Rattle.version_array.specs.declared.va_page.SlotState.{SlotState}
-use Rattle.version_array.specs.inner.Slots.{IsVaTable, empty_slot, is_any_busy, is_busy_at, page_at, page_slots, slot_in, slots_of, version_in}
+use Rattle.version_array.specs.inner.Slots.{IsVaTable, empty_slot, is_any_busy, is_busy_at}
+use Rattle.version_array.specs.inner.Slots.{page_at, page_slots, slot_in, slots_of, version_in}
 use Rattle.paging_laws.proofs.TestLaws.{none_there}
 use Rattle.evict_reload.specs.inner.Effects as effects
 use Rattle.paging_laws.specs.inner.State.{State, sight, is_noting, number_noting, epoch_in, number_up_to, has_passed}
@@ -156,7 +158,8 @@ track_row_at d e eight places few tracked = by_state (enclave_at d.secs e) refl
     absent (Some t) = refl
 
     by_state : (o : Option SecsState) → enclave_at d.secs e ≡ o
-        → first_of_row (track_row (parts.track_seen (option_map sight_of o) (secs_sight (state_of d) e) (track_of d.tracks e))) ≡ first_of_row
+        → first_of_row (track_row (parts.track_seen (option_map sight_of o) (secs_sight (state_of d) e) (track_of d.tracks e)))
+        ≡ first_of_row
         (track_row (record (track_sight (state_of d) e) { enclave = enclave_sight_of (enclave_of o) }))
     by_state None at = absent (track_of d.tracks e)
     by_state (Some x) at =
@@ -265,7 +268,8 @@ load_seen d page = λ i. record {
     known : (va inner : Bool)
         → cond va (nat_lt page.number d.va.made) (cond inner (is_some (enclave_at d.secs page.enclave)) (parts.is_added d.secs page))
         ≡ cond va (nat_lt page.number d.va.made) (cond inner (is_made (enclave_sight_of (enclave_of (enclave_at d.secs page.enclave))))
-        (is_made (enclave_sight_of (enclave_of (enclave_at d.secs page.enclave))) && is_some (added_in (enclave_at d.secs page.enclave) page.number)))
+        (is_made (enclave_sight_of (enclave_of (enclave_at d.secs page.enclave)))
+        && is_some (added_in (enclave_at d.secs page.enclave) page.number)))
     known true inner = refl
     known false true = made (enclave_at d.secs page.enclave)
     known false false = added (enclave_at d.secs page.enclave)
@@ -285,7 +289,8 @@ drain_at d page b places few tracked number =
 -- what the start of EWB sees of a frame, by its entry
 abbrev ewbstart_by : Bool → EntryView → UseSight → SlotSight → DrainSight → Bool → Option Refusal
 ewbstart_by beyond v uses slot drain spent = first_of_row
-    (ewbstart_row (record { is_beyond = beyond; content = held v; is_sealing = goes_out v; is_blocked = is_some (block_of v) }) uses slot drain
+    (ewbstart_row (record { is_beyond = beyond; content = held v; is_sealing = goes_out v; is_blocked = is_some (block_of v) })
+    uses slot drain
     spent)
 
 abbrev drain_by : State → EntryView → DrainSight
@@ -348,7 +353,8 @@ leaving_page d f page kind perm blocked sealing named at =
     by_kind kinds.Tcs h = refl
     by_kind kinds.Reg h = refl
     by_kind kinds.Va h = ap Some (let same : va_page page.number ≡ page = λ i. record { enclave = sym h i; number = page.number } in same)
-    by_kind kinds.Secs h = ap Some (let same : secs_page page.enclave ≡ page = λ i. record { enclave = page.enclave; number = sym h i } in same)
+    by_kind kinds.Secs h = ap Some (let same : secs_page page.enclave
+        ≡ page = λ i. record { enclave = page.enclave; number = sym h i } in same)
 
 -- a page that was added has a number of its enclave
 pub page_below : (d : Parts) (g : Page) (x : SecsState) → IsTable d.secs → enclave_at d.secs g.enclave ≡ Some x

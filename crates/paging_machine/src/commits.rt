@@ -113,8 +113,8 @@ impl Machine {
             → ShapeWithRules making (state_of self.new) (result ∷ past) }
         ensures fits { (making : Making) (past : List Entry) → ShapeWithRules making (state_of self.old) past →
             FitsApart making.frames past → FitsApart making.frames (result ∷ past) }
-        // The slots of version array pages have the versions that the entries say, where the record of such a page brings those with which it
-        // last went out.
+        // The slots of version array pages have the versions that the entries say, where the record of such a page brings those with which
+        // it last went out.
         ensures arrays { (making : Making) (past : List Entry) → ShapeWithRules making (state_of self.old) past →
             HasAllVersions (state_of self.old) past →
             (IsDone result.event → BringsArrayIn making.key past (state_of self.old) frame.0 work.rec) →
@@ -183,8 +183,8 @@ impl Machine {
         header_in(&self.secs, page).unwrap()
     }
 
-    // Writes the 4096 bytes of what starts to go out of a frame, as they are sealed: of a TCS or REG page those in its frame, of a version array
-    // page its slots, and of a SECS what the machine knows of its enclave.
+    // Writes the 4096 bytes of what starts to go out of a frame, as they are sealed: of a TCS or REG page those in its frame, of a version
+    // array page its slots, and of a SECS what the machine knows of its enclave.
     fn write_bytes(&self, frame: Frame, onto: &mut Vec<u8>)
         requires leaving { (state_of self.now).is_sealing frame.0 ≡ true }
         requires page { length onto.old.items ≡ 4096 }

@@ -69,7 +69,8 @@ pub fn the_book_goes_on()
 /// and machine go on to agree: by the machine's own clauses, where the tables show it.
 pub fn instructions_are_next()
     ensures { (made : Making) (j : JobView) (past : List Entry) (d d' : Driver) (m m' : Parts) (taken : List Taken) (phase : Phase)
-        (actor : Actor) (action : Action) (e : Entry) → is_reclaimer actor ≡ false → is_plain action ≡ true → IsValid j → Agrees made j past d m
+        (actor : Actor) (action : Action) (e : Entry) → is_reclaimer actor ≡ false → is_plain action ≡ true → IsValid j
+        → Agrees made j past d m
         → StandsFor made.first_epoch past taken phase (pass j past) → ScriptRule j past e
         → IsStep (state_of m) actor action e (state_of m') → Carries (state_of m) e (state_of m') → length m'.cpus ≡ length m.cpus
         → ShowsTables j d' (e ∷ past) → CountMoves e.event (count_out d.slots) (count_out d'.slots) → IsNextOf made j past d m e d' m' }

@@ -175,8 +175,10 @@ module _ (s : State) (past : List Entry) (columns : HasColumns s past) (seen : E
       (subst (λ b. first_of_row
       (add_row number kind perm init (enclave_sight_of ((flat past).enclaves enclave)) settled b open_frame) ≡ None) page
       (subst (λ (o : Option FlatEnclave). first_of_row
-      (add_row number kind perm init (enclave_sight_of o) settled (is_some (s.added g)) open_frame) ≡ None) (enclave_seen columns seen enclave)
-      (add_open number kind perm init (enclave_sight_of (s.enclaves enclave)) (secs_sight s enclave) (is_some (s.added g)) (sight s f.0) row))) seen)
+      (add_row number kind perm init (enclave_sight_of o) settled (is_some (s.added g)) open_frame) ≡ None)
+      (enclave_seen columns seen enclave)
+      (add_open number kind perm init (enclave_sight_of (s.enclaves enclave)) (secs_sight s enclave) (is_some (s.added g))
+      (sight s f.0) row))) seen)
   flat_done t a (Init enclave expect) e row is = by_judged is.judged
     where
       by_judged : (IsExpected expect is.digest × (e ≡ did_by a (Init enclave expect) (answers.Hash is.digest)) × (t ≡ after_init s enclave))

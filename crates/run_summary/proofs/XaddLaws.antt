@@ -116,7 +116,8 @@ pub none_yet : (j : JobView) (start : Progress) → start.replied ≡ 0 → star
 none_yet j start none outside = record {
   progress = λ p d low.
       let within : p < length j.scripts = omega (arith, low, length-replicate (length j.scripts) start) in
-      subst (IsProgress [] p) (sym (get_or-replicate (length j.scripts) p start d within)) (record { replied = none; interrupted = outside });
+      subst (IsProgress [] p) (sym (get_or-replicate (length j.scripts) p start d within))
+      (record { replied = none; interrupted = outside });
   many = length-replicate (length j.scripts) start;
   count = sym (no_sum j 0 (length j.scripts));
 }

@@ -161,7 +161,8 @@ module _ (c : Course) (told longer : Option (List Call)) (before spare : ℕ) (p
 
   -- an entry can be taken in
   by_entry : (e : Entry) → IsNextOf (machine_of c.job) c.job (past_of c) c.driver c.machine e d m → d.active.own ≡ c.driver.active.own
-      → IsTurnEntry e → IsUsedUp c.job (past_of c) e.event → EnclavesAreFlat (e ∷ past_of c) → AreTold c.job (past_of c) e told longer c.driver d
+      → IsTurnEntry e → IsUsedUp c.job (past_of c) e.event → EnclavesAreFlat (e ∷ past_of c)
+      → AreTold c.job (past_of c) e told longer c.driver d
       → ((calls : List Call) → CarriesBytes (machine_of c.job) c.job (past_of c) c.machine e m calls)
       → StandsFor c.job.start_epoch (e ∷ past_of c) p.taken.items p.phase (pass_by c.job (past_of c) e.event (pass c.job (past_of c)))
       → still_out p.taken.items p.phase ≤ spare → IsOwnEntry behind e longer spare
@@ -310,7 +311,8 @@ module _ (c : Course) (told longer : Option (List Call)) (before spare : ℕ) (p
   -- whatever the turn made
   pub follows_by : is_some c.room ≡ true → (turn : PassTurn) → IsStepped c told turn p d m longer spare → FollowsBy behind turn longer spare
   follows_by some (turns.One e) s =
-      by_entry e (next_of (turns.One e) s) (leaves_of (turns.One e) s) (tells_of (turns.One e) s).0 (used_of (turns.One e) s) (flat_of (turns.One e) s)
+      by_entry e (next_of (turns.One e) s) (leaves_of (turns.One e) s) (tells_of (turns.One e) s).0 (used_of (turns.One e) s)
+      (flat_of (turns.One e) s)
       (told_of (turns.One e) s) (bytes_of (turns.One e) s) s.stands s.places
   follows_by some (turns.Spent e) s =
       by_entry e (next_of (turns.Spent e) s) (leaves_of (turns.Spent e) s).0 (tells_of (turns.Spent e) s).0 (used_of (turns.Spent e) s)

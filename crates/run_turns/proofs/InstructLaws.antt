@@ -183,7 +183,8 @@ instructed c d' m' actor action e k is carries cpus noted =
     let w = lawful c actor action k in
     let b = k.keeps.book in
     record {
-      next = plain_next made c.job past c.driver d' c.machine m' c.pass.taken.items c.pass.phase actor action e w.other w.plain b.turns.valid b.agrees
+      next = plain_next made c.job past c.driver d' c.machine m' c.pass.taken.items c.pass.phase actor action e w.other w.plain
+          b.turns.valid b.agrees
           k.keeps.stands (scripted c m' actor action e k.due is) is carries cpus noted.shows noted.counts;
       own = noted.own;
       enters = enters_apart (length c.machine.cpus) (state_of c.machine) actor action e (state_of m') w.can is;

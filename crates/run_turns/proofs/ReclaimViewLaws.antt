@@ -82,7 +82,8 @@ seals_seen c told spare work plans out_of_memory k = by_phase c.pass.phase
           version = s.version ∙ sym (ap (λ (y : BareStart). y.version) its.same);
           page = page;
           held = ap (λ o. is_page o page) there.0.holds ∙ same_page-refl page;
-          header = header_held (machine_of c.job) c.job (past_of c) told c.driver c.machine c.turns page s.leaving.header k.book s.leaving.headed
+          header = header_held (machine_of c.job) c.job (past_of c) told c.driver c.machine c.turns page s.leaving.header k.book
+              s.leaving.headed
               ∙ ap Some (sym s.header);
           bytes = bytes_seen told one.frame.0 page s.leaving.bytes work
               (subst (λ x. IsHeld x page) (sym (content_is shape.columns one.frame.0)) there.0) there.1

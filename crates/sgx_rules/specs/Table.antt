@@ -323,7 +323,8 @@ block_row s =
     otherwise when s.is_blocked why.BlkState
     otherwise allowed
 
--- what `track` sees of its enclave and of the enclave's SECS: how many processors inside have an older epoch, and whether the epoch is the last
+-- what `track` sees of its enclave and of the enclave's SECS: how many processors inside have an older epoch, and whether the epoch is the
+-- last
 pub record TrackSight : Type 0 where
   pub enclave : Option EnclaveSight
   pub secs : SecsSight

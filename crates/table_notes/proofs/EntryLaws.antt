@@ -103,7 +103,8 @@ did_moves s past a (Create enclave f base size) answer plain own columns seen ro
     sym (content_is columns f.0) ∙ free_there (s.content f.0) (s.is_sealing f.0) none.1.1.0 none.1.1.1.0
 did_moves s past a (Add enclave number f kind perm init) answer plain own columns seen row =
     let g : Page = page_at enclave number in
-    let one = adds number kind perm init (enclave_sight_of (s.enclaves enclave)) (secs_sight s enclave) (is_some (s.added g)) (sight s f.0) row in (
+    let one = adds number kind perm init (enclave_sight_of (s.enclaves enclave)) (secs_sight s enclave) (is_some (s.added g))
+    (sight s f.0) row in (
       sym (content_is columns f.0) ∙ free_there (s.content f.0) (s.is_sealing f.0) one.idle one.empty,
       absent_is (place past g) (sym (seen g) ∙ ap is_some (sym (added_is columns g)) ∙ one.new),
       own,

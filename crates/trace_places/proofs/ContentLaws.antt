@@ -11,7 +11,8 @@ use Rattle.sgx_rules.specs.declared.entries.Event.{Event}
 use Rattle.sgx_rules.specs.declared.entries.Event.TheVariants.{Did, Refused}
 use Rattle.sgx_rules.specs.declared.entries.Action.TheVariants.{Epa, Create, Add, EldStart, Eld, Ewb}
 use Rattle.sgx_rules.specs.declared.entries.Answer.TheVariants.{Moved}
-use Rattle.sgx_rules.specs.Frames.{Content, IsVa, SecsOf, Holds, IsLoading, Free, Before, put_by, held_after, reloaded, reloaded_as, content}
+use Rattle.sgx_rules.specs.Frames.{Content, IsVa, SecsOf, Holds, IsLoading, Free, Before}
+use Rattle.sgx_rules.specs.Frames.{put_by, held_after, reloaded, reloaded_as, content}
 use Rattle.sgx_types.specs.Pages.{is_own_page, is_va_page, page_at}
 use Rattle.sgx_types.specs.declared.names.TheConstants.{SECS_NUMBER}
 use Rattle.sgx_rules.specs.Frames.{made_before}
@@ -46,7 +47,8 @@ back_agrees page was own few = by_name (is_va_page page) (page.number == SECS_NU
         let same : page ≡ page_at 0 page.number = λ i. record { enclave = eqb-true page.enclave 0 va i; number = page.number } in
         ap (λ g. Some (Has g)) same ∙ sym (ap va_tenant (few va))
     by_name false true o va secs is =
-        let same : page ≡ page_at page.enclave SECS_NUMBER = λ i. record { enclave = page.enclave; number = eqb-true page.number SECS_NUMBER secs i } in
+        let same : page ≡ page_at page.enclave SECS_NUMBER =
+        λ i. record { enclave = page.enclave; number = eqb-true page.number SECS_NUMBER secs i } in
         ap (λ g. Some (Has g)) same
     by_name false false None va secs is = absurd (false≢true (sym (ap is_some is) ∙ own (rw (va, secs) refl)))
     by_name false false (Some k) va secs is = refl

@@ -69,7 +69,8 @@ tenant_by (SecsOf enclave) = Some (Has (page_at enclave 4294967295))
 tenant_by (Holds page kind perm) = Some (Has page)
 tenant_by (IsLoading page) = Some (Awaits page)
 
--- a load that ends brings a page that there can be: a TCS or REG page that was added, a SECS, or a version array page with a number of 4 bytes
+-- a load that ends brings a page that there can be: a TCS or REG page that was added, a SECS, or a version array page with a number of 4
+-- bytes
 abbrev pub IsOfAdded : (Page → Option (Kind × Perm)) → Event → Type 0
 IsOfAdded was (Did (Eld f) (Moved page version tag)) =
     (is_own_page page ≡ true → is_some (was page) ≡ true) × (is_va_page page ≡ true → va_number page.number ≡ Some page.number)

@@ -1,5 +1,5 @@
 -- The words of some fields, and of others behind them.
-use Rattle.std.proofs.Common.{◌≡◌, ℕ, List, ◌++◌, Option, Some, None, refl}
+use Rattle.std.proofs.Common.{◌≡◌, ℕ, List, ◌++◌, Option, Some, None, refl, ap, ◌∙◌}
 use Rattle.std.proofs.lemmas.Grind.{flat_map-append}
 use Rattle.trace_text.specs.declared.edition.Edition.{Edition}
 use Rattle.trace_text.specs.declared.edition.Edition.TheVariants as editions
@@ -22,6 +22,12 @@ pub refusal_words : (edition : Edition) (refusal : Refusal)
     → words_of edition (refusal_fields refusal) ≡ words_of editions.Two (refusal_fields refusal)
 refusal_words edition why.WrongMode = refl
 refusal_words edition refusal = refl
+
+-- the words of a refusal behind those of its instruction
+pub refused_words : (edition : Edition) (fields : List Field) (refusal : Refusal) → words_of edition (fields ++ refusal_fields refusal)
+    ≡ words_of edition fields ++ words_of editions.Two (refusal_fields refusal)
+refused_words edition fields refusal = words_append edition fields (refusal_fields refusal)
+    ∙ ap (λ words. words_of edition fields ++ words) (refusal_words edition refusal)
 
 -- .. nor does an instruction of a build
 pub add_words : (edition : Edition) (enclave number : ℕ) (f : Frame) (kind : Kind) (perm : Perm) (init : PageInit)

@@ -107,7 +107,7 @@ fn write_event(edition: Edition, event: &Event, onto: &mut Vec<u8>)
     }
 }
 
-#[tactic(auto, using(text_words::proofs::LineLaws::with_words_append, crate::proofs::FieldLaws::words_append, crate::proofs::FieldLaws::refusal_words))]
+#[tactic(auto, using(text_words::proofs::LineLaws::with_words_append, crate::proofs::FieldLaws::refused_words))]
 fn write_refused(edition: Edition, action: &Action, why: &Refusal, onto: &mut Vec<u8>)
     requires { HasRoom EVENT_ROOM onto.old }
     ensures text { onto.new.items ≡ with_words onto.old.items (words_of edition (event_fields (Event.Refused action.now why.now))) }

@@ -84,7 +84,8 @@ is_expected (Some wanted) made = bytes_eq wanted made
 
 -- the row of `init`, with the measurement as its last case
 abbrev pub measured_row : EnclaveSight → SecsSight → Option (List ℕ) → List ℕ → List Case
-measured_row enclave secs expect made = init_row (Some enclave) secs ++ (when (not (is_expected expect made)) (why.BadMeasure made) otherwise allowed)
+measured_row enclave secs expect made = init_row (Some enclave) secs
+    ++ (when (not (is_expected expect made)) (why.BadMeasure made) otherwise allowed)
 
 -- a refusal but for the measurement
 abbrev pub unless_measured : Option Refusal → Option Refusal

@@ -12,8 +12,8 @@ use sgx_rules::refusals::Refusal;
 use sgx_types::names::{Page, SECS_NUMBER};
 use std::test::Fail;
 
-// Frame 0 holds version array page 0, 1 the SECS, and 2 to 4 the pages 0 to 2 of enclave 1, the last of words 7. The processor was inside, and
-// left.
+// Frame 0 holds version array page 0, 1 the SECS, and 2 to 4 the pages 0 to 2 of enclave 1, the last of words 7. The processor was inside,
+// and left.
 const BUILT: &[Row] = &[
     Step(BUILDER, Epa(0), Ok(Answer::Va(0))),
     Step(BUILDER, Create(1), DONE),

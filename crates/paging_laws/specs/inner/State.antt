@@ -260,7 +260,8 @@ abbrev pub row_of : State → Actor → Action → List Case
 row_of s actor (Epa f) = epa_row (sight s f.0)
 row_of s actor (Create enclave f base size) = create_row enclave base size (is_some (s.enclaves enclave)) (sight s f.0)
 row_of s actor (Add enclave number f kind perm init) =
-    add_row number kind perm init (enclave_sight_of (s.enclaves enclave)) (secs_sight s enclave) (is_some (s.added (page_at enclave number)))
+    add_row number kind perm init (enclave_sight_of (s.enclaves enclave)) (secs_sight s enclave)
+    (is_some (s.added (page_at enclave number)))
     (sight s f.0)
 row_of s actor (Extend f chunk) = extend_row chunk (is_closed s (enclave_in (s.content f.0))) (sight s f.0)
 row_of s actor (Init enclave expect) = init_row (enclave_sight_of (s.enclaves enclave)) (secs_sight s enclave)

@@ -1,16 +1,13 @@
 //! Long lists of entries, and many questions to them. The bench `queries` runs each test by itself.
 
 use super::places::P2;
+use super::words::{JOB, index_of};
 use job_text::reader::read_job;
 use std::alloc::Global;
 use std::process::Abort;
 use std::test::Fail;
 use trace_query::index::Index;
 use trace_reader::reader::read_trace;
-
-const JOB: &[u8] =
-    b"epc 6\nenclave A 0x10000 0x10000\ntcs 0 1 1 plain\nreg 1 1 rw 0 plain\nreg 2 1 rw 7 plain\ncpu 0\neenter A 0\n\
-    load 0x2000\neexit\n";
 
 const BUILT: &[u8] =
     b"trace 2\nb create A 1 0x10000 0x10000\nb add A 0 2 tcs - tcs 1 1\nb add A 1 3 reg rw words 0\n\
@@ -23,11 +20,11 @@ const ROUND: &[u8] =
     p0 eld 4 A 2 1 708a1f4f66aa575b983e1da6b02b8230e890fb4d346ab6f9dfbe0e029caccf3a\nend 10\n";
 
 // An index over the build and so many rounds of ten entries.
-fn index_of(alloc: Global, rounds: u32) -> Result<Box<Index>, Fail> {
+fn index_behind(alloc: Global, rounds: u32) -> Result<Box<Index>, Fail> {
     let job = read_job(alloc, JOB)?;
     let built = read_trace(alloc, BUILT)?;
     let round = read_trace(alloc, ROUND)?;
-    let mut index = Box::new(alloc, Index::new(alloc, &job)?)?;
+    let mut index = index_of(alloc, &job)?;
     for entry in &built {
         index.push(alloc, entry)?;
     }
@@ -57,14 +54,14 @@ fn ask(rt: &impl Abort, alloc: Global, index: &Index, times: u64) -> Result<(), 
 
 #[test]
 fn ten_thousand_entries_are_pushed(rt: HostRuntime) -> Result<(), Fail> {
-    let index = index_of(rt.alloc(), 1_000)?;
+    let index = index_behind(rt.alloc(), 1_000)?;
     assert_eq!(rt; index.len(), 10_004);
     Ok(())
 }
 
 #[test]
 fn a_million_entries_are_pushed(rt: HostRuntime) -> Result<(), Fail> {
-    let index = index_of(rt.alloc(), 100_000)?;
+    let index = index_behind(rt.alloc(), 100_000)?;
     assert_eq!(rt; index.len(), 1_000_004);
     Ok(())
 }
@@ -72,13 +69,13 @@ fn a_million_entries_are_pushed(rt: HostRuntime) -> Result<(), Fail> {
 #[test]
 fn ten_thousand_entries_are_asked_of(rt: HostRuntime) -> Result<(), Fail> {
     let alloc = rt.alloc();
-    let index = index_of(alloc, 1_000)?;
+    let index = index_behind(alloc, 1_000)?;
     ask(&rt, alloc, &index, 100_000)
 }
 
 #[test]
 fn a_million_entries_are_asked_of(rt: HostRuntime) -> Result<(), Fail> {
     let alloc = rt.alloc();
-    let index = index_of(alloc, 100_000)?;
+    let index = index_behind(alloc, 100_000)?;
     ask(&rt, alloc, &index, 100_000)
 }

@@ -12,7 +12,7 @@ use trace_places::moves::Where;
 use trace_query::index::Index;
 use trace_reader::reader::read_trace;
 
-const JOB: &[u8] =
+pub(super) const JOB: &[u8] =
     b"epc 6\nenclave A 0x10000 0x10000\ntcs 0 1 1 plain\nreg 1 1 rw 0 plain\nreg 2 1 rw 7 plain\ncpu 0\neenter A 0\n\
     load 0x2000\neexit\n";
 
@@ -109,7 +109,7 @@ fn push_all(rt: &impl Abort, alloc: Global, index: &mut Index, entries: &[Entry]
     }
 }
 
-fn index_of(alloc: Global, job: &Job) -> Result<Box<Index>, Fail> {
+pub(super) fn index_of(alloc: Global, job: &Job) -> Result<Box<Index>, Fail> {
     let index = Box::new(alloc, Index::new(alloc, job)?)?;
     Ok(index)
 }

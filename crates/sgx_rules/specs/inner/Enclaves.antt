@@ -1,5 +1,5 @@
--- The enclaves by the entries before a place: which were created and initialised, which pages there are, by which TCS pages processors are inside, and
--- that flat memory has them.
+-- The enclaves by the entries before a place: which were created and initialised, which pages there are, by which TCS pages processors are
+-- inside, and that flat memory has them.
 use Rattle.std.specs.Prelude.{ℕ, ◌≡◌, ◌==◌, Bool, false, if◌then◌else◌, List, [], ◌∷◌, Option, Some, None}
 use Rattle.std.specs.Prelude.{is_some, nat_lt}
 use Rattle.std.specs.Option.{IsSomeAnd}

@@ -25,6 +25,8 @@ returns-clause-beside c =
 pub returns-clause-counts : goal.returns-clause-counts
 returns-clause-counts c =
     rw (c.page_comes.ensures, c.put_page.ensures)
-    (page_in c.args.epc.now c.args.secs.now c.args.frame.0 c.args.page c.unwrap-kind.result.0 c.unwrap-kind.result.1 c.unwrap-plain.result.now
+    (page_in c.args.epc.now c.args.secs.now c.args.frame.0 c.args.page c.unwrap-kind.result.0 c.unwrap-kind.result.1
+    c.unwrap-plain.result.now
     (loading_within c.args.epc.now c.args.frame.0 c.args.page c.requires.started) c.requires.places c.requires.counted c.requires.started
-    (subst (λ o. IfSome o (λ x. is_own_page c.args.page ≡ is_kind_own x.0)) (sym c.kind_in.ensures ∙ c.unwrap-kind.ensures) c.requires.kinds))
+    (subst (λ o. IfSome o (λ x. is_own_page c.args.page ≡ is_kind_own x.0)) (sym c.kind_in.ensures ∙ c.unwrap-kind.ensures)
+    c.requires.kinds))

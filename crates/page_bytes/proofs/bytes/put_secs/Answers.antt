@@ -15,7 +15,8 @@ returns c =
     let one = to_le_bytes w32 1 in
     let first = c.put.ensures.bytes ∙ ap (λ b. onto ++ b) c.to_le_bytes.ensures in
     let second = further onto size _ base _ first (c.put-2.ensures.bytes ∙ ap (λ b. c.put.new.onto.items ++ b) c.to_le_bytes-2.ensures) in
-    let third = further onto (size ++ base) _ one _ second (c.put-3.ensures.bytes ∙ ap (λ b. c.put-2.new.onto.items ++ b) c.to_le_bytes-3.ensures) in
+    let third = further onto (size ++ base) _ one _ second (c.put-3.ensures.bytes
+    ∙ ap (λ b. c.put-2.new.onto.items ++ b) c.to_le_bytes-3.ensures) in
     let fourth = further onto (size ++ base ++ one) _ (zeros 44) _ third c.put_zeros.ensures.bytes in
     let fifth = further onto (size ++ base ++ one ++ zeros 44) _ c.args.digest.now _ fourth c.put-4.ensures.bytes in
     further onto (size ++ base ++ one ++ zeros 44 ++ c.args.digest.now) _ (zeros 4000) _ fifth c.put_zeros-2.ensures.bytes

@@ -21,7 +21,8 @@ loop-index-preserved c = record {
   text =
       c.put.ensures.bytes
       ∙ ap (λ bytes. bytes ++ c.to_le_bytes.result) c.loop-index.invariant.text
-      ∙ append_assoc c.args.onto.now.items (bytes_of (first_slots c.args.va.now.pages c.args.frame.0 c.loop-index.index)) c.to_le_bytes.result
+      ∙ append_assoc c.args.onto.now.items (bytes_of (first_slots c.args.va.now.pages c.args.frame.0 c.loop-index.index))
+      c.to_le_bytes.result
       ∙ ap (λ bytes. c.args.onto.now.items ++ bytes)
       (ap (λ bytes. bytes_of (first_slots c.args.va.now.pages c.args.frame.0 c.loop-index.index) ++ bytes)
       (c.to_le_bytes.ensures ∙ ap (to_le_bytes w64) c.slot-version.ensures.value)
@@ -40,5 +41,6 @@ returns-clause-bytes c =
 pub returns-clause-words : goal.returns-clause-words
 returns-clause-words c =
     let ended : c.loop-index.index ≡ 512 = omega arith in
-    subst (λ n. words_of (bytes_of (first_slots c.args.va.now.pages c.args.frame.0 n)) ≡ first_slots c.args.va.now.pages c.args.frame.0 n) ended
+    subst (λ n. words_of (bytes_of (first_slots c.args.va.now.pages c.args.frame.0 n)) ≡ first_slots c.args.va.now.pages c.args.frame.0 n)
+    ended
     (words_of-bytes_of (first_slots c.args.va.now.pages c.args.frame.0 c.loop-index.index) c.loop-index.invariant.fit)

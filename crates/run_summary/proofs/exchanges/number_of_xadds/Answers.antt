@@ -1,4 +1,5 @@
-use Rattle.std.proofs.Common.{arith, rules, false, refl, [], ◌≡◌, ◌≤◌, ◌<◌, ◌+◌, ◌-◌, ◌^◌, ap, reverse, replicate, length, subst, sym, take, List, ◌∙◌}
+use Rattle.std.proofs.Common.{arith, rules, false, refl, [], ◌≡◌, ◌≤◌, ◌<◌, ◌+◌, ◌-◌, ◌^◌}
+use Rattle.std.proofs.Common.{ap, reverse, replicate, length, subst, sym, take, List, ◌∙◌}
 use Rattle.std.proofs.lemmas.List.{length-map, take_all}
 use Rattle.sgx_rules.specs.declared.entries.Entry.{Entry}
 use Rattle.run_replies.proofs.EntryLaws.{one_more}
@@ -21,7 +22,8 @@ loop-entry-init c =
     sym (length-map c.scripts.result.now _) ∙ ap length c.scripts.ensures in
     let items : c.in_ok-all.all.items ≡ replicate (length c.scripts.result.now) start =
     c.in_ok-all.ensures.items_if_clones_equal (λ y e. search rules) in (
-      subst (λ xs. Counts c.args.job.now [] xs 0) (sym (items ∙ ap (λ n. replicate n start) many)) (none_yet c.args.job.now start refl refl),
+      subst (λ xs. Counts c.args.job.now [] xs 0) (sym (items ∙ ap (λ n. replicate n start) many))
+          (none_yet c.args.job.now start refl refl),
       omega arith,
     )
 
@@ -40,7 +42,8 @@ loop-entry-preserved c =
       | else-note w ↦ omega (arith, w.count-is, was.1)
     ]) in (
       one_more now i _ (λ past. Counts c.args.job.now past c.note.new.all.items c.if-note.count) c.loop-entry-test.true
-          (one_entry c.args.job.now past _ c.loop-entry.all.items c.note.new.all.items c.loop-entry.count c.if-note.count c.note.result was.0
+          (one_entry c.args.job.now past _ c.loop-entry.all.items c.note.new.all.items c.loop-entry.count c.if-note.count
+          c.note.result was.0
           (c.note.ensures.progress past was.0.progress) c.note.ensures.len (c.note.ensures.counts past was.0.progress) is),
       found,
     )
@@ -48,4 +51,5 @@ loop-entry-preserved c =
 pub returns : goal.returns
 returns c =
     c.loop-entry.invariant.0.count
-    ∙ ap (λ (es : List Entry). xadds c.args.job.now (reverse es)) (take_all c.loop-entry.entry-index c.args.entries.now c.loop-entry-test.false)
+    ∙ ap (λ (es : List Entry). xadds c.args.job.now (reverse es))
+    (take_all c.loop-entry.entry-index c.args.entries.now c.loop-entry-test.false)

@@ -27,7 +27,8 @@ module _ (m : Inside) (now : Parts) (a : Actor) (action : Action) (e : Entry) (i
       → (made : Making) (past : List Entry) → ShapeWithRules made (state_of now) past
       → LoadsAwayRule past e → FitsApart made.frames past → FitsApart made.frames (e ∷ past)
   fits m' next is' whole' step made past h away k =
-      step_fits (state_of now) (state_of next) made past (length now.cpus) a action e (rw (← is) whole.processors) can (rw (← is) whole.sound)
+      step_fits (state_of now) (state_of next) made past (length now.cpus) a action e (rw (← is) whole.processors) can
+      (rw (← is) whole.sound)
       (rw (← is) whole.guarded) (rw (← is) whole.framed) (rw (← is) (pages_made (parts_of m) whole.held.owned)) (rw (← is') whole'.guarded)
       step h away k
 
@@ -52,12 +53,14 @@ module _ (m : Inside) (now : Parts) (a : Actor) (action : Action) (e : Entry) (i
 
 pub returns-clause-shape : goal.returns-clause-shape
 returns-clause-shape c =
-    shaped c.self.inside c.args.self.now c.args.actor c.args.action.now c.in_ok-entry.entry c.self.view_is c.self.invariant c.requires.can_apply
+    shaped c.self.inside c.args.self.now c.args.actor c.args.action.now c.in_ok-entry.entry c.self.view_is c.self.invariant
+    c.requires.can_apply
     c.self-2.inside c.row.new.self c.self-2.view_is c.self-2.invariant (c.in_ok-entry.ensures {u = tt}).step
 
 pub returns-clause-fits : goal.returns-clause-fits
 returns-clause-fits c =
-    fits c.self.inside c.args.self.now c.args.actor c.args.action.now c.in_ok-entry.entry c.self.view_is c.self.invariant c.requires.can_apply
+    fits c.self.inside c.args.self.now c.args.actor c.args.action.now c.in_ok-entry.entry c.self.view_is c.self.invariant
+    c.requires.can_apply
     c.self-2.inside c.row.new.self c.self-2.view_is c.self-2.invariant (c.in_ok-entry.ensures {u = tt}).step
 
 pub returns-clause-arrays : goal.returns-clause-arrays
@@ -67,7 +70,8 @@ returns-clause-arrays c =
 
 pub returns-clause-history : goal.returns-clause-history
 returns-clause-history c =
-    all c.self.inside c.args.self.now c.args.actor c.args.action.now c.in_ok-entry.entry c.self.view_is c.self.invariant c.requires.can_apply
+    all c.self.inside c.args.self.now c.args.actor c.args.action.now c.in_ok-entry.entry c.self.view_is c.self.invariant
+    c.requires.can_apply
     c.self-2.inside c.row.new.self c.self-2.view_is c.self-2.invariant (c.in_ok-entry.ensures {u = tt}).step
 
 pub returns-clause-making : goal.returns-clause-making

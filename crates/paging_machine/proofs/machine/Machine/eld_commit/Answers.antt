@@ -194,6 +194,7 @@ pub returns-clause-arrays : goal.returns-clause-arrays
 returns-clause-arrays c = λ making past shaped all brings.
     let h = c.self.invariant in
     let k = is_refused c in
-    reloaded_arrays_told (state_of (parts_of c.self.inside)) _ making past c.args.actor c.args.frame c.refused.result c.args.work.rec h.sound
+    reloaded_arrays_told (state_of (parts_of c.self.inside)) _ making past c.args.actor c.args.frame c.refused.result
+    c.args.work.rec h.sound
     h.guarded (rw (← c.self.view_is) at c.requires) k.back (rw (← c.self.view_is) at shaped) (rw (← c.self.view_is) at all)
     (rw (← c.self.view_is) at brings)

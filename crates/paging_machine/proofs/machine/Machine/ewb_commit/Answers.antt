@@ -79,7 +79,8 @@ pub returns-clause-arrays : goal.returns-clause-arrays
 returns-clause-arrays c = λ making past shaped all.
     let h = c.self.invariant in
     let k = is_written c in
-    written_arrays (state_of (parts_of c.self.inside)) _ making past c.args.actor c.args.frame c.done.result c.sealed-work.result.rec h.sound
+    written_arrays (state_of (parts_of c.self.inside)) _ making past c.args.actor c.args.frame c.done.result
+    c.sealed-work.result.rec h.sound
     h.guarded (rw (← c.self.view_is) at c.requires) k.out (rw (← c.self.view_is) at shaped) (rw (← c.self.view_is) at all)
 
 pub returns-clause-array_record : goal.returns-clause-array_record

@@ -12,6 +12,7 @@ returns-clause-away c = λ is n at. (
     let there : array_in ((state_of d).content n) ≡ Some c.args.number =
     subst (λ (x : Parts). array_in ((state_of x).content n) ≡ Some c.args.number) (sym c.self.view_is) at in
     let nowhere : (n < length d.epc) ⊎ (length d.epc ≤ n) → ⊥ = ⊎_elim
-    (λ (low : n < length d.epc). c.loop-frame.invariant n (omega (arith, low, c.frames-frame-end.ensures.count, c.loop-frame-test.false)) there)
+    (λ (low : n < length d.epc). c.loop-frame.invariant n (omega (arith, low, c.frames-frame-end.ensures.count, c.loop-frame-test.false))
+    there)
     (λ (past : length d.epc ≤ n). (let none = sym (ap array_in (free_past d n past)) ∙ there in cc none)) in
     nowhere (cases_lt n (length d.epc)))

@@ -15,7 +15,10 @@ use Rattle.paging_machine.proofs.machine.Machine.init.Goals.{in-Ok, in-Err}
 use Rattle.paging_machine.proofs.machine.Machine.init.Goals as goal
 
 pub einit-requires : goal.einit-requires
-einit-requires c = record { counted = counted_there c.self.inside c.self.invariant c.args.enclave c.in-Some.secs.now (sym c.in-Some.ensures.value) }
+einit-requires c = record {
+  counted = counted_there c.self.inside c.self.invariant c.args.enclave c.in-Some.secs.now
+      (sym c.in-Some.ensures.value);
+}
 
 pub invariant_of-self-2 : goal.invariant_of-self-2
 invariant_of-self-2 c =
@@ -32,7 +35,8 @@ invariant_of-self-2 c =
           (whole _ (after_init (state_of d) e) (builds m h _ _ _ _ (init_state d e x found h.table) (kept_init (state_of d) e (kept_of m h))
           h.places
           (table_written d.secs e _ h.table.places number.0 number.1 h.table (initialised_own e x (h.table.own e x found)))
-          (held_written d.secs e x _ h.table.places number.0 number.1 found d.epc d.va (record { children = refl; frame = refl }) h.held) refl)))
+          (held_written d.secs e x _ h.table.places number.0 number.1 found d.epc d.va (record { children = refl; frame = refl }) h.held)
+          refl)))
       | in-Err w ↦ whole_same m _ (secs_same d e x c.einit.new.secs h.table found w.in-Err.ensures.refused) h
     ]
 
@@ -58,7 +62,8 @@ returns-clause-step c =
           rw (← c.self.view_is) (done_step _ _ _ (row ∙ sym w.in-Ok.ensures.row) judged))
       | in-Err w ↦
           rw (← c.self.view_is)
-          (init_refused (state_of d) c.args.actor e c.args.expect (sight_of x) (secs_sight (state_of d) x.enclave) y w.in-Err.refusal c.match-einit.result _ row there
+          (init_refused (state_of d) c.args.actor e c.args.expect (sight_of x) (secs_sight (state_of d) x.enclave) y w.in-Err.refusal
+          c.match-einit.result _ row there
           w.in-Err.ensures.row (λ made is. rw is at w.in-Err.ensures.expected) w.in-Err.ensures.measured
           (w.result-is ∙ w.refused-in-Err.ensures) (ap state_of (secs_same d e x c.einit.new.secs h.table found w.in-Err.ensures.refused)))
     ]

@@ -29,7 +29,8 @@ returns c = λ same.
     let words : words_of (bytes_at d.epc f) ≡ words_at d.epc f = ap words_of (sym c.bytes.ensures.value) ∙ c.bytes.ensures.words in
     let kept : HasBytesOf (state_of c.args.self.now) f ((state_of c.args.self.now).content f) (bytes_at d.epc f) =
     subst (λ (z : Parts). HasBytesOf (state_of z) f ((state_of z).content f) (bytes_at d.epc f)) c.self.view_is
-    (own_bytes d f w.page w.kind w.perm w.blocked w.sealing (bytes_at d.epc f) at (sym c.is_own.ensures ∙ c.if-not-is_own.false) refl words) in
+    (own_bytes d f w.page w.kind w.perm w.blocked w.sealing (bytes_at d.epc f) at (sym c.is_own.ensures ∙ c.if-not-is_own.false)
+    refl words) in
     let key : c.args.work.now.key ≡ c.self.inside.key = ap (λ (w : SealedWork). w.key) (sym c.work.view_is)
     ∙ (bytes_eq-Decides _ c.self.inside.key).0 (not-false _ (sym c.if-ne.ensures)) in
     let version : c.args.work.now.version ≡ x.version = ap (λ (w : SealedWork). w.version) (sym c.work.view_is) ∙ c.if-work-start.false in

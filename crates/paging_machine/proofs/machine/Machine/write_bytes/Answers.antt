@@ -20,7 +20,8 @@ returns-in-Va-clause-bytes c =
     let slots = slots_at d.va.pages f in
     let at : entry_at d.epc f ≡ views.Valid w.page kinds.Va w.perm w.blocked w.sealing =
     sym (w.ensures {u = tt}) ∙ ap (λ (k : Kind). views.Valid w.page k w.perm w.blocked w.sealing) c.in-Va.is in
-    let bytes : c.put_slots.new.onto.items ≡ bytes_of slots = c.put_slots.ensures.bytes ∙ ap (λ b. b ++ bytes_of slots) c.clear.ensures.items in
+    let bytes : c.put_slots.new.onto.items ≡ bytes_of slots = c.put_slots.ensures.bytes
+    ∙ ap (λ b. b ++ bytes_of slots) c.clear.ensures.items in
     let is : HasBytesOf (state_of d) f (held (entry_at d.epc f)) c.put_slots.new.onto.items =
     rw at (bytes, ap words_of bytes ∙ c.put_slots.ensures.words) in
     subst (λ (x : Parts). HasBytesOf (state_of x) f (held (entry_at x.epc f)) c.put_slots.new.onto.items) c.self.view_is is

@@ -15,6 +15,7 @@ loop-index-preserved c =
     let low : c.loop-index.index < length c.loop-index.self-inside.slots.items = omega (arith, c.loop-index.invariant.sized) in
     record {
       sized = length-set c.loop-index.self-inside.slots.items c.loop-index.index _ ∙ c.loop-index.invariant.sized;
-      written = rw c.long_at-version.ensures (fill_by_more (λ index. filled (long_at c.args.from.now (8 * index))) c.loop-index.self-inside.slots.items
+      written = rw c.long_at-version.ensures
+          (fill_by_more (λ index. filled (long_at c.args.from.now (8 * index))) c.loop-index.self-inside.slots.items
           c.loop-index.index empty_slot low c.loop-index.invariant.written);
     }
