@@ -10,7 +10,6 @@ use Rattle.sgx_types.specs.declared.names.Actor.TheVariants as actors
 use Rattle.sgx_rules.specs.declared.entries.Entry.{Entry}
 use Rattle.sgx_rules.specs.declared.entries.Event.{Event}
 use Rattle.sgx_rules.specs.declared.entries.Event.TheVariants.{Did, Refused, Age, Kick, Bus}
-use Rattle.sgx_types.specs.Making.{Making}
 use Rattle.sgx_rules.specs.Processors.{Stay, is_by, stay}
 use Rattle.sgx_rules.specs.Rules.{Along}
 use Rattle.sgx_rules.specs.Starts.{open_start}
@@ -26,13 +25,14 @@ use Rattle.driver_rules.specs.Dues.{IsNext, Stopped}
 use Rattle.driver_rules.specs.Scripts.{IsActors, ScriptRule}
 use Rattle.driver_rules.specs.Stops.{has_bus, is_bus, is_spent}
 use Rattle.driver_rules.specs.Turns.{Last, Loads, Fails, Other, WasEnded, cpu_due, due_after, is_last, last_by, last_of, turn_due}
+use Rattle.driver_laws.specs.inner.Agrees.{Keeping}
 use Rattle.driver_tables.specs.declared.driver.Driver.{Driver}
-use Rattle.driver_steps.specs.inner.Agrees.{Agrees}
 use Rattle.turn_tables.specs.declared.cpu_turns.Last as kept
 use Rattle.turn_tables.specs.declared.cpu_turns.Last.TheVariants as ways
 use Rattle.turn_tables.specs.declared.turns.Turns.{Turns}
 use Rattle.turn_tables.specs.inner.Asked.{next_step}
 use Rattle.turn_tables.specs.inner.CpuTurns.{last_told, turn_at}
+use Rattle.turn_tables.specs.inner.Due.{IsShown}
 use Rattle.turn_tables.specs.inner.Ending.{EndsAreTold}
 use Rattle.turn_tables.specs.inner.Shown.{ShowsTurns}
 use Rattle.turn_tables.proofs.DueLaws.{head_left}
@@ -102,7 +102,7 @@ outside_is Outside (Some s) h = cc
 outside_is (Inside e t tf sf epoch) None h = cc
 outside_is (Inside e t tf sf epoch) (Some s) h = refl
 
-module _ (made : Making) (j : JobView) (past : List Entry) (d : Driver) (m : Parts) (t : Turns) (a : Agrees made j past d m)
+module _ (k : Keeping) (j : JobView) (past : List Entry) (d : Driver) (m : Parts) (t : Turns) (a : IsShown k j past d m)
     (s : ShowsTurns j past t) (along : Along (ScriptRule j) past) (told : EndsAreTold past) where
   not_ended : (p : ℕ) (l : Last) → l ≡ last_of past p → (l ≡ WasEnded → ⊥) → false ≡ has_bus past p
   not_ended p l is other = by_bus (has_bus past p) refl
@@ -125,7 +125,7 @@ module _ (made : Making) (j : JobView) (past : List Entry) (d : Driver) (m : Par
       ap (λ b. b || ((x.replied == ops) && stands_outside (cpu_at m p).mode)) (ended_is p x.last (s.cpus p low).last)
       ∙ ap (λ n. has_bus past p || ((n == ops) && stands_outside (cpu_at m p).mode)) (s.cpus p low).replied
       ∙ ap (λ b. has_bus past p || ((replied past p == ops) && b))
-      (outside_is (cpu_at m p).mode (stay past p) (looks_are made j past d m t a s p).seat)
+      (outside_is (cpu_at m p).mode (stay past p) (looks_are k j past d m t a s p).seat)
 
   all_done : (n : ℕ) → n ≤ length j.scripts → are_done_by j t m n ≡ are_done j past n
   all_done zero few = refl

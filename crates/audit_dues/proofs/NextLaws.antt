@@ -1,14 +1,16 @@
 -- What is found of an event by the tables is what the rules say of it.
-use Rattle.std.proofs.Common.{◌≡◌, ◌<◌, ◌≤◌, ◌&&◌, not, Bool, true, false, List, length, map, slice_index, refl, sym, ap, subst}
+use Rattle.std.proofs.Common.{◌≡◌, ℕ, ◌<◌, ◌≤◌, ◌&&◌, not, if◌then◌else◌, Bool, true, false, List, Option, Some, length, refl, sym, ap}
 use Rattle.std.proofs.Common.{◌∙◌, arith, nat_lt}
-use Rattle.std.proofs.lemmas.Bool.{false≢true, ltb-true, lt-ltb}
+use Rattle.std.proofs.lemmas.Bool.{lt-ltb}
+use Rattle.std.proofs.lemmas.Option.{none-some, same_Some}
 use Rattle.sgx_types.specs.declared.names.Actor.TheVariants as actors
 use Rattle.sgx_rules.specs.declared.entries.Entry.{Entry}
 use Rattle.sgx_rules.specs.declared.entries.Event.{Event}
 use Rattle.sgx_types.specs.declared.names.Cpu.{Cpu}
 use Rattle.sgx_types.specs.declared.names.Page.{Page}
+use Rattle.sgx_types.specs.declared.names.VaSlot.{VaSlot}
+use Rattle.sgx_types.specs.Pages.{is_own_page, secs_page, va_page}
 use Rattle.sgx_rules.specs.Frames.{content, least_free}
-use Rattle.sgx_types.specs.Making.{Making}
 use Rattle.job_grammar.specs.Jobs.{JobView}
 use Rattle.active_list.specs.inner.Places.{IsPlaced}
 use Rattle.active_list.specs.inner.States.{state_of as page_state}
@@ -16,78 +18,136 @@ use Rattle.active_list.specs.declared.page_states.PageState.{PageState}
 use Rattle.active_list.specs.declared.page_states.PageState.TheVariants as states
 use Rattle.paging_laws.specs.inner.Columns.{FrameColumns}
 use Rattle.paging_machine.specs.inner.Parts.{Parts, state_of}
-use Rattle.driver_rules.specs.inner.Decided.{is_actors, is_next, keeps_script}
-use Rattle.driver_rules.specs.Dues.{Due}
-use Rattle.driver_rules.specs.Places.{Absent, Away, Here, Leaving, Loading, Place, place}
+use Rattle.driver_rules.specs.inner.Decided.{is_actors, is_fetch, is_next, keeps_script}
+use Rattle.driver_rules.specs.Dues.{Asks, Due}
+use Rattle.driver_rules.specs.Places.{Away, place}
 use Rattle.driver_rules.specs.Stops.{is_spent}
-use Rattle.driver_rules.specs.Turns.{builder_due, cpu_due, fetches}
+use Rattle.driver_rules.specs.Targets.{slot_here, target_by}
+use Rattle.driver_rules.specs.Turns.{builder_due, cpu_due, fetch, fetch_by, fetches}
+use Rattle.driver_laws.specs.inner.Agrees.{Keeping}
 use Rattle.driver_laws.specs.inner.Sound.{is_absent}
 use Rattle.driver_tables.specs.declared.driver.Driver.{Driver}
 use Rattle.driver_tables.specs.inner.Tables.{place_in}
-use Rattle.driver_steps.specs.inner.Agrees.{Agrees}
+use Rattle.driver_tables.specs.inner.Targets.{is_here_in, slot_here_in, target_in}
+use Rattle.driver_tables.proofs.TargetLaws.{array_of, secs_of, slot_here_is, target_is}
 use Rattle.turn_tables.specs.declared.dues.BuilderDue.{BuilderDue}
 use Rattle.turn_tables.specs.declared.dues.BuilderDue.TheVariants as builders
 use Rattle.turn_tables.specs.declared.dues.CpuDue.{CpuDue}
 use Rattle.turn_tables.specs.declared.dues.CpuDue.TheVariants as dues
 use Rattle.turn_tables.specs.declared.turns.Turns.{Turns}
-use Rattle.turn_tables.specs.inner.Due.{building_in, due_in}
+use Rattle.turn_tables.specs.inner.Due.{IsShown, building_in, due_in}
 use Rattle.turn_tables.specs.inner.Shown.{ShowsTurns}
 use Rattle.turn_tables.specs.inner.TcsTurns.{has_place}
-use Rattle.turn_tables.proofs.LookLaws.{places_same}
-use Rattle.audit_dues.specs.inner.Next.{built_by, fetch_by, next_by, slot_if, slot_seen}
+use Rattle.turn_tables.proofs.LookLaws.{absent_is, places_same}
+use Rattle.turn_tables.proofs.RowLaws.{placed_row}
+use Rattle.audit_dues.specs.inner.Next.{CanFetch, built_by, fetch_by as told_by, fetch_from}
+use Rattle.audit_dues.specs.inner.Next.{fetch_seen, next_by, slot_by, slot_if, step_for}
 
-module _ (made : Making) (j : JobView) (past : List Entry) (d : Driver) (m : Parts) (t : Turns) (a : Agrees made j past d m)
+module _ (k : Keeping) (j : JobView) (past : List Entry) (d : Driver) (m : Parts) (t : Turns) (a : IsShown k j past d m)
     (s : ShowsTurns j past t) where
-  placed_is : (g : Page) → has_place t.tcs g ≡ true → IsPlaced d.states.counts g
-  placed_is g h =
-      subst (λ counts. IsPlaced counts g) (places_same made j past d m t a s)
-      (record { within = ltb-true g.number (slice_index (map length t.tcs) g.enclave) h })
-
-  -- a page that has no place was never added
-  unplaced_is : (g : Page) → has_place t.tcs g ≡ false → is_absent (place past g) ≡ false → ⊥
-  unplaced_is g h k =
-      let placed : IsPlaced (map length t.tcs) g =
-      subst (λ counts. IsPlaced counts g) (sym (places_same made j past d m t a s)) (a.shows.placed g k) in
-      false≢true (sym h ∙ lt-ltb g.number (slice_index (map length t.tcs) g.enclave) placed.within)
+  abbrev pub free : Option ℕ
+  free = least_free (state_of m).frames (state_of m).content
 
   -- the least free frame of the machine is that of the entries
-  least_is : least_free (state_of m).frames (state_of m).content ≡ least_free j.epc (content past)
+  least_is : free ≡ least_free j.epc (content past)
   least_is =
-      ap (λ n. least_free n (state_of m).content) (ap (λ (k : Making). k.frames) a.follows.shape.making ∙ a.frames)
-      ∙ ap (λ (f : FrameColumns). least_free j.epc f.content) a.follows.shape.columns.frames
+      ap (λ n. least_free n (state_of m).content) a.frames
+      ∙ ap (λ (f : FrameColumns). least_free j.epc f.content) a.columns.frames
 
-  -- a page is fetched exactly where its state says that it is outside
-  fetch_told : (g : Page) (event : Event) (x : PageState)
-      → fetch_by g (slot_if true x) (least_free j.epc (content past)) event ≡ is_next (fetches j.epc past g (place_in x)) event
-  fetch_told g event states.Absent = refl
-  fetch_told g event (states.Here f) = refl
-  fetch_told g event (states.Leaving f) = refl
-  fetch_told g event (states.Loading f slot) = refl
-  fetch_told g event (states.Away slot) = refl
-  fetch_told g event (states.Lost slot) = refl
+  -- ---- the page that has to be back first
 
-  waits_absent : (g : Page) (event : Event) (at : Place) → (is_absent at ≡ false → ⊥) → false ≡ is_next (fetches j.epc past g at) event
-  waits_absent g event Absent h = refl
-  waits_absent g event (Here f) h = absurd (h refl)
-  waits_absent g event (Leaving f) h = absurd (h refl)
-  waits_absent g event (Loading f slot) h = absurd (h refl)
-  waits_absent g event (Away slot) h = absurd (h refl)
+  away_is : (g : Page) (slot : VaSlot) → IsPlaced d.states.counts g → slot_by (page_state d.states g) ≡ Some slot → place past g ≡ Away slot
+  away_is g slot placed h = sym (a.shows.states g placed) ∙ by_state (page_state d.states g) h
+    where
+      by_state : (x : PageState) → slot_by x ≡ Some slot → place_in x ≡ Away slot
+      by_state states.Absent h = absurd (none-some slot h)
+      by_state (states.Here f) h = absurd (none-some slot h)
+      by_state (states.Leaving f) h = absurd (none-some slot h)
+      by_state (states.Loading f at) h = absurd (none-some slot h)
+      by_state (states.Away at) h = ap Away (same_Some at slot h)
+      by_state (states.Lost at) h = ap Away (same_Some at slot h)
+
+  -- it has its place
+  target_placed : (g : Page) (slot : VaSlot) → IsPlaced d.states.counts g → place past g ≡ Away slot
+      → IsPlaced d.states.counts (target_in d g slot)
+  target_placed g slot placed at = by_own (is_own_page g) refl
+    where
+      by_array : (b : Bool) → IsPlaced d.states.counts (if b then g else va_page slot.va)
+      by_array true = placed
+      by_array false = array_of k j d past a.shows g slot a.sound at
+
+      by_secs : (b : Bool) → is_own_page g ≡ true
+          → IsPlaced d.states.counts
+          (if b then (if is_here_in d.states (va_page slot.va) then g else va_page slot.va) else secs_page g.enclave)
+      by_secs true own = by_array (is_here_in d.states (va_page slot.va))
+      by_secs false own = secs_of k j d past a.shows g own (ap is_absent at)
+
+      by_own : (b : Bool) → is_own_page g ≡ b
+          → IsPlaced d.states.counts
+          (if b
+          then (if is_here_in d.states (secs_page g.enclave) then (if is_here_in d.states (va_page slot.va) then g else va_page slot.va)
+          else secs_page g.enclave)
+          else g)
+      by_own true own = by_secs (is_here_in d.states (secs_page g.enclave)) own
+      by_own false other = placed
+
+  pub can_fetch : CanFetch d t
+  can_fetch = record {
+    rows = places_same k j past d m t a s;
+    secs = λ g slot placed h own. secs_of k j d past a.shows g own (ap is_absent (away_is g slot placed h));
+    array = λ g slot placed h. array_of k j d past a.shows g slot a.sound (away_is g slot placed h);
+  }
+
+  -- its first step is told by its state
+  step_is : (g : Page) → IsPlaced d.states.counts g → step_for d free g (slot_by (page_state d.states g)) ≡ fetch j.epc past g
+  step_is g placed = by_state (page_state d.states g) (a.shows.states g placed)
+    where
+      asks : (slot : VaSlot) → Away slot ≡ place past g → Asks g (slot_here_in d slot) free ≡ fetch j.epc past g
+      asks slot is =
+          let found = slot_here_is k j d past a.shows slot (array_of k j d past a.shows g slot a.sound (sym is)) in
+          ap (λ at. Asks g at free) found ∙ ap (Asks g (slot_here past slot)) least_is ∙ ap (fetch_by j.epc past g) is
+
+      by_state : (x : PageState) → place_in x ≡ place past g → step_for d free g (slot_by x) ≡ fetch j.epc past g
+      by_state states.Absent is = ap (fetch_by j.epc past g) is
+      by_state (states.Here f) is = ap (fetch_by j.epc past g) is
+      by_state (states.Leaving f) is = ap (fetch_by j.epc past g) is
+      by_state (states.Loading f slot) is = ap (fetch_by j.epc past g) is
+      by_state (states.Away slot) is = asks slot is
+      by_state (states.Lost slot) is = asks slot is
+
+  -- ---- a page that is needed
 
   fetch_is : (g : Page) (event : Event)
-      → fetch_by g (slot_seen d t g) (least_free (state_of m).frames (state_of m).content) event
-      ≡ is_next (fetches j.epc past g (place past g)) event
-  fetch_is g event = ap (λ free. fetch_by g (slot_seen d t g) free event) least_is ∙ by_test (has_place t.tcs g) refl
+      → told_by g (fetch_seen d t free g) event ≡ is_next (fetches j.epc past g (place past g)) event
+  fetch_is g event = by_test (has_place t.tcs g) refl
     where
+      outside : (slot : VaSlot) → IsPlaced d.states.counts g → Away slot ≡ place past g
+          → told_by g (fetch_from d free g (Some slot)) event ≡ is_next (fetches j.epc past g (place past g)) event
+      outside slot placed is =
+          let target = target_in d g slot in
+          ap (λ x. is_fetch g x event) (step_is target (target_placed g slot placed (sym is)))
+          ∙ ap (λ x. is_fetch g (fetch j.epc past x) event)
+          (target_is k j d past a.shows g slot a.sound (sym is) ∙ ap (target_by past g) (sym is))
+          ∙ ap (λ at. is_next (fetches j.epc past g at) event) is
+
+      by_state : (x : PageState) → IsPlaced d.states.counts g → place_in x ≡ place past g
+          → told_by g (fetch_from d free g (slot_by x)) event ≡ is_next (fetches j.epc past g (place past g)) event
+      by_state states.Absent placed is = ap (λ at. is_next (fetches j.epc past g at) event) is
+      by_state (states.Here f) placed is = ap (λ at. is_next (fetches j.epc past g at) event) is
+      by_state (states.Leaving f) placed is = ap (λ at. is_next (fetches j.epc past g at) event) is
+      by_state (states.Loading f slot) placed is = ap (λ at. is_next (fetches j.epc past g at) event) is
+      by_state (states.Away slot) placed is = outside slot placed is
+      by_state (states.Lost slot) placed is = outside slot placed is
+
       by_test : (b : Bool) → has_place t.tcs g ≡ b
-          → fetch_by g (slot_if b (page_state d.states g)) (least_free j.epc (content past)) event
+          → told_by g (fetch_from d free g (slot_if b (page_state d.states g))) event
           ≡ is_next (fetches j.epc past g (place past g)) event
       by_test true h =
-          fetch_told g event (page_state d.states g)
-          ∙ ap (λ at. is_next (fetches j.epc past g at) event) (a.shows.states g (placed_is g h))
-      by_test false h = waits_absent g event (place past g) (unplaced_is g h)
+          let placed = placed_row t.tcs d.states.counts g (places_same k j past d m t a s) h in
+          by_state (page_state d.states g) placed (a.shows.states g placed)
+      by_test false h = ap (λ at. is_next (fetches j.epc past g at) event) (sym (absent_is k j past d m t a s g h))
 
-  pub next_is : (due : CpuDue) (event : Event)
-      → next_by (slot_seen d t) (least_free (state_of m).frames (state_of m).content) due event ≡ is_next (due_in j past due) event
+  pub next_is : (due : CpuDue) (event : Event) → next_by (fetch_seen d t free) due event ≡ is_next (due_in j past due) event
   next_is dues.Stopped event = refl
   next_is dues.Finished event = refl
   next_is (dues.Waits why) event = refl

@@ -1,16 +1,15 @@
 //! The end of a run by the rule Script.
 
 ghost use Rattle.std.specs.Prelude.{◌≡◌, ◌<◌, ◌≤◌, List, length};
-ghost use Rattle.sgx_types.specs.Making.{Making};
 ghost use Rattle.sgx_rules.specs.Rules.{Along};
 ghost use Rattle.sgx_rules.specs.declared.entries.Entry.{Entry};
 ghost use Rattle.turn_rules.specs.inner.Cursor.{IsCursor};
 ghost use Rattle.turn_rules.specs.Script.{script_of};
 ghost use Rattle.driver_rules.specs.inner.Decided.{is_ended};
 ghost use Rattle.driver_rules.specs.Scripts.{ScriptRule};
-ghost use Rattle.driver_steps.specs.inner.Agrees.{Agrees};
+ghost use Rattle.driver_laws.specs.inner.Agrees.{Keeping};
 ghost use Rattle.turn_tables.specs.inner.Asked.{next_step};
-ghost use Rattle.turn_tables.specs.inner.Due.{IsReady};
+ghost use Rattle.turn_tables.specs.inner.Due.{IsReady, IsShown};
 ghost use Rattle.turn_tables.specs.inner.Ending.{EndsAreTold};
 ghost use Rattle.turn_tables.specs.inner.Shown.{ShowsTurns};
 ghost use Rattle.audit_dues.specs.inner.Ends.{are_done_by, is_done_by, none_left};
@@ -28,7 +27,7 @@ use turn_tables::turns::Turns;
 pub fn is_ended(job: &Job, turns: &Turns, driver: &Driver, machine: &Machine) -> bool
     requires ready { IsReady job.now driver.now machine.now turns.now }
     // Of entries that are each its actor's next, where who was ended was told why.
-    ensures { (made : Making) (past : List Entry) → Agrees made job.now past driver.now machine.now → ShowsTurns job.now past turns.now
+    ensures { (k : Keeping) (past : List Entry) → IsShown k job.now past driver.now machine.now → ShowsTurns job.now past turns.now
         → Along (ScriptRule job.now) past → EndsAreTold past → result ≡ is_ended job.now past }
 {
     turns.is_spent || (is_build_whole(job, turns) && are_done(job, turns, machine, driver.cpus))

@@ -1,19 +1,23 @@
 //! Whether an event is what is due, where a page that is needed is fetched by its state in the driver's tables.
 
-ghost use Rattle.std.specs.Prelude.{◌≡◌, length, map, option_map};
+ghost use Rattle.std.specs.Prelude.{◌≡◌, length, map, option_map, IfSome};
 ghost use Rattle.sgx_rules.specs.declared.entries.Event.{Event};
 ghost use Rattle.sgx_rules.specs.Frames.{least_free};
 ghost use Rattle.turn_rules.specs.Script.{action_of};
 ghost use Rattle.paging_machine.specs.inner.Parts.{state_of};
+ghost use Rattle.active_list.specs.inner.Places.{IsPlaced};
+ghost use Rattle.driver_rules.specs.Dues as fetches;
 ghost use Rattle.driver_rules.specs.inner.Decided.{is_action, is_fetch, is_stop};
-ghost use Rattle.audit_dues.specs.inner.Next.{built_by, ends_fetch, next_by, slot_seen};
+ghost use Rattle.turn_tables.specs.inner.TcsTurns.{rows};
+ghost use Rattle.audit_dues.specs.inner.Next.{CanFetch, built_by, fetch_by, fetch_seen, loads_by, next_by, slot_by, slot_seen};
 
 use crate::same::same_action;
 use active_list::page_states::PageState;
 use driver_tables::driver::Driver;
 use paging_machine::machine::Machine;
 use sgx_rules::entries::{Action, BusWhy, Event};
-use sgx_types::names::{Frame, Page, SlotAt};
+use sgx_rules::refusals::Refusal;
+use sgx_types::names::{Frame, Page, SlotAt, VaSlot};
 use turn_tables::dues::{BuilderDue, CpuDue};
 use turn_tables::turns::Turns;
 
@@ -35,31 +39,36 @@ pub(crate) fn is_next(
     due: CpuDue,
     event: &Event,
 ) -> bool
-    requires { map length turns.now.tcs ≡ driver.now.states.counts }
-    ensures { result ≡ next_by (slot_seen driver.now turns.now)
-        (least_free (state_of machine.now).frames (state_of machine.now).content) due event.now }
+    requires { CanFetch driver.now turns.now }
+    ensures { result ≡ next_by (fetch_seen driver.now turns.now
+        (least_free (state_of machine.now).frames (state_of machine.now).content)) due event.now }
 {
     match due {
         CpuDue::Stopped | CpuDue::Finished | CpuDue::Waits(_) => false,
         CpuDue::Ends(frame) => is_action(event, &Action::Eld { frame }),
         CpuDue::Makes(step) => is_action(event, &step.action()),
         CpuDue::Reports { page, why } => is_stop(page, why, event),
-        CpuDue::Needs(page) => match slot(turns, driver, page) {
-            Some(slot) => is_fetch(page, slot, machine.first_free(), event),
-            None => false,
-        },
+        CpuDue::Needs(page) => is_fetch(turns, driver, machine, page, event),
     }
 }
 
 // The slot of a page that is outside, also of one whose last put failed.
-fn slot(turns: &Turns, driver: &Driver, page: Page) -> Option<SlotAt>
-    requires { map length turns.now.tcs ≡ driver.now.states.counts }
-    ensures { result ≡ slot_seen driver.now turns.now page }
+fn slot(turns: &Turns, driver: &Driver, page: Page) -> Option<VaSlot>
+    requires { map length turns.now.tcs ≡ rows driver.now.states.counts }
+    ensures value { result ≡ slot_seen driver.now turns.now page }
+    ensures placed { IfSome result (λ slot. IsPlaced driver.now.states.counts page) }
 {
     if !turns.tcs.has_place(page) {
         return None;
     }
-    match driver.states.state(page) {
+    slot_of(driver.states.state(page))
+}
+
+// .. by its state.
+fn slot_of(state: PageState) -> Option<VaSlot>
+    ensures { result ≡ slot_by state }
+{
+    match state {
         PageState::Away(slot) | PageState::Lost(slot) => Some(slot),
         _ => None,
     }
@@ -88,28 +97,61 @@ fn is_stop(page: Page, why: BusWhy, event: &Event) -> bool
     }
 }
 
-// What may come of a page that is outside: its load by its slot starts, or it does not come back.
-fn is_fetch(page: Page, slot: SlotAt, free: Option<Frame>, event: &Event) -> bool
-    ensures { result ≡ is_fetch page slot (option_map (λ f. f.0) free) event.now }
+// What may come of a page that is needed, where it is outside: the page that has to be back first is asked for. While that one is on its
+// way out or is being loaded, no more than an earlier put of the page itself that failed is told.
+fn is_fetch(turns: &Turns, driver: &Driver, machine: &Machine, page: Page, event: &Event) -> bool
+    requires { CanFetch driver.now turns.now }
+    ensures { result ≡ fetch_by page (fetch_seen driver.now turns.now
+        (least_free (state_of machine.now).frames (state_of machine.now).content) page) event.now }
 {
-    match event {
-        Event::Bus { page: told, why } => ends_fetch(*why, free.is_some()) && *told == page,
-        Event::Did { action, .. } | Event::Refused { action, .. } => match free {
-            Some(frame) => same_action(action, &Action::EldStart { frame, page, slot }),
-            None => false,
-        },
-        Event::Age { .. } | Event::Kick { .. } => false,
+    let Some(out) = slot(turns, driver, page) else {
+        return false;
+    };
+    let target = driver.target(page, out);
+    match slot_of(driver.states.state(target)) {
+        Some(slot) => is_ask(
+            page,
+            target,
+            driver.slot_here(slot),
+            machine.first_free(),
+            event,
+        ),
+        None => is_stop(page, BusWhy::PutFailed, event),
     }
 }
 
-// Whether this may be why a page does not come back. Without a free frame its record is not asked for, so that no get can have failed;
-// a put that failed before is told all the same.
-fn ends_fetch(why: BusWhy, has_frame: bool) -> bool
-    ensures { result ≡ ends_fetch why has_frame }
+// What may come of asking for a record: the load starts, or is refused for its slot, or the page does not come back. Without a free frame
+// the record is not asked for; a put that failed before is told all the same.
+fn is_ask(
+    page: Page,
+    target: Page,
+    slot: Option<SlotAt>,
+    free: Option<Frame>,
+    event: &Event,
+) -> bool
+    ensures { result ≡ is_fetch page (fetches.Asks target slot (option_map (λ f. f.0) free)) event.now }
 {
-    match why {
-        BusWhy::PutFailed => true,
-        BusWhy::GetFailed | BusWhy::NoRecord => has_frame,
-        BusWhy::Mac | BusWhy::Header | BusWhy::Slot => false,
+    match event {
+        Event::Bus { page: told, why } => match why {
+            BusWhy::PutFailed => *told == page || *told == target,
+            BusWhy::GetFailed | BusWhy::NoRecord => free.is_some() && *told == target,
+            BusWhy::Mac | BusWhy::Header | BusWhy::Slot => false,
+        },
+        Event::Did { action, .. }
+        | Event::Refused {
+            action,
+            why: Refusal::SlotEmpty,
+        } => is_load(action, target, slot, free),
+        Event::Refused { .. } | Event::Age { .. } | Event::Kick { .. } => false,
+    }
+}
+
+// Whether this is the load of a page by its slot into a frame.
+fn is_load(action: &Action, page: Page, slot: Option<SlotAt>, free: Option<Frame>) -> bool
+    ensures { result ≡ loads_by page slot (option_map (λ f. f.0) free) action.now }
+{
+    match (slot, free) {
+        (Some(slot), Some(frame)) => same_action(action, &Action::EldStart { frame, page, slot }),
+        _ => false,
     }
 }

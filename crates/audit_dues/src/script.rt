@@ -1,12 +1,11 @@
 //! The rule Script of one entry.
 
 ghost use Rattle.std.specs.Prelude.{◌≡◌, List};
-ghost use Rattle.sgx_types.specs.Making.{Making};
 ghost use Rattle.sgx_rules.specs.declared.entries.Entry.{Entry};
 ghost use Rattle.driver_rules.specs.inner.Decided.{keeps_script};
 ghost use Rattle.driver_rules.specs.Scripts.{is_load};
-ghost use Rattle.driver_steps.specs.inner.Agrees.{Agrees};
-ghost use Rattle.turn_tables.specs.inner.Due.{IsOrderly, IsReady};
+ghost use Rattle.driver_laws.specs.inner.Agrees.{Keeping};
+ghost use Rattle.turn_tables.specs.inner.Due.{IsOrderly, IsReady, IsShown};
 ghost use Rattle.turn_tables.specs.inner.Shown.{ShowsTurns};
 
 use crate::next::{is_build_step, is_next};
@@ -27,7 +26,7 @@ pub fn keeps_script(
     entry: &Entry,
 ) -> bool
     requires ready { IsReady job.now driver.now machine.now turns.now }
-    ensures { (made : Making) (past : List Entry) → Agrees made job.now past driver.now machine.now → IsOrderly job.now past
+    ensures { (k : Keeping) (past : List Entry) → IsShown k job.now past driver.now machine.now → IsOrderly job.now past
         → ShowsTurns job.now past turns.now → result ≡ keeps_script job.now past entry.now }
 {
     if turns.is_spent {

@@ -1,2 +1,3 @@
 pub mod AgreeLaws
 pub mod AskedLaws
+pub mod EndLaws

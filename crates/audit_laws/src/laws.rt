@@ -12,23 +12,29 @@ ghost use Rattle.turn_rules.specs.Script.{action_of};
 ghost use Rattle.paging_laws.specs.inner.Steps as steps;
 ghost use Rattle.paging_machine.specs.inner.Parts.{Parts, state_of};
 ghost use Rattle.driver_rules.specs.Scripts.{ScriptRule};
-ghost use Rattle.driver_laws.specs.inner.Counted.{CountMoves, CountsSlots};
+ghost use Rattle.driver_laws.specs.inner.Agrees.{auditors, Keeping};
 ghost use Rattle.driver_laws.specs.inner.Kinds.{CanMove};
 ghost use Rattle.driver_laws.specs.inner.Sound.{IsSound};
 ghost use Rattle.driver_laws.specs.inner.Three.{IsApart, TcsAreApart};
 ghost use Rattle.driver_laws.specs.inner.Used.{StartTells};
-ghost use Rattle.driver_steps.specs.inner.Agrees.{Agrees};
+ghost use Rattle.driver_steps.specs.inner.Tells.{Tells};
 ghost use Rattle.driver_tables.specs.declared.driver.Driver.{Driver};
 ghost use Rattle.run_history.specs.inner.Histories.{GoesOn};
+ghost use Rattle.turn_tables.specs.inner.Due.{IsShown};
 ghost use Rattle.turn_tables.specs.inner.Ending.{EndsAreTold};
 ghost use Rattle.turn_tables.specs.declared.turns.Turns.{Turns};
-ghost use Rattle.slot_keeper.specs.inner.Keeper.{Keeper, count_out};
 ghost use Rattle.audit_laws.specs.inner.Shown.{ShowsTrace};
 
-/// Driver and machine agree on a trace that kept each rule, where the tables show it: nothing else is asked of who made it.
-pub fn lawful_traces_agree()
+/// Tables and machine tell a trace that kept each rule, where the tables show it: nothing else is asked of who made it.
+pub fn lawful_traces_tell()
     ensures { (j : JobView) (past : List Entry) (d : Driver) (m : Parts) (t : Turns) → ShowsTrace j past d m t
-        → Agrees (machine_of j) j past d m }
+        → Tells auditors (machine_of j) j past d m }
+{}
+
+/// Where tables and machine tell some entries, they show them to the tables of what is due.
+pub fn telling_tables_show()
+    ensures { (k : Keeping) (made : Making) (j : JobView) (past : List Entry) (d : Driver) (m : Parts) → Tells k made j past d m
+        → IsShown k j past d m }
 {}
 
 /// Each entry of a history that goes on could move its page, and what it told of its start is so.
@@ -38,7 +44,7 @@ pub fn lawful_entries_can_move()
 {}
 
 /// The machine may be asked for each entry that its actor may make next: fewer than 2^32 version array pages were made where it makes one,
-/// and no version array page is loaded.
+/// and no frame holds or loads a version array page that is loaded.
 pub fn asked_entries_can_move()
     ensures { (j : JobView) (past : List Entry) (d : Driver) (m : Parts) (t : Turns) (e : Entry) (action : Action)
         → ShowsTrace j past d m t → ScriptRule j past e → action_of e.event ≡ Some action → steps.CanMove (state_of m) action }
@@ -49,15 +55,11 @@ pub fn loads_are_apart()
     ensures { (past : List Entry) → IsSound past → LoadsAreApart past }
 {}
 
-/// Who was ended was told why: by the rule Refusal a load is refused only for its record, so that its refusal is still to be told.
+/// Who was ended was told why: by the rule Refusal a load is refused only for its record, and by the rule Script its start only for a slot
+/// that holds no version, so that the refusal is still to be told.
 pub fn ends_are_told()
-    ensures { (k : Making) (past : List Entry) (e : Entry) → RefusalRule k past e → EndsAreTold past → EndsAreTold (e ∷ past) }
-{}
-
-/// As many slots are out as pages have one, behind an entry by which the keeper of the slots went on.
-pub fn slots_stay_counted()
-    ensures { (j : JobView) (past : List Entry) (e : Entry) (old new : Keeper) → 1 ≤ j.start_version → GoesOn j (e ∷ past)
-        → CountMoves e.event (count_out old) (count_out new) → CountsSlots old past → CountsSlots new (e ∷ past) }
+    ensures { (k : Making) (j : JobView) (past : List Entry) (e : Entry) → RefusalRule k past e → ScriptRule j past e → EndsAreTold past
+        → EndsAreTold (e ∷ past) }
 {}
 
 /// What each processor holds is of three pages.

@@ -20,8 +20,9 @@ use Rattle.measure_log.specs.Rule.{MeasureRule}
 use Rattle.job_grammar.specs.Jobs.{JobView}
 use Rattle.turn_rules.specs.Machines.{machine_of}
 use Rattle.turn_rules.specs.Script.{action_of}
-use Rattle.driver_rules.specs.Ages.{InPass, IsInTries}
+use Rattle.driver_rules.specs.Ages.{Ahead, EndsNext, GoesOn, InPass, IsAhead, IsInTries, Looks, TriesNext, ahead}
 use Rattle.driver_rules.specs.Passes.{Between, Blocking, Pass, Scan, Tries, pass}
+use Rattle.driver_rules.specs.Spares.{outs}
 use Rattle.driver_rules.specs.Scripts.{ScriptRule}
 use Rattle.paging_laws.specs.inner.State.{State, row_outside}
 use Rattle.paging_laws.specs.inner.Steps.{is_of_cpus}
@@ -102,6 +103,15 @@ no_pass past (Scan left taken) action r own h = h
 no_pass past (Blocking due taken) action r own h = h
 no_pass past (Tries g rest form) action r own h = no_try past g action r own h
 
+-- .. nor is one ahead of it
+no_ahead : (j : JobView) (past : List Entry) (at : Ahead) (action : Action) (r : Refusal) → is_of_cpus action ≡ true
+    → IsAhead j past at (Refused action r) → ⊥
+no_ahead j past GoesOn action r own h = no_pass past (pass j past) action r own h.in_pass
+no_ahead j past (Looks g) action r own h = h
+no_ahead j past (TriesNext g) (EwbStart f slot) r own h = cc
+no_ahead j past (TriesNext g) action r own h = h
+no_ahead j past (EndsNext g) action r own h = h
+
 -- ---- the rule that is told
 
 module _ (j : JobView) (past : List Entry) (action : Action) (own : is_of_cpus action ≡ true) where
@@ -120,7 +130,8 @@ module _ (j : JobView) (past : List Entry) (action : Action) (own : is_of_cpus a
       → FailsHere j past (Some (refused action r)) (rule_outside (Some found) (Refused action r))
   refused_so r found true is script keeps at =
       subst (λ b. FailsHere j past (Some (refused action r)) (outside.rule_of_refused b)) (sym is)
-      (age_fails j past (refused action r) script (record { each = each }) (λ h. no_pass past (pass j past) action r own h.in_pass))
+      (age_fails j past (refused action r) script (record { each = each })
+      (λ h. no_ahead j past (ahead j past (outs j past)) action r own h))
     where
       each : (rule : Rule) → is_machines rule ≡ true → Says j rule past (Some (refused action r))
       each rules.Refusal its = refusal_holds j past action r own (at ∙ ap Some (sym (refusal_same r found is)))

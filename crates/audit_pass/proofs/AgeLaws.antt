@@ -1,7 +1,7 @@
 -- What is told of the rule Age is so.
 use Rattle.std.proofs.Common.{◌≡◌, ℕ, zero, suc, ◌≤◌, ◌&&◌, Bool, true, false, refl, sym, ◌∙◌, ap, subst, List, []}
 use Rattle.std.proofs.Common.{◌∷◌, Option, Some}
-use Rattle.std.proofs.Common.{None, drop, length}
+use Rattle.std.proofs.Common.{None, drop}
 use Rattle.sgx_types.proofs.Pages.{same_pages}
 use Rattle.sgx_rules.specs.declared.entries.Action.TheVariants as actions
 use Rattle.sgx_types.specs.declared.names.Actor.{Actor}
@@ -10,49 +10,61 @@ use Rattle.sgx_rules.specs.declared.entries.Entry.{Entry}
 use Rattle.sgx_rules.specs.declared.entries.Event.{Event}
 use Rattle.sgx_rules.specs.declared.entries.Event.TheVariants.{Age, Did, Kick, Refused}
 use Rattle.sgx_rules.specs.declared.entries.Look.{Look}
+use Rattle.sgx_rules.specs.declared.refusals.Refusal.TheVariants as why
 use Rattle.sgx_types.specs.declared.names.Frame.{Frame}
 use Rattle.sgx_types.specs.declared.names.Page.{Page}
+use Rattle.sgx_types.specs.Making.{Making}
 use Rattle.sgx_types.specs.Pages.{same_page}
 use Rattle.job_grammar.specs.Jobs.{JobView}
+use Rattle.paging_machine.specs.inner.Parts.{Parts, state_of}
 use Rattle.active_list.specs.inner.Holds.{is_held as is_held_by}
 use Rattle.active_list.specs.inner.Listing as listing
 use Rattle.driver_rules.specs.inner.Decided as decided
-use Rattle.driver_rules.specs.inner.Decided.{is_in_pass, is_some_page, keeps_age, looks_at, looks_of, pass_of}
+use Rattle.driver_rules.specs.inner.Decided.{age_of, is_ahead, is_end_ahead, is_in_pass, is_of_pass, is_some_page, is_try_ahead}
+use Rattle.driver_rules.specs.inner.Decided.{keeps_age_by, looks_at, looks_of}
+use Rattle.driver_rules.specs.Ages.{ahead_by, ahead_due}
 use Rattle.driver_rules.specs.Dues.{is_look}
 use Rattle.driver_rules.specs.Holds.{is_held}
 use Rattle.driver_rules.specs.Passes as passes
+use Rattle.driver_rules.specs.Passes.{pass}
 use Rattle.driver_rules.specs.Places.{Leaving, active, is_young, place}
+use Rattle.driver_rules.specs.Spares.{due_with, Outs}
+use Rattle.driver_laws.specs.inner.Agrees.{Keeping}
 use Rattle.driver_tables.proofs.HeldLaws.{held_same}
 use Rattle.driver_tables.specs.declared.driver.Driver.{Driver}
 use Rattle.driver_tables.specs.inner.Held.{ShowsHolds}
 use Rattle.driver_tables.specs.inner.Tables.{ShowsTables}
 use Rattle.driver_tables.proofs.ListLaws.{head_marks, heads}
-use Rattle.audit_pass.specs.declared.stages.Stage.{Stage}
-use Rattle.audit_pass.specs.declared.stages.Stage.TheVariants as stages
-use Rattle.audit_pass.specs.declared.stages.Taken.{Taken}
-use Rattle.audit_pass.specs.inner.Standing.{AreInFrames, StandsAt}
-use Rattle.audit_pass.specs.inner.Told.{age_told, in_pass, in_tries, is_in_block, is_in_tries, look_is_right, looks_right}
-use Rattle.audit_pass.specs.inner.Viewed.{TraceView, form_in, pages_in, pass_by, tries_of, waiting_by}
-use Rattle.audit_pass.proofs.ListLaws.{get_drop, head}
+use Rattle.reclaim_pass.specs.declared.stages.Aside.{Aside}
+use Rattle.reclaim_pass.specs.declared.stages.Aside.TheVariants as asides
+use Rattle.reclaim_pass.specs.declared.stages.Stage.{Stage}
+use Rattle.reclaim_pass.specs.declared.stages.Stage.TheVariants as stages
+use Rattle.reclaim_pass.specs.declared.stages.Taken.{Taken}
+use Rattle.reclaim_pass.specs.inner.Dues.{due_in, HasAllSlots, ShowsOuts}
+use Rattle.driver_steps.specs.inner.Tells.{Tells}
+use Rattle.reclaim_pass.specs.inner.Standing.{AreInFrames, IsAside, StandsAt}
+use Rattle.reclaim_pass.specs.inner.Viewed.{aside_by, form_in, pages_in, pass_by, PassView, tries_of, waiting_by}
+use Rattle.reclaim_pass.proofs.DueLaws.{dues_are}
+use Rattle.reclaim_pass.proofs.ListLaws.{get_drop, head}
+use Rattle.audit_pass.specs.inner.Told.{age_told, ahead_told, due_told, in_pass, in_tries, is_end_of, is_in_block, is_in_tries, is_start_of}
+use Rattle.audit_pass.specs.inner.Told.{look_is_right, looks_right, of_pass}
 
 -- ---- looks
 
-module _ (j : JobView) (past : List Entry) (d : Driver) (s : ShowsTables j d past) (h : ShowsHolds j d.active.own past) where
+module _ (k : Keeping) (j : JobView) (past : List Entry) (d : Driver) (s : ShowsTables k j d past)
+    (held : (g : Page) → is_held_by d.active.own g ≡ is_held j past g) where
   look_told : (page : Page) (look : Look) → look_is_right d (listing.head_of d.active.pages) page look ≡ looks_at j past page look
   look_told page look =
       by_head (listing.head_of d.active.pages) refl
       ∙ ap (λ o. is_some_page o page && is_look (is_held j past page) (is_young past page) look)
       (heads past d.active.pages (active past) s.list)
     where
-      few : length j.scripts ≤ 16
-      few = subst (λ n. n ≤ 16) s.cpus s.few
-
       by_page : (g : Page) → listing.head_of d.active.pages ≡ Some g → (b : Bool) → same_page g page ≡ b
           → (b && is_look (is_held_by d.active.own g) (listing.is_young d.active.pages g) look)
           ≡ (b && is_look (is_held j past page) (is_young past page) look)
       by_page g is false other = refl
       by_page g is true same =
-          ap (λ b. is_look b (listing.is_young d.active.pages g) look) (held_same j d.active.own past h g few)
+          ap (λ b. is_look b (listing.is_young d.active.pages g) look) (held g)
           ∙ ap (λ b. is_look (is_held j past g) b look) (head_marks past d.active.pages (active past) g s.list is)
           ∙ ap (λ x. is_look (is_held j past x) (is_young past x) look) (same_pages g page same)
 
@@ -61,7 +73,7 @@ module _ (j : JobView) (past : List Entry) (d : Driver) (s : ShowsTables j d pas
       by_head None is = refl
       by_head (Some g) is = by_page g is (same_page g page) refl
 
-  looks_told : (event : Event) → looks_right d event ≡ looks_of j past actors.Reclaimer event
+  looks_told : (event : Event) → looks_right d event ≡ looks_of j past event
   looks_told (Age page look) = look_told page look
   looks_told event = refl
 
@@ -106,17 +118,51 @@ pass_told past taken kicks (stages.Block next) event h = refl
 pass_told past taken kicks (stages.Tries next form) event h =
     ap (λ o. is_in_tries o event) (get_drop taken next) ∙ tries_told past (drop next taken) (form_in kicks form) event h
 
+-- ---- a page that goes out beside the passes
+
+start_told : (past : List Entry) (t : Taken) (event : Event) → place past t.page ≡ Leaving t.frame.0
+    → is_start_of t.frame event ≡ is_try_ahead past t.page event
+start_told past t (Did (actions.EwbStart f slot) answer) h = rw h refl
+start_told past t (Refused (actions.EwbStart f slot) why.VersionSpent) h = rw h refl
+start_told past t event h = refl
+
+end_told : (past : List Entry) (t : Taken) (event : Event) → place past t.page ≡ Leaving t.frame.0
+    → is_end_of t.frame event ≡ is_end_ahead past t.page event
+end_told past t (Did (actions.Ewb f) answer) h = rw h refl
+end_told past t event h = refl
+
 -- ---- the rule
 
-pub age_is : (first : ℕ) (j : JobView) (past : List Entry) (d : Driver) (v : TraceView) (e : Entry) → ShowsTables j d past
-    → ShowsHolds j d.active.own past → StandsAt first j past v → age_told d v e.actor e.event ≡ keeps_age j past e
-age_is first j past d v e s h stands = by_actor e.actor e.event
+module _ (k : Keeping) (made : Making) (j : JobView) (past : List Entry) (d : Driver) (m : Parts) (a : Tells k made j past d m)
+    (v : PassView) (held : (g : Page) → is_held_by d.active.own g ≡ is_held j past g) (stands : StandsAt made.first_epoch j past v) where
+  of_pass_told : (event : Event) → of_pass d v event ≡ is_of_pass j past event
+  of_pass_told event =
+      ap (λ b. b && in_pass v.taken v.stage event) (looks_told k j past d a.shows held event)
+      ∙ ap (λ b. looks_of j past event && b)
+      (pass_told past v.taken v.kicks v.stage event stands.frames ∙ ap (λ at. is_in_pass past at event) (sym stands.same))
+
+  due_is_told : (due : Option Page) (event : Event) → due_told d v event due ≡ is_ahead j past (ahead_due due) event
+  due_is_told None event = of_pass_told event
+  due_is_told (Some g) event = refl
+
+  ahead_is_told : (x : Aside) (due : Option Page) (event : Event) → due_in d (state_of m) v.behind ≡ due → IsAside past x
+      → ahead_told d (state_of m) v event x ≡ is_ahead j past (ahead_by (aside_by x) due) event
+  ahead_is_told asides.None due event same at = ap (due_told d v event) same ∙ due_is_told due event
+  ahead_is_told (asides.ToGo t) due event same at = start_told past t event at
+  ahead_is_told (asides.Going t) due event same at = end_told past t event at
+
+pub age_is : (k : Keeping) (made : Making) (j : JobView) (past : List Entry) (d : Driver) (m : Parts) (v : PassView) (out : Outs)
+    (e : Entry) → Tells k made j past d m → HasAllSlots k → ShowsOuts d.slots past out → ShowsHolds j d.active.own past
+    → StandsAt made.first_epoch j past v → age_told d (state_of m) v e.actor e.event ≡ keeps_age_by j past out e
+age_is k made j past d m v out e a all shown h stands = by_actor e.actor e.event
   where
-    by_actor : (a : Actor) (ev : Event) → age_told d v a ev ≡ keeps_age j past (record { actor = a; event = ev })
+    held : (g : Page) → is_held_by d.active.own g ≡ is_held j past g
+    held g = held_same j d.active.own past h g (subst (λ n. n ≤ 16) a.shows.cpus a.shows.few)
+
+    by_actor : (x : Actor) (ev : Event) → age_told d (state_of m) v x ev ≡ age_of j past out x ev
     by_actor actors.Reclaimer ev =
-        ap (λ b. b && in_pass v.taken v.stage ev) (looks_told j past d s h ev)
-        ∙ ap (λ b. looks_of j past actors.Reclaimer ev && b)
-        (pass_told past v.taken v.kicks v.stage ev stands.frames
-        ∙ ap (λ at. pass_of past at actors.Reclaimer ev) (sym stands.same))
+        ahead_is_told k made j past d m a v held stands v.aside (due_with j past out) ev
+        (dues_are k made j past d m a out all shown held v stands) stands.leaves
+        ∙ ap (λ x. is_ahead j past (ahead_by x (due_with j past out)) ev) (sym stands.aside)
     by_actor actors.Builder ev = refl
     by_actor (actors.Cpu p) ev = refl

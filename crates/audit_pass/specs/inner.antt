@@ -1,6 +1,1 @@
-pub mod Keeping
-pub mod Noted
-pub mod Rooms
-pub mod Standing
 pub mod Told
-pub mod Viewed

@@ -1,11 +1,7 @@
-// How far the reclaimer's pass is along a trace that somebody else made, and whether the next entry keeps the rules Age and Kick: by a
-// driver's tables and a machine that agree with the entries so far.
+// Whether an entry of a trace that somebody else made keeps the rules Age and Kick: by how far the reclaimer is, and by a driver's tables
+// and a machine that agree with the entries before it.
 #![tactic(auto)]
 
-mod keepers;
-pub mod laws;
+pub mod judging;
 mod looks;
-mod moves;
-mod stages;
-pub mod trace_pass;
 mod tries;

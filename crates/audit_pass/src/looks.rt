@@ -4,11 +4,8 @@ ghost use Rattle.std.specs.Prelude.{◌≡◌};
 ghost use Rattle.driver_rules.specs.Dues.{is_look};
 ghost use Rattle.active_list.specs.inner.Listing.{head_of};
 ghost use Rattle.audit_pass.specs.inner.Told.{look_is_right, looks_right};
-ghost use Rattle.audit_pass.specs.inner.Noted.{taken_by};
 
-use crate::stages::Taken;
 use driver_tables::driver::Driver;
-use driver_tables::moves::frame_in;
 use sgx_rules::entries::{Event, Look};
 use sgx_types::names::Page;
 
@@ -44,17 +41,4 @@ fn is_look(held: bool, young: bool, look: Look) -> bool
         Look::Young => !held && young,
         Look::NoRoom | Look::Taken => !held && !young,
     }
-}
-
-/// The page that a look takes off the list, with its frame.
-pub(crate) fn taken_by(driver: &Driver, look: Look) -> Option<Taken>
-    requires { driver.now.states.counts ≡ driver.now.active.counts }
-    ensures { result ≡ taken_by driver.now look }
-{
-    let Look::Taken = look else {
-        return None;
-    };
-    let page = driver.active.head()?;
-    let frame = frame_in(driver.states.state(page));
-    Some(Taken { page, frame })
 }

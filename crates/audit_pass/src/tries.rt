@@ -1,14 +1,14 @@
 //! What may stand within the tries of a page.
 
 ghost use Rattle.std.specs.Prelude.{◌≡◌};
-ghost use Rattle.driver_rules.specs.inner.Decided.{is_end, is_last_try, is_track_of, is_try};
+ghost use Rattle.driver_rules.specs.inner.Decided.{is_end, is_last_try, is_look_ahead, is_track_of, is_try};
 ghost use Rattle.std.specs.Option.{option_map};
-ghost use Rattle.audit_pass.specs.inner.Viewed.{number_of};
-ghost use Rattle.audit_pass.specs.inner.Told.{in_frame, in_tries, is_kick_or_try, kick_is};
+ghost use Rattle.reclaim_pass.specs.inner.Viewed.{number_of};
+ghost use Rattle.audit_pass.specs.inner.Told.{in_frame, in_tries, is_end_of, is_kick_or_try, is_start_of, kick_is};
 
-use sgx_rules::entries::{Action, Event};
+use sgx_rules::entries::{Action, Event, Look};
 use sgx_rules::refusals::Refusal;
-use sgx_types::names::{Cpu, Frame};
+use sgx_types::names::{Cpu, Frame, Page};
 
 /// Whether an event may stand within the tries of the page that leaves a frame: a try of that frame and its end, a track, a kick.
 pub(crate) fn is_in_tries(frame: Frame, event: Event) -> bool
@@ -33,7 +33,7 @@ fn is_in_frame(frame: Frame, action: Action) -> bool
     }
 }
 
-/// Whether an event is a start of a write-out, or the refusal at which a run ends.
+/// Whether an event is a start of a write-out, or the refusal at which a run ends, or one since the slot is in use.
 pub(crate) fn is_last_try(event: Event) -> bool
     ensures { result ≡ is_last_try event }
 {
@@ -44,13 +44,13 @@ pub(crate) fn is_last_try(event: Event) -> bool
         } => true,
         Event::Refused {
             action: Action::EwbStart { .. },
-            why: Refusal::VersionSpent,
+            why: Refusal::VersionSpent | Refusal::SlotOccupied { .. },
         } => true,
         _ => false,
     }
 }
 
-/// Whether an event is a start of a write-out, or the refusal of one: for want of a track, or of a version.
+/// Whether an event is a start of a write-out, or the refusal of one: for want of a track or of a version, or since the slot is in use.
 pub(crate) fn is_try(event: Event) -> bool
     ensures { result ≡ is_try event }
 {
@@ -111,4 +111,47 @@ pub(crate) fn is_end(event: Event) -> bool
             ..
         }
     )
+}
+
+/// Whether an event is a look at a page that is due besides: it was taken, or the store had no room for its record.
+pub(crate) fn is_look_ahead(page: Page, event: Event) -> bool
+    ensures { result ≡ is_look_ahead page event }
+{
+    match event {
+        Event::Age {
+            page: other,
+            look: Look::NoRoom | Look::Taken,
+        } => other == page,
+        _ => false,
+    }
+}
+
+/// Whether an event is the start of the write-out of the page in a frame, or the refusal at which a run ends.
+pub(crate) fn is_start_of(frame: Frame, event: Event) -> bool
+    ensures { result ≡ is_start_of frame event }
+{
+    match event {
+        Event::Did {
+            action: Action::EwbStart { frame: other, .. },
+            ..
+        } => frame.0 == other.0,
+        Event::Refused {
+            action: Action::EwbStart { frame: other, .. },
+            why: Refusal::VersionSpent,
+        } => frame.0 == other.0,
+        _ => false,
+    }
+}
+
+/// Whether an event is the end of the write-out of the page in a frame.
+pub(crate) fn is_end_of(frame: Frame, event: Event) -> bool
+    ensures { result ≡ is_end_of frame event }
+{
+    match event {
+        Event::Did {
+            action: Action::Ewb { frame: other },
+            ..
+        } => frame.0 == other.0,
+        _ => false,
+    }
 }

@@ -21,9 +21,8 @@ use Rattle.page_history.proofs.StartLaws.{starts_apart}
 use Rattle.job_grammar.specs.Jobs.{JobView}
 use Rattle.turn_rules.specs.Machines.{machine_of}
 use Rattle.driver_rules.specs.Places.{place}
-use Rattle.driver_laws.specs.inner.ByFrame as by_frame
 use Rattle.driver_laws.specs.inner.Sound.{IsSound, load_slot, slot_outside, version_out}
-use Rattle.driver_laws.proofs.HistoryLaws.{loading_is}
+use Rattle.driver_laws.proofs.AloneLaws.{loading_is}
 use Rattle.paging_laws.specs.inner.Histories.{BringsBytes, StandsWithAllRules}
 use Rattle.paging_laws.specs.inner.State.{State}
 use Rattle.paging_laws.proofs.ReloadLaws.{keeps_moves}
@@ -55,22 +54,16 @@ module _ (j : JobView) (s : State) (past : List Entry) (records : List Made) (go
   found : (version_in past start.slot ≡ start.version) × (0 < start.version)
   found = (starts_apart (machine_of j) past rules).found n start page opened loads
 
-  its-slot : slot_outside (place past page) ≡ Some start.at
+  its-slot : slot_outside (place past page) ≡ Some start.slot
   its-slot =
-      let load : load_slot (Some start) page ≡ Some start.at = rw (loads, same_page-refl page) refl in
-      ap slot_outside (loading_is (place past page) n start.at
+      let load : load_slot (Some start) page ≡ Some start.slot = rw (loads, same_page-refl page) refl in
+      ap slot_outside (loading_is (place past page) n start.slot
       (sym (places.places.loads page n) ∙ ap (λ o. load_slot o page) opened ∙ load))
-
-  -- where the start found its slot is the version of the slot
-  its-version : by_frame.version_in past start.at ≡ version_in past start.slot
-  its-version =
-      places.slots.versions start.at
-      ∙ ap (by_frame.version_found (version_in past)) (places.slots.found n start opened)
 
   -- the page is outside, in the slot of the start
   outside : copy past page ≡ Some (InSlot start.slot start.version)
   outside =
-      let last = last_of _ (version_in past start.slot) (places.versions page start.at its-slot ∙ ap Some its-version) in
+      let last = last_of _ (version_in past start.slot) (places.versions page start.slot its-slot) in
       let gone = out_is_gone past page last.0 last.1 in
       let live : OneLiveCopy past = live_copies (machine_of j) past h.positive rules in
       whose_copy j.start_version past live drawn start.slot page (omega (arith, found.0, found.1)) (rw last.2 at gone)

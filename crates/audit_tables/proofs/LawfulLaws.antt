@@ -1,5 +1,5 @@
 -- What is known of an entry that keeps each rule, by who made it.
-use Rattle.std.proofs.Common.{◌≡◌, true, false, List, Option, Some, refl, sym, ◌∙◌}
+use Rattle.std.proofs.Common.{◌≡◌, true, false, List, ◌∷◌, Option, Some, refl, sym, ◌∙◌}
 use Rattle.std.proofs.lemmas.Bool.{false≢true}
 use Rattle.sgx_rules.specs.declared.entries.Action.{Action}
 use Rattle.sgx_rules.specs.declared.entries.Action.TheVariants as actions
@@ -8,6 +8,7 @@ use Rattle.sgx_types.specs.declared.names.Actor.TheVariants as actors
 use Rattle.sgx_rules.specs.declared.entries.Entry.{Entry}
 use Rattle.sgx_rules.specs.declared.entries.Event.{Event}
 use Rattle.sgx_rules.specs.declared.entries.Event.TheVariants.{Did, Refused, Age, Kick, Bus}
+use Rattle.sgx_types.specs.declared.names.Cpu.{Cpu}
 use Rattle.sgx_types.specs.declared.names.Frame.{Frame}
 use Rattle.sgx_rules.specs.Rules.{RefusalRule}
 use Rattle.sgx_rules.specs.Starts.{open_start}
@@ -18,9 +19,11 @@ use Rattle.turn_rules.specs.Machines.{machine_of}
 use Rattle.turn_rules.specs.Script.{action_of}
 use Rattle.paging_machine.specs.declared.starts.Start as starts
 use Rattle.paging_machine.specs.inner.Parts.{start_of}
-use Rattle.driver_rules.specs.Ages.{AgeRule, InPass, PassOf}
+use Rattle.driver_rules.specs.Ages.{AgeRule, Ahead, EndsNext, GoesOn, InPass, IsAhead, Looks, TriesNext, ahead}
 use Rattle.driver_rules.specs.Passes.{Between, Blocking, Pass, Scan, Tries, pass}
+use Rattle.driver_rules.specs.Spares.{outs}
 use Rattle.driver_rules.specs.Scripts.{ScriptRule, is_load}
+use Rattle.driver_laws.specs.inner.Agrees.{auditors}
 use Rattle.driver_laws.specs.inner.Kinds.{CanMove}
 use Rattle.driver_laws.specs.inner.Used.{StartTells}
 use Rattle.driver_laws.specs.inner.Tracks.{is_reclaimers}
@@ -28,10 +31,11 @@ use Rattle.driver_laws.proofs.EndLaws.{their_rule}
 use Rattle.driver_laws.proofs.OwnLaws.{script_own}
 use Rattle.driver_tables.specs.declared.driver.Driver.{Driver}
 use Rattle.turn_tables.specs.declared.turns.Turns.{Turns}
-use Rattle.table_notes.specs.inner.Noted.{AreNoted, CanNoteTables}
+use Rattle.table_notes.specs.inner.Noted.{AreNoted, CanNoteTables, HasSecsHere}
+use Rattle.table_notes.proofs.FromLaws.{auditors_keep}
 use Rattle.table_notes.specs.inner.Plain.{is_plain, is_reclaimer}
-use Rattle.audit_laws.proofs.AgreeLaws.{agrees_by_rules, lawful_can, lawful_starts}
-use Rattle.audit_tables.specs.inner.Followed.{CanFollow, IsFollowed, frame_ended}
+use Rattle.audit_laws.proofs.AgreeLaws.{lawful_can, lawful_starts, tells_by_rules, tells_shown}
+use Rattle.audit_tables.specs.inner.Followed.{CanFollow, IsFollowed, frame_begun, frame_ended}
 use Rattle.audit_tables.specs.inner.Following.{is_plain_event}
 
 -- ---- what the rules say of it
@@ -42,7 +46,8 @@ pub record IsLawful (j : JobView) (past : List Entry) (start : Option starts.Sta
   pub refusal : RefusalRule (machine_of j) past e
   pub can : CanMove past e.event
   pub starts : StartTells past e.event
-  pub opened : (f : Frame) → frame_ended e.event ≡ Some f → start_of start ≡ bare_start (open_start past f.0)
+  pub ended : (f : Frame) → frame_ended e.event ≡ Some f → start_of start ≡ bare_start (open_start past f.0)
+  pub begun : (f : Frame) → frame_begun e.event ≡ Some f → start_of start ≡ bare_start (open_start (e ∷ past) f.0)
 
 pub lawful : (t : Turns) (d : Driver) (before : Mode) (start : Option starts.Start) (e : Entry) (can : CanFollow t d before start e)
     → IsLawful can.j can.past start e
@@ -52,7 +57,8 @@ lawful t d before start e can = record {
   refusal = can.goes_on.refusal.1.0;
   can = lawful_can can.j can.past e can.trace.stands.positive can.goes_on;
   starts = lawful_starts can.j can.past e can.trace.stands.positive can.goes_on;
-  opened = can.opened;
+  ended = can.ended;
+  begun = can.begun;
 }
 
 -- ---- who makes it
@@ -62,6 +68,11 @@ pub not_builders : (j : JobView) (past : List Entry) (ev : Event) → ScriptRule
     → is_reclaimers ev ≡ true → ⊥
 not_builders j past ev script own =
     let bad : actors.Builder ≡ actors.Reclaimer = script_own j past (record { actor = actors.Builder; event = ev }) script own in absurd cc
+
+pub not_cpus : (j : JobView) (past : List Entry) (c : Cpu) (ev : Event) → ScriptRule j past (record { actor = actors.Cpu c; event = ev })
+    → is_reclaimers ev ≡ true → ⊥
+not_cpus j past c ev script own =
+    let bad : actors.Cpu c ≡ actors.Reclaimer = script_own j past (record { actor = actors.Cpu c; event = ev }) script own in absurd cc
 
 -- a load, its end, or why a page did not come back, is a processor's
 pub no_builders_load : (j : JobView) (past : List Entry) (ev : Event) → ScriptRule j past (record { actor = actors.Builder; event = ev })
@@ -90,11 +101,28 @@ no_pass past (Tries g rest form) (Refused (actions.Ewb f) refusal) plain h = fal
 no_pass past (Tries g rest form) (Refused (actions.Track enclave) refusal) plain h = false≢true plain
 no_pass past (Tries g rest form) (Refused action refusal) plain h = h
 
+-- .. nor what comes before it goes on
+no_ahead : (j : JobView) (past : List Entry) (at : Ahead) (ev : Event) → is_plain_event ev ≡ true → IsAhead j past at ev → ⊥
+no_ahead j past GoesOn ev plain h = no_pass past (pass j past) ev plain h.in_pass
+no_ahead j past (Looks g) (Age page look) plain h = false≢true plain
+no_ahead j past (Looks g) ev plain h = h
+no_ahead j past (TriesNext g) (Did (actions.EwbStart f slot) answer) plain h = false≢true plain
+no_ahead j past (TriesNext g) (Refused (actions.EwbStart f slot) refusal) plain h = false≢true plain
+no_ahead j past (TriesNext g) ev plain h = h
+no_ahead j past (EndsNext g) (Did (actions.Ewb f) answer) plain h = false≢true plain
+no_ahead j past (EndsNext g) ev plain h = h
+
 no_reclaimers : (j : JobView) (past : List Entry) (a : Actor) (ev : Event) → is_plain_event ev ≡ true
-    → PassOf past (pass j past) a ev → is_reclaimer a ≡ false
+    → AgeRule j past (record { actor = a; event = ev }) → is_reclaimer a ≡ false
 no_reclaimers j past actors.Builder ev plain h = refl
 no_reclaimers j past (actors.Cpu c) ev plain h = refl
-no_reclaimers j past actors.Reclaimer ev plain h = absurd (no_pass past (pass j past) ev plain h)
+no_reclaimers j past actors.Reclaimer ev plain h = absurd (no_ahead j past (ahead j past (outs j past)) ev plain h)
+
+-- a page is added while its SECS is here
+secs_here : (past : List Entry) (ev : Event) → CanMove past ev → HasSecsHere past ev
+secs_here past (Did (actions.Add enclave number f kind perm init) answer) can = can.3
+secs_here past (Did action answer) can = tt
+secs_here past ev can = tt
 
 -- ---- a plain instruction can be noted
 
@@ -111,12 +139,14 @@ plain_of (Kick cpu) plain = absurd (false≢true plain)
 plain_of (Bus page why) plain = absurd (false≢true plain)
 
 pub can_note : (t : Turns) (d : Driver) (before : Mode) (start : Option starts.Start) (e : Entry) (can : CanFollow t d before start e)
-    → is_plain_event e.event ≡ true → CanNoteTables t d before e
+    → is_plain_event e.event ≡ true → CanNoteTables t d 0 before e
 can_note t d before start e can is =
     let x = plain_of e.event is in
     let law = lawful t d before start e can in
+    let tells = tells_by_rules can.j can.past d can.m t can.trace in
     record {
-      made = machine_of can.j;
+      keeping = auditors;
+      keeps = auditors_keep;
       j = can.j;
       past = can.past;
       m = can.m;
@@ -124,11 +154,13 @@ can_note t d before start e can is =
       actor = e.actor;
       action = x.action;
       plain = x.plain;
-      other = no_reclaimers can.j can.past e.actor e.event is law.age.in_pass;
+      other = no_reclaimers can.j can.past e.actor e.event is law.age;
       step = can.step x.action x.is x.plain;
       script = law.script;
+      secs = secs_here can.past e.event law.can;
       stood = can.stood;
-      agrees = agrees_by_rules can.j can.past d can.m t can.trace;
+      shown = tells_shown auditors (machine_of can.j) can.j can.past d can.m tells;
+      stand = tells.stand;
       shows = can.trace.turns;
       orderly = can.trace.orderly;
       arrays = can.arrays;
@@ -137,8 +169,8 @@ can_note t d before start e can is =
 -- .. and the tables have followed it then
 pub noted_followed : (t : Turns) (d new : Driver) (before : Mode) (start : Option starts.Start) (e : Entry)
     (can : CanFollow t d before start e) (plain : is_plain_event e.event ≡ true)
-    → ((note : CanNoteTables t d before e) → AreNoted note.j note.past d e new) → IsFollowed can.j can.past d e new
+    → ((note : CanNoteTables t d 0 before e) → AreNoted note.keeping note.j note.past d e new) → IsFollowed can.j can.past d e new
 unfolding can_note
 noted_followed t d new before start e can plain notes =
     let k = notes (can_note t d before start e can plain) in
-    record { shows = k.shows; counts = k.counts; own = k.own; arrays = k.arrays }
+    record { shows = k.shows; own = k.own; arrays = k.arrays }

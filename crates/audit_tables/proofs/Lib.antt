@@ -1,4 +1,5 @@
-mod StartLaws
+pub mod StartLaws
 mod LawfulLaws
+pub mod SpareLaws
 mod FitLaws
 mod FollowLaws

@@ -4,23 +4,22 @@ ghost use Rattle.std.specs.Prelude.{◌≡◌};
 ghost use Rattle.audit_tables.specs.inner.Followed.{CanFollow, IsFollowed};
 ghost use Rattle.audit_tables.specs.inner.Following.{DoesEvent, DoesMove, FitsBegun, FitsEnded, FitsEvent, FitsGone, FitsMove};
 ghost use Rattle.audit_tables.specs.inner.Following.{FitsRefused};
-ghost use Rattle.audit_tables.specs.inner.Following.{HasEnded, IsStarted, is_plain_event, with_begun, with_gone, with_refused};
-ghost use Rattle.audit_tables.specs.inner.Naming.{IsLeft};
+ghost use Rattle.audit_tables.specs.inner.Following.{FitsLook, FitsStarted, HasEnded, HasLooked, HasStarted, is_plain_event, with_begun};
+ghost use Rattle.audit_tables.specs.inner.Following.{with_gone, with_refused};
 
-use crate::naming::take_named;
-use active_list::page_states::PageState;
 use cached_translations::processor::Mode;
 use driver_tables::driver::Driver;
+use driver_tables::moves::is_own_page;
 use paging_machine::starts::Start;
-use sgx_rules::entries::{Action, Answer, Entry, Event};
-use sgx_types::names::{Actor, Frame, Page, SlotAt};
+use sgx_rules::entries::{Action, Answer, Entry, Event, Look};
+use sgx_types::names::{Actor, Frame, Page};
 use sgx_types::record::Record;
 use table_notes::notes::note_tables;
 use turn_tables::turns::Turns;
 
 /// Brings the driver's tables to an entry of a trace, which keeps each rule with it. `before` is how the entry's processor stood before it,
-/// and `start` the open start that it ends. `rec` is kept for a load that starts: of it the rules say nothing. The holds, and the tables of
-/// what is due, are told the entry afterwards. Constant time, but that a slot is found by its name: among those that are not out.
+/// and `start` the open start that it ends, or that it has opened. `rec` is kept for a load that starts: of it the rules say nothing. The
+/// holds, and the tables of what is due, are told the entry afterwards. Constant time.
 pub fn follow(
     turns: &Turns,
     driver: &mut Driver,
@@ -34,7 +33,7 @@ pub fn follow(
         → IsFollowed can.j can.past driver.old entry.now driver.new }
 {
     if is_plain(&entry.event) {
-        note_tables(turns, driver, before, entry);
+        note_tables(turns, driver, 0, before, entry);
     } else {
         follow_event(driver, start, rec, entry.actor, &entry.event);
     }
@@ -70,7 +69,7 @@ fn follow_event(
     ensures { DoesEvent start rec.now actor event.now driver.old driver.new }
 {
     match *event {
-        Event::Age { page, look } => driver.look(page, look),
+        Event::Age { page, look } => note_look(driver, page, look),
         Event::Did { action, answer } => follow_done(driver, start, rec, actor, action, answer),
         Event::Refused {
             action: Action::Eld { .. },
@@ -93,21 +92,33 @@ fn follow_done(
     ensures { DoesMove start rec.now actor action answer driver.old driver.new }
 {
     match action {
-        Action::EwbStart { slot, .. } => note_start(driver, slot),
+        Action::EwbStart { .. } => note_start(driver, start),
         Action::Ewb { .. } => note_gone(driver, start, answer),
-        Action::EldStart { frame, page, slot } => begin_load(driver, actor, frame, page, slot, rec),
+        Action::EldStart { frame, page, .. } => begin_load(driver, actor, frame, page, start, rec),
         Action::Eld { frame } => end_load(driver, actor, frame, start, answer),
         _ => {}
     }
 }
 
-// A write-out started into a slot, which is out from then on.
-fn note_start(driver: &mut Driver, slot: SlotAt)
-    requires { IsLeft driver.old.slots slot }
-    ensures { IsStarted driver.old slot driver.new }
+// A page was looked at: a TCS or REG page at the head of the list, or another one, which is in none.
+fn note_look(driver: &mut Driver, page: Page, look: Look)
+    requires { FitsLook driver.old page }
+    ensures { HasLooked driver.old page look driver.new }
 {
-    if !take_named(&mut driver.slots, slot) {
-        unreachable!();
+    if is_own_page(page) {
+        driver.look(page, look);
+    } else {
+        driver.look_aside(page, look);
+    }
+}
+
+// A write-out started into a slot, which is out from then on.
+fn note_start(driver: &mut Driver, start: Option<Start>)
+    requires { FitsStarted start driver.old }
+    ensures { HasStarted start driver.old driver.new }
+{
+    if let Some(start) = start {
+        driver.slots.take_at(start.slot);
     }
 }
 
@@ -117,7 +128,7 @@ fn note_gone(driver: &mut Driver, start: Option<Start>, answer: Answer)
     ensures { driver.new ≡ with_gone start answer driver.old }
 {
     if let (Some(start), Answer::Moved { page, .. }) = (start, answer) {
-        driver.states.set_state(page, PageState::Away(start.at));
+        driver.evict(page, start.slot, false);
     }
 }
 
@@ -127,17 +138,14 @@ fn begin_load(
     actor: Actor,
     frame: Frame,
     page: Page,
-    slot: SlotAt,
+    start: Option<Start>,
     rec: &Record,
 )
     requires { FitsBegun actor page driver.old }
-    ensures { driver.new ≡ with_begun actor frame page slot rec.now driver.old }
+    ensures { driver.new ≡ with_begun actor frame page start rec.now driver.old }
 {
-    if let Actor::Cpu(cpu) = actor {
-        driver
-            .states
-            .set_state(page, PageState::Loading(frame, slot));
-        driver.kept.keep(cpu, page, rec);
+    if let (Actor::Cpu(cpu), Some(start)) = (actor, start) {
+        driver.start_load(cpu, page, start.slot, frame, rec);
     }
 }
 
@@ -148,7 +156,12 @@ fn end_load(driver: &mut Driver, actor: Actor, frame: Frame, start: Option<Start
 {
     if let (Actor::Cpu(cpu), Some(start), Answer::Moved { page, .. }) = (actor, start, answer) {
         driver.kept.forget(cpu);
-        driver.load(page, frame, start.at);
+        if is_own_page(page) {
+            driver.load(page, frame, start.slot);
+        } else {
+            driver.arrive(page, frame);
+            driver.slots.give(start.slot);
+        }
     }
 }
 

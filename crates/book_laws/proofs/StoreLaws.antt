@@ -1,6 +1,6 @@
 -- Entries, calls and tables that agree go on to.
 use Rattle.std.proofs.Common.{◌≡◌, ℕ, ◌==◌, Bool, true, false, if◌then◌else◌, refl, sym, ◌∙◌, ap, subst, List, []}
-use Rattle.std.proofs.Common.{◌∷◌, Option, Some, sum}
+use Rattle.std.proofs.Common.{◌∷◌, Option, Some}
 use Rattle.std.proofs.lemmas.Bool.{eqb-true, eq-eqb, false≢true}
 use Rattle.sgx_rules.specs.declared.entries.Action.TheVariants.{Ewb, EldStart, Eld}
 use Rattle.sgx_rules.specs.declared.entries.Answer.{Answer}
@@ -13,6 +13,7 @@ use Rattle.sgx_rules.specs.declared.entries.Look.TheVariants as looks
 use Rattle.sgx_types.specs.declared.names.Frame.{Frame}
 use Rattle.sgx_types.specs.declared.names.Page.{Page}
 use Rattle.sgx_types.specs.declared.names.SlotAt.{SlotAt}
+use Rattle.sgx_types.specs.declared.names.VaSlot.{VaSlot}
 use Rattle.sgx_rules.specs.declared.refusals.Refusal.{Refusal}
 use Rattle.sgx_rules.specs.declared.refusals.Refusal.TheVariants as why
 use Rattle.sgx_types.specs.Pages.{same_page}
@@ -24,17 +25,17 @@ use Rattle.backing_store.specs.Calls.{Call, Got, Put, Room}
 use Rattle.active_list.specs.inner.Keeping.{kept_at, record_kept}
 use Rattle.active_list.specs.inner.Places.{IsPlaced}
 use Rattle.active_list.specs.inner.States.{state_of}
-use Rattle.driver_rules.specs.Turns.{Loads, fails_with, last_by, last_of, load_of}
+use Rattle.driver_rules.specs.Turns.{fails_with, last_by, last_of, load_of, Loads, start_fails}
 use Rattle.driver_laws.specs.inner.Kinds.{CanMove}
 use Rattle.driver_laws.specs.inner.Loads.{IsEndedBy, LoadsAreTheirs, TheirRule, load_ended}
 use Rattle.driver_laws.specs.inner.Sound.{IsSound}
 use Rattle.driver_laws.proofs.EndLaws.{ended_by}
 use Rattle.driver_laws.proofs.LoadLaws.{loading_place}
-use Rattle.driver_tables.specs.inner.Counts.{page_counts}
+use Rattle.driver_tables.specs.inner.Counts.{job_counts}
 use Rattle.driver_tables.specs.declared.driver.Driver.{Driver}
 use Rattle.driver_tables.specs.inner.Tables.{IsNew}
 use Rattle.driver_tables.proofs.FirstLaws.{all_same}
-use Rattle.active_list.specs.inner.Places.{place_of}
+use Rattle.active_list.specs.inner.Places.{place_of, total}
 use Rattle.active_list.specs.declared.page_states.PageState.TheVariants.{Absent}
 use Rattle.job_grammar.specs.Jobs.{JobView}
 use Rattle.driver_rules.specs.Places.{Loading, place}
@@ -60,9 +61,14 @@ loads_no (Some page) (why.MacFail given computed) n g k = cc
 loads_no (Some page) (why.BadHeader enclave address flags) n g k = cc
 loads_no o refusal n g k = cc
 
+fails_no : (page : Page) (refusal : Refusal) (n : ℕ) (g : Page) → start_fails page refusal ≡ Loads n g → ⊥
+fails_no page why.SlotEmpty n g k = cc
+fails_no page refusal n g k = cc
+
 start_is : (ev : Event) (opened : ℕ → Option Start) (n : ℕ) (g : Page) → last_by ev opened ≡ Loads n g → IsStart ev n
 start_is (Did (EldStart f page slot) answer) opened n g k =
     record { frame = f; page = page; slot = slot; answer = answer; is = refl; into = cc }
+start_is (Refused (EldStart f page slot) refusal) opened n g k = absurd (fails_no page refusal n g k)
 start_is (Refused (Eld f) refusal) opened n g k = absurd (loads_no (load_of (opened f.0)) refusal n g k)
 start_is (Bus page reason) opened n g k = cc
 start_is ev opened n g k = cc
@@ -73,7 +79,7 @@ gift_stays : (past : List Entry) (e : Entry) (calls : List Call) (p n : ℕ) (g 
     → gift_after e.event calls n (gift past (before e.event calls) n) ≡ gift past (before e.event calls) n
 gift_stays past e calls p n g s can theirs rule other last = by_event e.event can (λ f. ended_by past e.actor e.event f rule)
   where
-    place_is : (slot : SlotAt) × (place past g ≡ Loading n slot)
+    place_is : (slot : VaSlot) × (place past g ≡ Loading n slot)
     place_is = loading_place past n g s (theirs.started p n g last)
 
     by_frame : (b : Bool) (x y : Option Sealed) → b ≡ false → (if b then x else y) ≡ y
@@ -176,5 +182,5 @@ tells_first key j d new = record {
   gifts = λ p n page k. cc;
   lost = λ g placed.
       ap (λ s. is_lost_state (state_of s g)) new.states
-      ∙ ap is_lost_state (all_same (sum (page_counts j)) Absent (place_of (0 ∷ page_counts j) g));
+      ∙ ap is_lost_state (all_same (total (job_counts j)) Absent (place_of (job_counts j) g));
 }

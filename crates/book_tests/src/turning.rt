@@ -1,5 +1,7 @@
 //! Rounds of turns on one thread.
 
+ghost use Rattle.std.specs.Prelude.{◌<◌, length};
+
 use backing_store::planned_store::PlannedStore;
 use run_turns::book::Book;
 use run_turns::turn::Turn;
@@ -61,29 +63,30 @@ fn goes_on(
     if usize::from(cpu.0) >= book.job().scripts().len() {
         return Ok(false);
     }
-    match book.turn(alloc, cpu)? {
-        Turn::Unseal(work) => {
-            let _ = book.commit_opened(cpu, unseal(opened(Box::into_inner(work), how)));
-            Ok(true)
-        }
-        Turn::Finished | Turn::Stopped => Ok(false),
-        Turn::Did { .. } | Turn::Seal(_) | Turn::Again(_) => Ok(true),
+    let turn = book.turn(alloc, cpu)?;
+    let goes_on = !matches!(turn, Turn::Finished | Turn::Stopped);
+    open_in(book, cpu, turn, how);
+    Ok(goes_on)
+}
+
+/// Ends the load of a processor of the job, where the answer of its turn is one that has started.
+pub fn open_in(book: &mut Book<PlannedStore>, cpu: Cpu, turn: Turn, how: Work)
+    requires { cpu.0 < length book.old.job.scripts }
+{
+    if let Turn::Unseal(work) = turn {
+        let _ = book.commit_opened(cpu, unseal(opened(Box::into_inner(work), how)));
     }
 }
 
-// A turn of the reclaimer, and one more where it had nobody to kick.
+// A turn of the reclaimer.
 fn reclaim(alloc: Global, book: &mut Book<PlannedStore>, how: Work) -> Result<(), Memory> {
     let turn = book.reclaim_turn(alloc)?;
-    if let Turn::Did { entries: 0 } = turn {
-        let turn = book.reclaim_turn(alloc)?;
-        seal_out(book, turn, how);
-        return Ok(());
-    }
     seal_out(book, turn, how);
     Ok(())
 }
 
-fn seal_out(book: &mut Book<PlannedStore>, turn: Turn, how: Work) {
+/// Ends the write-out, where the answer of a turn is one that has started.
+pub fn seal_out(book: &mut Book<PlannedStore>, turn: Turn, how: Work) {
     if let Turn::Seal(work) = turn {
         let _ = book.commit_sealed(seal(sealed(Box::into_inner(work), how)));
     }

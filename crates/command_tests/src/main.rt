@@ -6,6 +6,8 @@
 mod audit_tests;
 #[cfg(test)]
 mod audited_traces;
+#[cfg(test)]
+mod away_tests;
 mod calls;
 #[cfg(test)]
 mod cut_jobs;

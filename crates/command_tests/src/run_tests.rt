@@ -79,8 +79,8 @@ fn worked_jobs_give_their_texts(rt: HostRuntime) -> Result<(), Fail> {
     gives(&rt, &MEASURED_APART)
 }
 
-// What a run of a job gives that is made of these parts.
-fn of_parts(
+/// What a run of a job gives that is made of these parts.
+pub fn of_parts(
     rt: &(impl Abort + Alloc<A = Global> + Threads + Wait + Sync),
     parts: &[&[u8]],
 ) -> Result<Box<Given>, Fail> {
@@ -100,9 +100,9 @@ fn ends_twice(line: &str) -> bool {
     words.next() == words.next()
 }
 
-// What of a trace tells that something went wrong, in its order: each whole line on a page that could not be reloaded, and such words.
-// Where both tags of a record are the same it tells that there is one, and behind a number that is used up how many pages had gone out.
-fn signs(alloc: Global, trace: &str) -> Result<String, Fail> {
+/// What of a trace tells that something went wrong, in its order: each whole line on a page that could not be reloaded, and such words.
+/// Where both tags of a record are the same it tells that there is one, and behind a number that is used up how many pages had gone out.
+pub fn signs(alloc: Global, trace: &str) -> Result<String, Fail> {
     let mut told = String::new(alloc);
     let mut out = 0u64;
     for line in trace.lines() {

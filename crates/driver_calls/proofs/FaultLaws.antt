@@ -1,6 +1,6 @@
 -- The entries of a fault step come with the calls that it made.
-use Rattle.std.proofs.Common.{◌≡◌, ◌⊎◌, inl, inr, ℕ, ◌<◌, Bool, true, false, if◌then◌else◌, refl, sym, ◌∙◌}
-use Rattle.std.proofs.Common.{ap, subst, List, ◌∷◌, Option, Some, None, MatchOption, Result, Ok, Err, length, slice_set, sum}
+use Rattle.std.proofs.Common.{◌≡◌, ◌⊎◌, inl, inr, ℕ, ◌<◌, Bool, true, false, refl, sym, ◌∙◌}
+use Rattle.std.proofs.Common.{ap, List, ◌∷◌, Option, Some, None, MatchOption, Result, Ok, Err, length, slice_set}
 use Rattle.sgx_rules.specs.declared.entries.Action.TheVariants.{EldStart, Eld}
 use Rattle.sgx_types.specs.declared.names.Actor.TheVariants as actors
 use Rattle.sgx_rules.specs.declared.entries.Answer.{Answer}
@@ -13,8 +13,10 @@ use Rattle.sgx_types.specs.declared.names.Cpu.{Cpu}
 use Rattle.sgx_types.specs.declared.names.Frame.{Frame}
 use Rattle.sgx_types.specs.declared.names.Page.{Page}
 use Rattle.sgx_types.specs.declared.names.SlotAt.{SlotAt}
+use Rattle.sgx_types.specs.declared.names.VaSlot.{VaSlot}
 use Rattle.sgx_rules.specs.declared.refusals.Refusal.{Refusal}
 use Rattle.sgx_rules.specs.Processors.{is_by}
+use Rattle.sgx_types.specs.Pages.{is_own_page}
 use Rattle.sgx_types.specs.Sealed.{Sealed}
 use Rattle.sgx_rules.specs.Table.{first_of_row}
 use Rattle.paging_laws.specs.inner.State.{State, row_of}
@@ -24,7 +26,7 @@ use Rattle.backing_store.specs.Calls.{Call, Failed, Given, Got, Nothing}
 use Rattle.backing_store.specs.declared.backing.StoreFault.{StoreFault}
 use Rattle.backing_store.specs.declared.backing.StoreFault.TheVariants as faults
 use Rattle.active_list.specs.inner.Keeping.{kept_at, keeping, record_kept}
-use Rattle.active_list.specs.inner.Places.{IsPlaced}
+use Rattle.active_list.specs.inner.Places.{IsPlaced, total}
 use Rattle.active_list.specs.inner.States.{state_of as page_state, with_state}
 use Rattle.active_list.specs.declared.page_states.PageState.{PageState}
 use Rattle.active_list.specs.declared.page_states.PageState.TheVariants as states
@@ -33,7 +35,8 @@ use Rattle.driver_tables.specs.declared.driver.Driver.{Driver}
 use Rattle.driver_tables.specs.inner.Moves.{with_load}
 use Rattle.fault_handler.specs.declared.answers.FaultAnswer.{FaultAnswer}
 use Rattle.fault_handler.specs.declared.answers.Loaded.{Loaded}
-use Rattle.fault_handler.specs.inner.Finishing.{CanFinish, IsFinished, bus_why}
+use Rattle.fault_handler.specs.inner.Finishing.{CanFinish, ComesBack, IsFinished, bus_why}
+use Rattle.driver_tables.specs.inner.Targets.{slot_here_in}
 use Rattle.fault_handler.specs.inner.Resolving.{IsFetch, IsGot, IsResolved, IsStarted}
 use Rattle.run_history.specs.Calls.{ComesByBus, ComesWith, before, is_lost}
 use Rattle.sgx_rules.specs.declared.entries.Answer.TheVariants.{Moved}
@@ -84,76 +87,80 @@ start_entry s t cpu f page slot e = by_row (first_of_row (row_of s (actors.Cpu c
 
 module _ (key : List ℕ) (past : List Entry) (calls : List Call) (d : Driver) (m : Parts) (cpu : Cpu) (page : Page)
     (t : TellsStore key past calls d) (room : cpu.0 < length d.kept) (placed : IsPlaced d.states.counts page)
-    (sized : length d.states.states ≡ sum d.states.counts) where
+    (sized : length d.states.states ≡ total d.states.counts) where
   -- a page that is lost or not is so by the calls
   lost_is : (x : PageState) → page_state d.states page ≡ x → is_lost calls page ≡ is_lost_state x
   lost_is x at = sym (t.lost page placed) ∙ ap is_lost_state at
 
-  load_moves : (f : Frame) (slot : SlotAt) (rec : Sealed) (answer : Answer) → page_state d.states page ≡ states.Away slot
-      → StoreMoves (did_by (actors.Cpu cpu) (EldStart f page slot) answer) (Got page (Given rec) ∷ calls)
+  load_moves : (f : Frame) (slot : VaSlot) (named : SlotAt) (rec : Sealed) (answer : Answer) → page_state d.states page ≡ states.Away slot
+      → StoreMoves (did_by (actors.Cpu cpu) (EldStart f page named) answer) (Got page (Given rec) ∷ calls)
       d (with_load d cpu page slot f rec)
-  load_moves f slot rec answer at = record {
+  load_moves f slot named rec answer at = record {
     counts = refl;
     given = λ p n g s a mine is. kept_own d.kept cpu (Some (keeping page rec)) p room mine;
     others = λ p other. kept_other d.kept cpu (Some (keeping page rec)) p other;
     lost = λ g here. lost_same d.states page g (states.Loading f slot) sized placed here (sym (ap is_lost_state at));
   }
 
-  started : (f : Frame) (slot : SlotAt) (rec : Sealed) (answer : FaultAnswer) (d' : Driver) (m' : Parts)
-      → page_state d.states page ≡ states.Away slot → IsStarted cpu page slot f rec d m answer d' m'
+  started : (f : Frame) (slot : VaSlot) (named : SlotAt) (rec : Sealed) (answer : FaultAnswer) (d' : Driver) (m' : Parts)
+      → page_state d.states page ≡ states.Away slot → IsStarted cpu page slot named f rec d m answer d' m'
       → AnswerComes cpu page answer calls (Got page (Given rec) ∷ calls) d d'
-  started f slot rec answer d' m' at is =
-      rw is.says (by_entry (start_entry (state_of m) (state_of m') cpu f page slot is.entry is.step))
+  started f slot named rec answer d' m' at is =
+      by_entry (start_entry (state_of m) (state_of m') cpu f page named is.entry is.step)
     where
-      by_entry : IsStartBy cpu f page slot is.entry ⊎ IsRefusedBy cpu f page slot is.entry
-          → Comes is.entry calls (Got page (Given rec) ∷ calls) d d'
+      by_entry : IsStartBy cpu f page named is.entry ⊎ IsRefusedBy cpu f page named is.entry
+          → AnswerComes cpu page answer calls (Got page (Given rec) ∷ calls) d d'
       by_entry (inl k) =
-          let to : d' ≡ with_load d cpu page slot f rec =
-          is.driver ∙ ap (λ (e : Entry). if is_refused e.event then d else with_load d cpu page slot f rec) k.is in
-          rw (to, k.is) record {
+          let its = is.started (ap (λ (e : Entry). is_refused e.event) k.is) in
+          rw (its.says, its.driver, k.is) record {
             comes = (refl, lost_is (states.Away slot) at);
             earlier = refl;
-            moves = load_moves f slot rec k.answer at;
+            moves = load_moves f slot named rec k.answer at;
           }
       by_entry (inr k) =
-          let to : d' ≡ d =
-          is.driver ∙ ap (λ (e : Entry). if is_refused e.event then d else with_load d cpu page slot f rec) k.is in
-          rw (to, k.is) record {
-            comes = (refl, lost_is (states.Away slot) at);
-            earlier = refl;
-            moves =
-                quiet_moves (refused_by (actors.Cpu cpu) (EldStart f page slot) k.refusal) (Got page (Given rec) ∷ calls) d d refl
-                (λ n g s a no. cc) (λ g b. refl);
-          }
+          let its = is.refused (ap (λ (e : Entry). is_refused e.event) k.is) in
+          rw (its.0, its.1, k.is) (
+            record {
+              comes = (refl, lost_is (states.Away slot) at);
+              earlier = refl;
+              moves =
+                  quiet_moves (refused_by (actors.Cpu cpu) (EldStart f page named) k.refusal) (Got page (Given rec) ∷ calls) d d refl
+                  (λ n g s a no. cc) (λ g b. refl);
+            },
+            record { comes = tt; earlier = refl; moves = bus_moves cpu page reasons.Slot (Got page (Given rec) ∷ calls) d },
+          )
 
-  by_got : (f : Frame) (slot : SlotAt) (got : Result (Option Sealed) StoreFault) (answer : FaultAnswer) (d' : Driver) (m' : Parts)
-      → page_state d.states page ≡ states.Away slot → IsGot cpu page slot f got d m answer d' m'
+  by_got : (f : Frame) (slot : VaSlot) (named : SlotAt) (got : Result (Option Sealed) StoreFault) (answer : FaultAnswer) (d' : Driver)
+      (m' : Parts) → page_state d.states page ≡ states.Away slot → IsGot cpu page slot named f got d m answer d' m'
       → Tells (told_got page got (Some calls)) (λ longer. AnswerComes cpu page answer calls longer d d')
-  by_got f slot (Ok (Some rec)) answer d' m' at is = started f slot rec answer d' m' at is
-  by_got f slot (Ok None) answer d' m' at is = rw (is.says, is.driver) record {
+  by_got f slot named (Ok (Some rec)) answer d' m' at is = started f slot named rec answer d' m' at is
+  by_got f slot named (Ok None) answer d' m' at is = rw (is.says, is.driver) record {
     comes = (refl, lost_is (states.Away slot) at);
     earlier = refl;
     moves = bus_moves cpu page reasons.NoRecord (Got page Nothing ∷ calls) d;
   }
-  by_got f slot (Err faults.Failed) answer d' m' at is = rw (is.says, is.driver) record {
+  by_got f slot named (Err faults.Failed) answer d' m' at is = rw (is.says, is.driver) record {
     comes = (refl, lost_is (states.Away slot) at);
     earlier = refl;
     moves = bus_moves cpu page reasons.GetFailed (Got page Failed ∷ calls) d;
   }
-  by_got f slot (Err faults.Memory) answer d' m' at is = absurd is
+  by_got f slot named (Err faults.Memory) answer d' m' at is = absurd is
 
-  by_free : (slot : SlotAt) (o : Option ℕ) (answer : FaultAnswer) (d' : Driver) (m' : Parts) (told : Option (List Call))
-      → page_state d.states page ≡ states.Away slot → IsFetch cpu page slot o d m (Some calls) answer d' m' told
+  by_free : (slot : VaSlot) (named : Option SlotAt) (o : Option ℕ) (answer : FaultAnswer) (d' : Driver) (m' : Parts)
+      (told : Option (List Call)) → page_state d.states page ≡ states.Away slot
+      → IsFetch cpu page slot named o d m (Some calls) answer d' m' told
       → Tells told (λ longer. AnswerComes cpu page answer calls longer d d')
-  by_free slot None answer d' m' told at is =
+  by_free slot None o answer d' m' told at is = absurd is
+  by_free slot (Some named) None answer d' m' told at is =
       rw (is.calls, is.does.says, is.does.driver) record { calls_are = refl; tables = refl }
-  by_free slot (Some f) answer d' m' told at is = rw is.calls (by_got (frame_at f) slot is.got answer d' m' at is.does)
+  by_free slot (Some named) (Some f) answer d' m' told at is =
+      rw is.calls (by_got (frame_at f) slot named is.got answer d' m' at is.does)
 
   by_state : (x : PageState) (answer : FaultAnswer) (d' : Driver) (m' : Parts) (told : Option (List Call))
       → page_state d.states page ≡ x → IsResolved cpu page x d m (Some calls) answer d' m' told
       → Tells told (λ longer. AnswerComes cpu page answer calls longer d d')
   by_state (states.Away slot) answer d' m' told at is =
-      by_free slot (least_free (state_of m).frames (state_of m).content) answer d' m' told at is
+      by_free slot (slot_here_in d slot) (least_free (state_of m).frames (state_of m).content) answer d' m' told at is
   by_state (states.Lost slot) answer d' m' told at is = rw (is.calls, is.does.says, is.does.driver) record {
     comes = lost_is (states.Lost slot) at;
     earlier = refl;
@@ -170,7 +177,7 @@ module _ (key : List ℕ) (past : List Entry) (calls : List Call) (d : Driver) (
 
 pub resolved_tells : (key : List ℕ) (past : List Entry) (calls : List Call) (d d' : Driver) (m m' : Parts) (cpu : Cpu) (page : Page)
     (answer : FaultAnswer) (told : Option (List Call)) → TellsStore key past calls d → cpu.0 < length d.kept
-    → IsPlaced d.states.counts page → length d.states.states ≡ sum d.states.counts
+    → IsPlaced d.states.counts page → length d.states.states ≡ total d.states.counts
     → IsResolved cpu page (page_state d.states page) d m (Some calls) answer d' m' told
     → Tells told (λ longer. AnswerComes cpu page answer calls longer d d')
 resolved_tells key past calls d d' m m' cpu page answer told t room placed sized is =
@@ -217,7 +224,7 @@ end_entry s t cpu f rec e is = by_row _ _ (first_of_row (commit_row s f.0 is.com
     }
 
 module _ (calls : List Call) (d d' : Driver) (m : Parts) (s t : State) (cpu : Cpu) (page : Page) (loaded : Loaded)
-    (can : CanFinish cpu page d m) (sized : length d.states.states ≡ sum d.states.counts)
+    (can : CanFinish cpu page d m) (sized : length d.states.states ≡ total d.states.counts)
     (is : IsFinished cpu page can.slot can.frame can.kept d s loaded d' t) where
   abbrev idle : Driver
   idle = record d { kept = slice_set d.kept cpu.0 None }
@@ -238,7 +245,7 @@ module _ (calls : List Call) (d d' : Driver) (m : Parts) (s t : State) (cpu : Cp
           ∙ kept_other d.kept cpu None p (ap (is_by p) (sym its.actor_is) ∙ other);
       lost = λ g here.
           ap (λ x. is_lost_state (page_state x g)) tables
-          ∙ lost_same d.states page g state sized (subst (λ c. IsPlaced c page) (sym can.tables.counts) can.tables.placed) here
+          ∙ lost_same d.states page g state sized can.tables.placed here
           (found ∙ sym (ap is_lost_state can.tables.loading))
           ∙ sym (its.no_put calls g (is_lost_state (page_state d.states g)));
     };
@@ -253,8 +260,15 @@ module _ (calls : List Call) (d d' : Driver) (m : Parts) (s t : State) (cpu : Cp
         record { comes = free.comes; earlier = free.earlier; moves = bus_moves cpu page (bus_why is.entry.event) calls d' },
       )
   by_refused false done =
-      let k = is.ends.1 done in
-      rw k.0 (end_comes (states.Here can.frame) refl (ap (λ x. x.states) k.1.others) (ap (λ x. x.kept) k.1.others))
+      let k = is.ends.1 done in rw k.0 (back (is_own_page page) refl k.1)
+    where
+      back : (b : Bool) → is_own_page page ≡ b → ComesBack idle page can.frame can.slot d' → Comes is.entry calls calls d d'
+      back true own comes =
+          let its_own = comes.0 own in
+          end_comes (states.Here can.frame) refl (ap (λ (x : Driver). x.states) its_own.others) (ap (λ (x : Driver). x.kept) its_own.others)
+      back false other comes =
+          let aside = comes.1 other in
+          end_comes (states.Here can.frame) refl (ap (λ (x : Driver). x.states) aside) (ap (λ (x : Driver). x.kept) aside)
 
   pub end_tells : EndComes cpu page loaded calls d d'
   end_tells = by_refused (is_refused is.entry.event) refl

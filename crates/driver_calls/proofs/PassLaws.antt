@@ -1,7 +1,8 @@
 -- The entries of a pass come with the calls that it made.
-use Rattle.std.proofs.Common.{◌≡◌, inl, inr, ℕ, zero, suc, ◌≤◌, Bool, true, false, if◌then◌else◌, cond, refl, sym}
-use Rattle.std.proofs.Common.{◌∙◌, ap, subst, List, [], ◌∷◌, Option, Some, None, MatchOption, length, min, sum, slice_get}
-use Rattle.std.proofs.Common.{arith, count_by}
+use Rattle.std.proofs.Common.{◌≡◌, inl, inr, ℕ, zero, suc, Bool, true, false, if◌then◌else◌, cond, refl, sym}
+use Rattle.std.proofs.Common.{◌∙◌, ap, subst, List, [], ◌∷◌, Option, Some, None, MatchOption, drop, length, slice_get}
+use Rattle.std.proofs.Common.{count_by}
+use Rattle.std.proofs.lemmas.Bool.{eq-eqb}
 use Rattle.std.specs.Option.{IsSomeAnd}
 use Rattle.sgx_types.proofs.Pages.{same_page-refl, same_page-swap}
 use Rattle.sgx_rules.specs.declared.entries.Action.{Action}
@@ -17,22 +18,26 @@ use Rattle.sgx_rules.specs.declared.entries.Look.TheVariants as looks
 use Rattle.sgx_types.specs.declared.names.Frame.{Frame}
 use Rattle.sgx_types.specs.declared.names.Page.{Page}
 use Rattle.sgx_types.specs.declared.names.SlotAt.{SlotAt}
+use Rattle.sgx_types.specs.declared.names.VaSlot.{VaSlot}
 use Rattle.sgx_rules.specs.declared.refusals.Refusal.{Refusal}
 use Rattle.sgx_rules.specs.declared.refusals.Refusal.TheVariants as why
 use Rattle.sgx_types.specs.Pages.{same_page}
 use Rattle.sgx_types.specs.Making.{Making}
 use Rattle.sgx_types.specs.Sealed.{Sealed}
+use Rattle.sgx_rules.specs.Frames.{content, page_there}
 use Rattle.sgx_rules.specs.Table.{first_of_row}
+use Rattle.sgx_rules.proofs.Contents.{one_there, there_is}
 use Rattle.job_grammar.specs.Jobs.{JobView}
 use Rattle.epcm_entry.specs.inner.Epc.{is_free_frame}
 use Rattle.paging_laws.specs.inner.State.{State, row_of}
 use Rattle.paging_laws.specs.inner.Steps.{IsDone, IsStep, answer_of, did_by, refused_by}
-use Rattle.paging_machine.specs.inner.Parts.{Parts, cpu_at, state_of}
+use Rattle.paging_laws.proofs.ColumnLaws.{content_is}
+use Rattle.paging_machine.specs.inner.Parts.{Parts, state_of}
 use Rattle.backing_store.specs.Calls.{Call, Put, Room}
 use Rattle.active_list.specs.inner.Active.{ActiveList, turned}
 use Rattle.active_list.specs.inner.Keeping.{kept_at, record_kept}
 use Rattle.active_list.specs.inner.Listing as listing
-use Rattle.active_list.specs.inner.Places.{IsPlaced}
+use Rattle.active_list.specs.inner.Places.{IsPlaced, total}
 use Rattle.active_list.specs.inner.Ring.{is_listed}
 use Rattle.active_list.specs.declared.ring.Listed.{Listed}
 use Rattle.active_list.specs.inner.States.{state_of as page_state, with_state}
@@ -43,28 +48,30 @@ use Rattle.driver_rules.specs.declared.waits.Why.{Why}
 use Rattle.driver_rules.specs.declared.waits.Why.TheVariants as waits
 use Rattle.driver_rules.specs.Places.{Leaving, place}
 use Rattle.driver_laws.specs.inner.Sound.{is_absent}
+use Rattle.driver_laws.proofs.StillLaws.{holds_here}
 use Rattle.driver_tables.specs.declared.driver.Driver.{Driver}
-use Rattle.driver_tables.specs.inner.Moves.{IsLooked, leaving_of}
-use Rattle.reclaim_worker.specs.declared.turns.Form.{Form}
-use Rattle.reclaim_worker.specs.declared.turns.Form.TheVariants as forms
-use Rattle.reclaim_worker.specs.declared.turns.Phase.{Phase}
-use Rattle.reclaim_worker.specs.declared.turns.Phase.TheVariants as phases
+use Rattle.driver_tables.specs.inner.Moves.{IsLooked, IsLookedAside, gone, leaving_of}
+use Rattle.reclaim_pass.specs.declared.stages.Aside.{Aside}
+use Rattle.reclaim_pass.specs.declared.stages.Aside.TheVariants as asides
+use Rattle.reclaim_pass.specs.declared.stages.Form.{Form}
+use Rattle.reclaim_pass.specs.declared.stages.Form.TheVariants as forms
+use Rattle.reclaim_pass.specs.declared.stages.Stage.{Stage}
+use Rattle.reclaim_pass.specs.declared.stages.Stage.TheVariants as stages
+use Rattle.reclaim_pass.specs.declared.stages.Taken.{Taken}
+use Rattle.reclaim_pass.specs.inner.Dues.{due_in}
+use Rattle.reclaim_pass.specs.inner.Keeping.{keepers_by}
+use Rattle.reclaim_pass.specs.inner.Standing.{AreInFrames, IsAside}
+use Rattle.reclaim_pass.specs.inner.Viewed.{PassView, sealing_at, sealing_in, sealing_with, taken_at, waiting_by}
 use Rattle.reclaim_worker.specs.declared.turns.PassTurn.{PassTurn}
 use Rattle.reclaim_worker.specs.declared.turns.PassTurn.TheVariants as turns
-use Rattle.reclaim_worker.specs.declared.turns.Taken.{Taken}
 use Rattle.reclaim_worker.specs.inner.Answers.{by_reclaimer}
-use Rattle.reclaim_worker.specs.inner.Asked.{look_in, look_told, told_by}
+use Rattle.reclaim_worker.specs.inner.Asked.{look_of, look_told, told_by}
 use Rattle.reclaim_worker.specs.inner.Looked.{told_look}
-use Rattle.reclaim_worker.specs.inner.Moves.{IsBlockTurn, IsTryTurn, turn_of, turn_of_track}
-use Rattle.reclaim_worker.specs.inner.Ready.{Ready}
-use Rattle.reclaim_worker.specs.inner.Rests.{DriverSays, IsWait}
-use Rattle.reclaim_worker.specs.inner.Scans.{IsScanned}
-use Rattle.reclaim_worker.specs.inner.Standing.{AreInFrames}
-use Rattle.reclaim_worker.specs.inner.Stored.{IsStored, StoredSays, gone}
-use Rattle.reclaim_worker.specs.inner.Tried.{count_from, is_kept_by}
-use Rattle.reclaim_worker.specs.inner.Turning.{IsFormTurn, TurnSays, WithPage}
-use Rattle.reclaim_worker.proofs.DueLaws.{drop_get}
-use Rattle.reclaim_worker.proofs.StoredLaws.{page_is}
+use Rattle.reclaim_worker.specs.inner.Ready.{CanStep, Ready}
+use Rattle.reclaim_worker.specs.inner.Rests.{IsWait}
+use Rattle.reclaim_worker.specs.inner.Stored.{IsStored, StoredSays}
+use Rattle.reclaim_worker.specs.inner.Turning.{AsideSays, DueSays, FormSays, IsMadeTurn, IsScanned, IsTryTurn, StageSays, ThirdSays}
+use Rattle.reclaim_worker.specs.inner.Turning.{TurnSays, WithPage, turn_of}
 use Rattle.run_history.specs.Calls.{ComesWith, before}
 use Rattle.book_laws.specs.inner.Stores.{StoreMoves, is_lost_state, lost_by}
 use Rattle.driver_calls.specs.inner.Comes.{Comes, Tells, TurnComes}
@@ -77,6 +84,7 @@ record IsQuiet (e : Entry) : Type 0 where
   earlier : (calls : List Call) → before e.event calls ≡ calls
   no_start : (n : Frame) (page : Page) (slot : SlotAt) (answer : Answer) → e.event ≡ Did (EldStart n page slot) answer → ⊥
   no_put : (calls : List Call) (g : Page) (b : Bool) → lost_by e.event calls g b ≡ b
+  no_look : look_of e.event ≡ None
 
 -- tables with the same states and records
 record IsSameStore (d d' : Driver) : Type 0 where
@@ -109,20 +117,20 @@ is_paging action = false
 
 quiet_did : (action : Action) (answer : Answer) → is_paging action ≡ true → IsQuiet (did_by actors.Reclaimer action answer)
 quiet_did (Block f) answer h =
-    record { comes = λ calls. tt; earlier = λ calls. refl; no_start = λ n g s a no. cc; no_put = λ calls g b. refl }
+    record { comes = λ calls. tt; earlier = λ calls. refl; no_start = λ n g s a no. cc; no_put = λ calls g b. refl; no_look = refl }
 quiet_did (Track enclave) answer h =
-    record { comes = λ calls. tt; earlier = λ calls. refl; no_start = λ n g s a no. cc; no_put = λ calls g b. refl }
+    record { comes = λ calls. tt; earlier = λ calls. refl; no_start = λ n g s a no. cc; no_put = λ calls g b. refl; no_look = refl }
 quiet_did (EwbStart f slot) answer h =
-    record { comes = λ calls. tt; earlier = λ calls. refl; no_start = λ n g s a no. cc; no_put = λ calls g b. refl }
+    record { comes = λ calls. tt; earlier = λ calls. refl; no_start = λ n g s a no. cc; no_put = λ calls g b. refl; no_look = refl }
 quiet_did action answer h = cc
 
 quiet_refused : (action : Action) (refusal : Refusal) → is_paging action ≡ true → IsQuiet (refused_by actors.Reclaimer action refusal)
 quiet_refused (Block f) refusal h =
-    record { comes = λ calls. tt; earlier = λ calls. refl; no_start = λ n g s a no. cc; no_put = λ calls g b. refl }
+    record { comes = λ calls. tt; earlier = λ calls. refl; no_start = λ n g s a no. cc; no_put = λ calls g b. refl; no_look = refl }
 quiet_refused (Track enclave) refusal h =
-    record { comes = λ calls. tt; earlier = λ calls. refl; no_start = λ n g s a no. cc; no_put = λ calls g b. refl }
+    record { comes = λ calls. tt; earlier = λ calls. refl; no_start = λ n g s a no. cc; no_put = λ calls g b. refl; no_look = refl }
 quiet_refused (EwbStart f slot) refusal h =
-    record { comes = λ calls. tt; earlier = λ calls. refl; no_start = λ n g s a no. cc; no_put = λ calls g b. refl }
+    record { comes = λ calls. tt; earlier = λ calls. refl; no_start = λ n g s a no. cc; no_put = λ calls g b. refl; no_look = refl }
 quiet_refused action refusal h = cc
 
 step_quiet : (s t : State) (action : Action) (e : Entry) → is_paging action ≡ true
@@ -138,12 +146,8 @@ step_quiet s t action e paging done = by_row (first_of_row (row_of s actors.Recl
 -- ---- turns without an entry
 
 waited : (turn : PassTurn) (reason : Why) (calls : List Call) (d d' : Driver) → turn ≡ turns.Again reason → (IsWait turn → d' ≡ d)
-    → TurnComes turn calls calls d d'
+    → Tells (told_by (look_told turn) (Some calls)) (λ longer. TurnComes turn calls longer d d')
 waited turn reason calls d d' is stays = rw is record { calls_are = refl; tables = stays (subst IsWait (sym is) tt) }
-
-no_slot : (turn : PassTurn) (calls : List Call) (d d' : Driver) → turn ≡ turns.NoSlot → (IsWait turn → d' ≡ d)
-    → TurnComes turn calls calls d d'
-no_slot turn calls d d' is stays = rw is record { calls_are = refl; tables = stays (subst IsWait (sym is) tt) }
 
 -- ---- looks
 
@@ -163,7 +167,26 @@ turned_moves d d' page look list calls is = record {
   lost = λ g here. ap (λ (x : Driver). is_lost_state (page_state x.states g)) is;
 }
 
-looked_moves : (d d' : Driver) (page : Page) (look : Look) (calls : List Call) → length d.states.states ≡ sum d.states.counts
+-- a page that leaves is lost as it was
+leaves : (x : PageState) → is_lost_state (leaving_of x) ≡ is_lost_state x
+leaves (states.Here f) = refl
+leaves (states.Leaving f) = refl
+leaves (states.Loading f slot) = refl
+leaves (states.Away slot) = refl
+leaves (states.Lost slot) = refl
+leaves states.Absent = refl
+
+-- a look that changes nothing
+still_moves : (d d' : Driver) (page : Page) (look : Look) (calls : List Call) → d' ≡ d
+    → StoreMoves (by_reclaimer (Age page look)) calls d d'
+still_moves d d' page look calls is = record {
+  counts = ap (λ (x : Driver). x.states.counts) is;
+  given = λ p f g slot answer mine no. cc;
+  others = λ p other. ap (λ (x : Driver). record_kept (kept_at x.kept p)) is;
+  lost = λ g here. ap (λ (x : Driver). is_lost_state (page_state x.states g)) is;
+}
+
+looked_moves : (d d' : Driver) (page : Page) (look : Look) (calls : List Call) → length d.states.states ≡ total d.states.counts
     → IsPlaced d.states.counts page → IsLooked d page look d' → StoreMoves (by_reclaimer (Age page look)) calls d d'
 looked_moves d d' page looks.Taken calls sized placed is = record {
   counts = ap (λ (x : Driver). x.states.counts) is.others;
@@ -173,19 +196,11 @@ looked_moves d d' page looks.Taken calls sized placed is = record {
       ap (λ (x : Driver). is_lost_state (page_state x.states g)) is.others
       ∙ lost_same d.states page g (leaving_of (page_state d.states page)) sized placed here (leaves (page_state d.states page));
 }
-  where
-    leaves : (x : PageState) → is_lost_state (leaving_of x) ≡ is_lost_state x
-    leaves (states.Here f) = refl
-    leaves (states.Leaving f) = refl
-    leaves (states.Loading f slot) = refl
-    leaves (states.Away slot) = refl
-    leaves (states.Lost slot) = refl
-    leaves states.Absent = refl
 looked_moves d d' page looks.Held calls sized placed is = turned_moves d d' page looks.Held (turned d.active) calls is
 looked_moves d d' page looks.Young calls sized placed is = turned_moves d d' page looks.Young (turned d.active) calls is
 looked_moves d d' page looks.NoRoom calls sized placed is = turned_moves d d' page looks.NoRoom (turned d.active) calls is
 
-look_comes : (page : Page) (look : Look) (calls : List Call) (d d' : Driver) → length d.states.states ≡ sum d.states.counts
+look_comes : (page : Page) (look : Look) (calls : List Call) (d d' : Driver) → length d.states.states ≡ total d.states.counts
     → IsPlaced d.states.counts page → IsLooked d page look d'
     → Tells (told_look page look (Some calls)) (λ longer. Comes (by_reclaimer (Age page look)) calls longer d d')
 look_comes page looks.Taken calls d d' sized placed is = record {
@@ -203,111 +218,161 @@ look_comes page looks.Held calls d d' sized placed is =
 look_comes page looks.Young calls d d' sized placed is =
     record { comes = tt; earlier = refl; moves = looked_moves d d' page looks.Young calls sized placed is }
 
-scan_tells : (taken taken' : List Taken) (left : ℕ) (calls : List Call) (d d' : Driver) (turn : PassTurn) (phase' : Phase)
-    → d.states.counts ≡ d.active.counts → length d.states.states ≡ sum d.states.counts → IsScanned taken left d turn taken' phase' d'
-    → (IsWait turn → d' ≡ d) → Tells (told_by (look_told turn) (Some calls)) (λ longer. TurnComes turn calls longer d d')
-scan_tells taken taken' left calls d d' turn phase' counts sized (inl is) stays =
+scan_tells : (v v' : PassView) (calls : List Call) (d d' : Driver) (turn : PassTurn) → d.states.counts ≡ d.active.counts
+    → length d.states.states ≡ total d.states.counts → IsScanned v d turn v' d' → (IsWait turn → d' ≡ d)
+    → Tells (told_by (look_told turn) (Some calls)) (λ longer. TurnComes turn calls longer d d')
+scan_tells v v' calls d d' turn counts sized (inl is) stays =
     rw is.told
     (look_comes is.page is.look calls d d' sized
     (subst (λ c. IsPlaced c is.page) (sym counts) (is.sound.placed is.page (head_listed d.active.pages is.page is.head))) is.tables)
-scan_tells taken taken' left calls d d' turn phase' counts sized (inr is) stays =
+scan_tells v v' calls d d' turn counts sized (inr is) stays =
     rw is.1 record { calls_are = refl; tables = stays (subst IsWait (sym is.1) tt) }
+
+-- a look at a page beside the passes
+aside_moves : (d d' : Driver) (page : Page) (look : Look) (calls : List Call) → length d.states.states ≡ total d.states.counts
+    → IsPlaced d.states.counts page → IsLookedAside d page look d' → StoreMoves (by_reclaimer (Age page look)) calls d d'
+aside_moves d d' page looks.Taken calls sized placed is = record {
+  counts = ap (λ (x : Driver). x.states.counts) is;
+  given = λ p f g slot answer mine no. cc;
+  others = λ p other. ap (λ (x : Driver). record_kept (kept_at x.kept p)) is;
+  lost = λ g here.
+      ap (λ (x : Driver). is_lost_state (page_state x.states g)) is
+      ∙ lost_same d.states page g (leaving_of (page_state d.states page)) sized placed here (leaves (page_state d.states page));
+}
+aside_moves d d' page looks.Held calls sized placed is = still_moves d d' page looks.Held calls is
+aside_moves d d' page looks.Young calls sized placed is = still_moves d d' page looks.Young calls is
+aside_moves d d' page looks.NoRoom calls sized placed is = still_moves d d' page looks.NoRoom calls is
+
+aside_comes : (page : Page) (look : Look) (calls : List Call) (d d' : Driver) → length d.states.states ≡ total d.states.counts
+    → IsPlaced d.states.counts page → IsLookedAside d page look d'
+    → Tells (told_look page look (Some calls)) (λ longer. Comes (by_reclaimer (Age page look)) calls longer d d')
+aside_comes page looks.Taken calls d d' sized placed is = record {
+  comes = (refl, refl);
+  earlier = refl;
+  moves = aside_moves d d' page looks.Taken (Room page false ∷ calls) sized placed is;
+}
+aside_comes page looks.NoRoom calls d d' sized placed is = record {
+  comes = (refl, refl);
+  earlier = refl;
+  moves = aside_moves d d' page looks.NoRoom (Room page true ∷ calls) sized placed is;
+}
+aside_comes page looks.Held calls d d' sized placed is =
+    record { comes = tt; earlier = refl; moves = aside_moves d d' page looks.Held calls sized placed is }
+aside_comes page looks.Young calls d d' sized placed is =
+    record { comes = tt; earlier = refl; moves = aside_moves d d' page looks.Young calls sized placed is }
 
 -- ---- tries, tracks and blocks
 
-one_comes : (turn : PassTurn) (e : Entry) (calls : List Call) (d d' : Driver) → turn ≡ turns.One e → Comes e calls calls d d'
-    → TurnComes turn calls calls d d'
-one_comes turn e calls d d' is comes = rw is comes
+-- an instruction asks nothing of the store
+abbrev ComesAlone : PassTurn → List Call → Driver → Driver → Type 0
+ComesAlone turn calls d d' = Tells (told_by (look_told turn) (Some calls)) (λ longer. TurnComes turn calls longer d d')
 
-tried_comes : (e : Entry) (event : Event) (calls : List Call) (d d' : Driver) → Comes e calls calls d d'
-    → TurnComes (turn_of e event) calls calls d d'
-tried_comes e (Refused action (why.NotTracked epoch older)) calls d d' comes = comes
-tried_comes e (Refused action refusal) calls d d' comes = comes
-tried_comes e event calls d d' comes = comes
+entry_comes : (e : Entry) (event : Event) (calls : List Call) (d d' : Driver) → look_of e.event ≡ None → Comes e calls calls d d'
+    → ComesAlone (turn_of e event) calls d d'
+entry_comes e (Did (EwbStart f slot) answer) calls d d' none comes = comes
+entry_comes e (Refused action (why.NotTracked epoch older)) calls d d' none comes = rw none comes
+entry_comes e (Refused action (why.SlotOccupied version)) calls d d' none comes = rw none comes
+entry_comes e (Refused action refusal) calls d d' none comes = comes
+entry_comes e event calls d d' none comes = rw none comes
 
-tracked_comes : (e : Entry) (event : Event) (calls : List Call) (d d' : Driver) → Comes e calls calls d d'
-    → TurnComes (turn_of_track e event) calls calls d d'
-tracked_comes e (Refused action refusal) calls d d' comes = comes
-tracked_comes e event calls d d' comes = comes
+made_tells : (action : Action) (v v' : PassView) (s t : State) (calls : List Call) (d d' : Driver) (turn : PassTurn)
+    → is_paging action ≡ true
+    → (((e : Entry) → IsDone s actors.Reclaimer action e t → e ≡ did_by actors.Reclaimer action (answer_of s actors.Reclaimer action)))
+    → IsMadeTurn action v s turn v' t → IsSameStore d d' → ComesAlone turn calls d d'
+made_tells action v v' s t calls d d' turn paging done is same =
+    let quiet = step_quiet s t action is.entry paging (done is.entry) is.step in
+    rw is.told (entry_comes is.entry is.entry.event calls d d' quiet.no_look (quiet_comes is.entry calls d d' quiet same))
 
-try_tells : (next : ℕ) (form : Form) (block : ℕ) (one : Taken) (s t : State) (calls : List Call) (d d' : Driver) (turn : PassTurn)
-    (phase' : Phase) → IsTryTurn next form block one s d turn phase' d' t → (IsWait turn → d' ≡ d) → TurnComes turn calls calls d d'
-try_tells next form block one s t calls d d' turn phase' (inl is) stays =
-    rw is.told (tried_comes is.entry is.entry.event calls d d'
-    (quiet_comes is.entry calls d d' (step_quiet s t (EwbStart one.frame is.tried.slot) is.entry refl (λ k. k.0) is.tried.step) (record {
+try_tells : (one : Taken) (v v' : PassView) (s t : State) (calls : List Call) (d d' : Driver) (turn : PassTurn)
+    → IsTryTurn one v d s turn v' d' t → (IsWait turn → d' ≡ d) → ComesAlone turn calls d d'
+try_tells one v v' s t calls d d' turn (inl is) stays =
+    let quiet = step_quiet s t (EwbStart one.frame is.tried.at) is.entry refl (λ k. k.0) is.tried.step in
+    rw is.told (entry_comes is.entry is.entry.event calls d d' quiet.no_look
+    (quiet_comes is.entry calls d d' quiet (record {
       states = ap (λ (x : Driver). x.states) is.tried.others;
       kept = ap (λ (x : Driver). x.kept) is.tried.others;
     })))
-try_tells next form block one s t calls d d' turn phase' (inr is) stays = no_slot turn calls d d' is.1 stays
+try_tells one v v' s t calls d d' turn (inr is) stays = waited turn waits.NoSlot calls d d' is.1 stays
 
-form_tells : (next : ℕ) (form : Form) (block : ℕ) (one : Taken) (m m' : Parts) (calls : List Call) (d d' : Driver) (turn : PassTurn)
-    (phase' : Phase) → IsFormTurn next form block one m d turn phase' d' m' → DriverSays (phases.Tries next form block) d d'
-    → (IsWait turn → d' ≡ d) → TurnComes turn calls calls d d'
-form_tells next forms.First block one m m' calls d d' turn phase' is still stays =
-    try_tells next forms.First block one (state_of m) (state_of m') calls d d' turn phase' is stays
-form_tells next forms.Track block one m m' calls d d' turn phase' is still stays =
-    rw is.told (tracked_comes is.entry is.entry.event calls d d'
-    (quiet_comes is.entry calls d d' (step_quiet (state_of m) (state_of m') (Track one.page.enclave) is.entry refl (λ k. k.0) is.step)
-    (same_store d d' still)))
-form_tells next forms.Second block one m m' calls d d' turn phase' is still stays =
-    try_tells next forms.Second block one (state_of m) (state_of m') calls d d' turn phase' is stays
-form_tells next forms.Kick block one m m' calls d d' turn phase' is still stays = rw is.told record { calls_are = refl; tables = still }
-form_tells next forms.Third block one m m' calls d d' turn phase' is still stays = by_count _ refl
-  where
-    by_count : (count : ℕ) → count_from (λ p. is_kept_by (cpu_at m p).mode one.page.enclave block) 0 d.cpus ≡ count
-        → TurnComes turn calls calls d d'
-    by_count zero none =
-        try_tells next forms.Third block one (state_of m) (state_of m') calls d d' turn phase' (is.tried none) stays
-    by_count (suc k) some =
-        let least : 1 ≤ suc k = omega arith in
-        waited turn (waits.Older one.page.enclave (count_from (λ p. is_kept_by (cpu_at m p).mode one.page.enclave block) 0 d.cpus)) calls d
-        d' (is.patient (subst (λ c. 1 ≤ c) (sym some) least)) stays
+third_tells : (count : ℕ) (one : Taken) (v v' : PassView) (s t : State) (calls : List Call) (d d' : Driver) (turn : PassTurn)
+    → ThirdSays count one v d s turn v' d' t → (IsWait turn → d' ≡ d) → ComesAlone turn calls d d'
+third_tells zero one v v' s t calls d d' turn is stays = try_tells one v v' s t calls d d' turn is stays
+third_tells (suc n) one v v' s t calls d d' turn is stays = waited turn (waits.Older one.page.enclave (suc n)) calls d d' is stays
+
+form_tells : (form : Form) (one : Taken) (v v' : PassView) (m m' : Parts) (calls : List Call) (d d' : Driver) (turn : PassTurn)
+    → FormSays form one v d m turn v' d' m' → (IsWait turn → d' ≡ d) → ComesAlone turn calls d d'
+form_tells forms.First one v v' m m' calls d d' turn is stays = try_tells one v v' (state_of m) (state_of m') calls d d' turn is stays
+form_tells forms.Track one v v' m m' calls d d' turn is stays =
+    made_tells (Track one.page.enclave) v v' (state_of m) (state_of m') calls d d' turn refl (λ e k. k.0) is.0 (same_store d d' is.1)
+form_tells forms.Second one v v' m m' calls d d' turn is stays = try_tells one v v' (state_of m) (state_of m') calls d d' turn is stays
+form_tells (forms.Kick epoch false) one v v' m m' calls d d' turn is stays =
+    rw is.0.told record { calls_are = refl; tables = is.1.0 }
+form_tells (forms.Kick epoch true) one v v' m m' calls d d' turn is stays =
+    third_tells (length (keepers_by m one.page.enclave epoch)) one v v' (state_of m) (state_of m') calls d d' turn is stays
+form_tells (forms.Third epoch) one v v' m m' calls d d' turn is stays =
+    third_tells (length (keepers_by m one.page.enclave epoch)) one v v' (state_of m) (state_of m') calls d d' turn is stays
+form_tells (forms.Kicks epoch next) one v v' m m' calls d d' turn is stays = absurd is
+form_tells forms.Sealing one v v' m m' calls d d' turn is stays = absurd is
 
 -- ---- all turns
 
-turn_says : (calls : List Call) (taken taken' : List Taken) (phase phase' : Phase) (d d' : Driver) (m m' : Parts) (turn : PassTurn)
-    → d.states.counts ≡ d.active.counts → length d.states.states ≡ sum d.states.counts → TurnSays taken phase d m turn taken' phase' d' m'
-    → DriverSays phase d d' → (IsWait turn → d' ≡ d)
-    → Tells (told_by (look_in phase turn) (Some calls)) (λ longer. TurnComes turn calls longer d d')
-turn_says calls taken taken' (phases.Idle false) phase' d d' m m' turn counts sized says still stays =
-    waited turn (waits.Enough (count_by is_free_frame m.epc)) calls d d' says stays
-turn_says calls taken taken' (phases.Idle true) phase' d d' m m' turn counts sized (inl is) still stays =
-    scan_tells taken taken' (min d.marks.scan (length d.active.pages)) calls d d' turn phase' counts sized is.first stays
-turn_says calls taken taken' (phases.Idle true) phase' d d' m m' turn counts sized (inr is) still stays =
-    rw is.1 record { calls_are = refl; tables = stays (subst IsWait (sym is.1) tt) }
-turn_says calls taken taken' (phases.Scan left) phase' d d' m m' turn counts sized says still stays =
-    scan_tells taken taken' left calls d d' turn phase' counts sized says stays
-turn_says calls taken taken' (phases.Block next) phase' d d' m m' turn counts sized says still stays = by_page (slice_get taken next) says.0
-  where
-    by_page : (o : Option Taken)
-        → WithPage o (turn ≡ turns.Again waits.AllHeld) (λ one. IsBlockTurn taken next one (state_of m) turn phase' (state_of m'))
-        → TurnComes turn calls calls d d'
-    by_page None is = waited turn waits.AllHeld calls d d' is stays
-    by_page (Some one) is =
-        one_comes turn is.entry calls d d' is.told
-        (quiet_comes is.entry calls d d' (step_quiet (state_of m) (state_of m') (Block one.frame) is.entry refl (λ k. k.0) is.step)
-        (same_store d d' still))
-turn_says calls taken taken' (phases.Tries next form block) phase' d d' m m' turn counts sized says still stays =
-    by_page (slice_get taken next) says.0
-  where
-    by_page : (o : Option Taken)
-        → WithPage o (turn ≡ turns.Again waits.AllHeld) (λ one. IsFormTurn next form block one m d turn phase' d' m')
-        → TurnComes turn calls calls d d'
-    by_page None is = waited turn waits.AllHeld calls d d' is stays
-    by_page (Some one) is = form_tells next form block one m m' calls d d' turn phase' is still stays
-turn_says calls taken taken' (phases.Sealing next slot) phase' d d' m m' turn counts sized says still stays = absurd says
+with_page : (o : Option Taken) (turn : PassTurn) (calls : List Call) (d d' : Driver) (says : Taken → Type 0) → (IsWait turn → d' ≡ d)
+    → ((one : Taken) → says one → ComesAlone turn calls d d') → WithPage o (turn ≡ turns.Again waits.AllHeld) says
+    → ComesAlone turn calls d d'
+with_page None turn calls d d' says stays tells is = waited turn waits.AllHeld calls d d' is stays
+with_page (Some one) turn calls d d' says stays tells is = tells one is
 
-pub turn_tells : (calls : List Call) (taken taken' : List Taken) (phase phase' : Phase) (d d' : Driver) (m m' : Parts) (turn : PassTurn)
-    (told : Option (List Call)) → d.states.counts ≡ d.active.counts → length d.states.states ≡ sum d.states.counts
-    → TurnSays taken phase d m turn taken' phase' d' m' → DriverSays phase d d' → (IsWait turn → d' ≡ d)
-    → told ≡ told_by (look_in phase turn) (Some calls) → Tells told (λ longer. TurnComes turn calls longer d d')
-turn_tells calls taken taken' phase phase' d d' m m' turn told counts sized says still stays is =
-    rw is (turn_says calls taken taken' phase phase' d d' m m' turn counts sized says still stays)
+stage_tells : (stage : Stage) (v v' : PassView) (calls : List Call) (d d' : Driver) (m m' : Parts) (turn : PassTurn)
+    → d.states.counts ≡ d.active.counts → length d.states.states ≡ total d.states.counts → StageSays stage v d m turn v' d' m'
+    → (IsWait turn → d' ≡ d) → ComesAlone turn calls d d'
+stage_tells (stages.Idle false) v v' calls d d' m m' turn counts sized is stays =
+    waited turn (waits.Enough (count_by is_free_frame m.epc)) calls d d' is stays
+stage_tells (stages.Idle true) v v' calls d d' m m' turn counts sized (inl is) stays =
+    scan_tells v v' calls d d' turn counts sized is.1 stays
+stage_tells (stages.Idle true) v v' calls d d' m m' turn counts sized (inr is) stays =
+    waited turn waits.AllHeld calls d d' is.1 stays
+stage_tells (stages.Scan left) v v' calls d d' m m' turn counts sized is stays = scan_tells v v' calls d d' turn counts sized is stays
+stage_tells (stages.Block next) v v' calls d d' m m' turn counts sized is stays =
+    with_page (taken_at v next) turn calls d d'
+    (λ one. IsMadeTurn (Block one.frame) v (state_of m) turn v' (state_of m') × (d' ≡ d)) stays
+    (λ one k. made_tells (Block one.frame) v v' (state_of m) (state_of m') calls d d' turn refl (λ e x. x.0) k.0 (same_store d d' k.1)) is
+stage_tells (stages.Tries next form) v v' calls d d' m m' turn counts sized is stays =
+    with_page (taken_at v next) turn calls d d' (λ one. FormSays form one v d m turn v' d' m') stays
+    (λ one k. form_tells form one v v' m m' calls d d' turn k stays) is
+
+due_tells : (due : Option Page) (v v' : PassView) (calls : List Call) (d d' : Driver) (m m' : Parts) (turn : PassTurn)
+    → d.states.counts ≡ d.active.counts → length d.states.states ≡ total d.states.counts
+    → ((page : Page) → due ≡ Some page → IsPlaced d.states.counts page) → DueSays due v d m turn v' d' m'
+    → (IsWait turn → d' ≡ d) → ComesAlone turn calls d d'
+due_tells None v v' calls d d' m m' turn counts sized placed is stays =
+    stage_tells v.stage v v' calls d d' m m' turn counts sized is stays
+due_tells (Some page) v v' calls d d' m m' turn counts sized placed is stays =
+    rw is.told (aside_comes page is.look calls d d' sized (placed page refl) is.tables)
+
+aside_tells : (aside : Aside) (v v' : PassView) (calls : List Call) (d d' : Driver) (m m' : Parts) (turn : PassTurn)
+    → d.states.counts ≡ d.active.counts → length d.states.states ≡ total d.states.counts → CanStep v d m
+    → AsideSays aside v d m turn v' d' m' → (IsWait turn → d' ≡ d) → ComesAlone turn calls d d'
+aside_tells asides.None v v' calls d d' m m' turn counts sized can is stays =
+    due_tells (due_in d (state_of m) v.behind) v v' calls d d' m m' turn counts sized can.placed is stays
+aside_tells (asides.ToGo one) v v' calls d d' m m' turn counts sized can is stays =
+    let started = is.0.started in
+    let quiet =
+    step_quiet (state_of m) (state_of m') (EwbStart one.frame started.at) is.0.entry refl (λ k. k.0) started.step in
+    rw is.0.told (entry_comes is.0.entry is.0.entry.event calls d d' quiet.no_look
+    (quiet_comes is.0.entry calls d d' quiet (same_store d d' is.1)))
+aside_tells (asides.Going one) v v' calls d d' m m' turn counts sized can is stays = absurd is
+
+pub turn_tells : (calls : List Call) (v v' : PassView) (d d' : Driver) (m m' : Parts) (turn : PassTurn) (told : Option (List Call))
+    → d.states.counts ≡ d.active.counts → length d.states.states ≡ total d.states.counts → CanStep v d m
+    → TurnSays v d m turn v' d' m' → (IsWait turn → d' ≡ d) → told ≡ told_by (look_told turn) (Some calls)
+    → Tells told (λ longer. TurnComes turn calls longer d d')
+turn_tells calls v v' d d' m m' turn told counts sized can says stays is =
+    rw is (aside_tells v.aside v v' calls d d' m m' turn counts sized can says stays)
 
 -- ---- the end of a write-out
 
 -- a page's put makes it lost or not
-put_moves : (d d' : Driver) (page g : Page) (slot : SlotAt) (failed : Bool) → length d.states.states ≡ sum d.states.counts
+put_moves : (d d' : Driver) (page g : Page) (slot : VaSlot) (failed : Bool) → length d.states.states ≡ total d.states.counts
     → IsPlaced d.states.counts page → IsPlaced d.states.counts g → d'.states ≡ with_state d.states page (gone slot failed)
     → is_lost_state (page_state d'.states g) ≡ (if same_page page g then failed else is_lost_state (page_state d.states g))
 put_moves d d' page g slot failed sized placed here is =
@@ -325,8 +390,8 @@ put_moves d d' page g slot failed sized placed here is =
     by_page false = refl
 
 -- .. by what is told of it
-put_comes : (one : Taken) (slot : SlotAt) (calls : List Call) (d d' : Driver) (e : Entry) (rec : Sealed) (version : ℕ) (failed : Bool)
-    (told : Option (List Call)) → length d.states.states ≡ sum d.states.counts → IsPlaced d.states.counts one.page
+put_comes : (one : Taken) (slot : VaSlot) (calls : List Call) (d d' : Driver) (e : Entry) (rec : Sealed) (version : ℕ) (failed : Bool)
+    (told : Option (List Call)) → length d.states.states ≡ total d.states.counts → IsPlaced d.states.counts one.page
     → e ≡ did_by actors.Reclaimer (Ewb one.frame) (Moved one.page version rec.tag) → told ≡ Some (Put one.page rec failed ∷ calls)
     → d' ≡ record d { states = with_state d.states one.page (gone slot failed) } → Tells told (λ longer. Comes e calls longer d d')
 put_comes one slot calls d d' e rec version failed told sized placed entry call tables = rw (call, entry) record {
@@ -340,21 +405,52 @@ put_comes one slot calls d d' e rec version failed told sized placed entry call 
   };
 }
 
-pub stored_tells : (made : Making) (j : JobView) (past : List Entry) (calls : List Call) (taken : List Taken) (phase : Phase)
-    (d d' : Driver)
-    (m m' : Parts) (faults faults' : ℕ) (e : Entry) (told : Option (List Call)) → Ready made j past taken phase d m
-    → StoredSays taken phase (state_of m) d (Some calls) faults e (state_of m') d' told faults'
-    → Tells told (λ longer. Comes e calls longer d d')
-stored_tells made j past calls taken (phases.Sealing next slot) d d' m m' faults faults' e told r says =
-    let w = r.stands.0 in
-    let k = subst (λ o. IsSomeAnd o (λ one. IsStored one slot (state_of m) d (Some calls) faults e (state_of m') d' told faults'))
-    (drop_get next taken w.one w.rest w.due) says in
-    let at : place past w.one.page ≡ Leaving w.one.frame.0 = (subst (AreInFrames past) w.due r.stands.1).0 in
-    let page = page_is made j past taken next slot w.one w.rest d d' m m' (Some calls) told faults faults' e r w.due w.same k in
-    put_comes w.one slot calls d d' e k.rec k.out.leaving.start.version k.failed told r.shows.tables.sized
-    (r.shows.tables.placed w.one.page (ap is_absent at))
-    (k.out.entry ∙ ap (λ g. did_by actors.Reclaimer (Ewb w.one.frame) (Moved g k.out.leaving.start.version k.rec.tag)) page) k.call k.tables
-stored_tells made j past calls taken (phases.Idle works) d d' m m' faults faults' e told r says = absurd says
-stored_tells made j past calls taken (phases.Scan left) d d' m m' faults faults' e told r says = absurd says
-stored_tells made j past calls taken (phases.Block next) d d' m m' faults faults' e told r says = absurd says
-stored_tells made j past calls taken (phases.Tries next form block) d d' m m' faults faults' e told r says = absurd says
+-- ---- the page that has started to go out
+
+in_frames : (past : List Entry) (next : ℕ) (taken : List Taken) (one : Taken) → AreInFrames past (drop next taken)
+    → slice_get taken next ≡ Some one → place past one.page ≡ Leaving one.frame.0
+in_frames past zero [] one h is = cc
+in_frames past zero (t ∷ ts) one h is =
+    let same : t ≡ one = cc in subst (λ (x : Taken). place past x.page ≡ Leaving x.frame.0) same h.0
+in_frames past (suc n) [] one h is = cc
+in_frames past (suc n) (t ∷ ts) one h is = in_frames past n ts one h is
+
+stage_leaves : (past : List Entry) (taken : List Taken) (stage : Stage) (one : Taken) → AreInFrames past (waiting_by taken stage)
+    → sealing_at taken stage ≡ Some one → place past one.page ≡ Leaving one.frame.0
+stage_leaves past taken (stages.Tries next forms.Sealing) one h is = in_frames past next taken one h is
+stage_leaves past taken _ one h is = cc
+
+aside_leaves : (past : List Entry) (aside : Aside) (other : Option Taken) (one : Taken) → IsAside past aside
+    → (other ≡ Some one → place past one.page ≡ Leaving one.frame.0) → sealing_with aside other ≡ Some one
+    → place past one.page ≡ Leaving one.frame.0
+aside_leaves past asides.None other one h of_pass is = of_pass is
+aside_leaves past (asides.ToGo t) other one h of_pass is = of_pass is
+aside_leaves past (asides.Going t) other one h of_pass is =
+    let same : t ≡ one = cc in subst (λ (x : Taken). place past x.page ≡ Leaving x.frame.0) same h
+
+pub stored_tells : (made : Making) (j : JobView) (past : List Entry) (calls : List Call) (v : PassView) (d d' : Driver) (m m' : Parts)
+    (faults faults' : ℕ) (e : Entry) (told : Option (List Call)) → Ready made j past v d m
+    → StoredSays v (state_of m) d (Some calls) faults e (state_of m') d' told faults' → Tells told (λ longer. Comes e calls longer d d')
+stored_tells made j past calls v d d' m m' faults faults' e told r says = by_page (sealing_in v) refl says
+  where
+    stored : (one : Taken) → sealing_in v ≡ Some one → IsStored one (state_of m) d (Some calls) faults e (state_of m') d' told faults'
+        → Tells told (λ longer. Comes e calls longer d d')
+    stored one is k =
+        let at : place past one.page ≡ Leaving one.frame.0 =
+        aside_leaves past v.aside (sealing_at v.taken v.stage) one r.stands.leaves
+        (stage_leaves past v.taken v.stage one r.stands.frames) is in
+        let stood = holds_here past one.page (Leaving one.frame.0) one.frame.0 r.agrees.sound at (eq-eqb one.frame.0 one.frame.0 refl) in
+        let page : k.out.leaving.page ≡ one.page =
+        one_there (content past one.frame.0) k.out.leaving.page one.page
+        (there_is (content past one.frame.0) k.out.leaving.page
+        (ap page_there (sym (content_is r.agrees.follows.shape.columns one.frame.0)) ∙ k.out.leaving.held)) stood in
+        put_comes one k.start.slot calls d d' e k.rec k.out.leaving.start.version k.failed told r.agrees.shows.sized
+        (r.agrees.shows.placed one.page (ap is_absent at))
+        (k.out.entry ∙ ap (λ g. did_by actors.Reclaimer (Ewb one.frame) (Moved g k.out.leaving.start.version k.rec.tag)) page) k.call
+        k.tables
+
+    by_page : (o : Option Taken) → sealing_in v ≡ o
+        → IsSomeAnd o (λ one. IsStored one (state_of m) d (Some calls) faults e (state_of m') d' told faults')
+        → Tells told (λ longer. Comes e calls longer d d')
+    by_page None is k = absurd k
+    by_page (Some one) is k = stored one is k

@@ -1,6 +1,6 @@
 -- What a change of the tables leaves of kept records and of lost pages.
 use Rattle.std.proofs.Common.{◌≡◌, ℕ, ◌<◌, Bool, true, false, cond, refl, sym, ◌∙◌, ap, List, Option, None, length}
-use Rattle.std.proofs.Common.{slice_set, sum}
+use Rattle.std.proofs.Common.{slice_set}
 use Rattle.std.proofs.lemmas.Bool.{eqb-true, eqb-false}
 use Rattle.std.proofs.lemmas.List.{get_or-set_other, get_or-set_same}
 use Rattle.sgx_types.proofs.Pages.{same_pages}
@@ -10,7 +10,7 @@ use Rattle.sgx_types.specs.declared.names.Page.{Page}
 use Rattle.sgx_types.specs.Pages.{same_page}
 use Rattle.sgx_rules.specs.Processors.{is_by}
 use Rattle.active_list.specs.inner.Keeping.{Kept, kept_at, record_kept}
-use Rattle.active_list.specs.inner.Places.{IsPlaced}
+use Rattle.active_list.specs.inner.Places.{IsPlaced, total}
 use Rattle.active_list.specs.inner.States.{StateTable, state_of, with_state}
 use Rattle.active_list.specs.declared.page_states.PageState.{PageState}
 use Rattle.active_list.proofs.StateLaws.{state_of-with_state}
@@ -29,7 +29,7 @@ pub kept_other : (kept : List (Option Kept)) (c : Cpu) (new : Option Kept) (p : 
 kept_other kept c new p other = ap record_kept (get_or-set_other kept c.0 p new None (λ k. eqb-false c.0 p other (sym k)))
 
 -- a page that is lost or not, and stays so, leaves all as they were
-pub lost_same : (table : StateTable) (page g : Page) (state : PageState) → length table.states ≡ sum table.counts
+pub lost_same : (table : StateTable) (page g : Page) (state : PageState) → length table.states ≡ total table.counts
     → IsPlaced table.counts page → IsPlaced table.counts g → is_lost_state state ≡ is_lost_state (state_of table page)
     → is_lost_state (state_of (with_state table page state) g) ≡ is_lost_state (state_of table g)
 lost_same table page g state sized placed here same =

@@ -3,39 +3,37 @@ use Rattle.std.proofs.Common.{◌≡◌, ℕ, zero, suc, ◌+◌, ◌≤◌, ◌
 use Rattle.std.proofs.Common.{sym, ◌∙◌, ap, List, [], ◌∷◌, ◌++◌, Some, length, map, take, replicate, slice_get, arith}
 use Rattle.std.proofs.Common.{nat_le}
 use Rattle.std.proofs.lemmas.Bool.{false≢true, leb-false, leb-true}
-use Rattle.std.proofs.lemmas.List.{length-append, length-take}
+use Rattle.std.proofs.lemmas.List.{length-take}
 use Rattle.std.proofs.lemmas.List.Sums.{count_by-le-length, sum_by-append, sum_by-cons, sum_by-take-le}
 use Rattle.std.specs.List.{count_by, flat_map}
 use Rattle.sgx_types.specs.Pages.{no_perm}
-use Rattle.sgx_rules.specs.declared.entries.Action.TheVariants as actions
 use Rattle.sgx_types.specs.declared.names.Actor.{Actor}
 use Rattle.sgx_rules.specs.declared.entries.Entry.{Entry}
 use Rattle.sgx_rules.specs.declared.entries.Event.{Event}
 use Rattle.sgx_rules.specs.declared.entries.Event.TheVariants.{Did}
 use Rattle.sgx_types.specs.declared.lawful.PageInit.{PageInit}
-use Rattle.sgx_types.specs.declared.lawful.PageInit.TheVariants as inits
 use Rattle.sgx_types.specs.declared.names.Kind.{Kind}
-use Rattle.sgx_types.specs.declared.names.Kind.TheVariants as kinds
 use Rattle.sgx_types.specs.declared.names.Perm.{Perm}
-use Rattle.slot_keeper.specs.inner.Keeper.{Keeper, new_keeper}
+use Rattle.sgx_rules.specs.Frames.{vas_made}
 use Rattle.job_grammar.specs.Jobs.{EnclaveView, JobView, va_pages}
 use Rattle.job_grammar.specs.declared.jobs.PageLine.{PageLine}
-use Rattle.job_grammar.specs.declared.jobs.PageLine.TheVariants as lines
-use Rattle.turn_rules.specs.Script.{build_of, built, chunk_steps, enclave_steps, enclaves_steps, is_builder, line_steps}
-use Rattle.turn_rules.specs.Script.{numbers_from}
+use Rattle.turn_rules.specs.Script.{build_of, built, chunk_steps, enclave_steps, enclaves_steps, is_builder, line_steps, numbers_from}
 use Rattle.turn_rules.specs.Script.{page_steps}
 use Rattle.turn_rules.specs.declared.steps.BuildStep.{BuildStep}
-use Rattle.turn_rules.specs.declared.steps.BuildStep.TheVariants as builds
-use Rattle.driver_rules.specs.Ages.{AgeRule}
+use Rattle.driver_rules.specs.Ages.{AgeRuleBy}
 use Rattle.driver_rules.specs.Scripts.{ScriptRule}
+use Rattle.driver_rules.specs.Spares.{Outs}
 use Rattle.driver_laws.specs.inner.Agrees.{has_pages, is_add}
 use Rattle.driver_laws.specs.inner.Counted.{AddsAreBuilt, is_add_step, pages_added, with_added}
-use Rattle.driver_laws.specs.inner.Keeps.{ArraysAreBuilt, ArraysFirst, KeeperMoves, is_epa, is_epa_refused, is_va_step}
-use Rattle.driver_laws.proofs.BuiltLaws.{epa_built, one_va}
-use Rattle.sgx_rules.specs.Frames.{vas_made}
-use Rattle.driver_laws.proofs.StepLaws.{Builds, ByStep, IsStep, NoStep, adds_by, arrays_by, builds_by, builds_or_none, counts}
-use Rattle.driver_laws.proofs.StepLaws.{epa_by}
+use Rattle.driver_laws.specs.inner.Keeps.{ArraysAreBuilt, ArraysFirst, is_epa, is_epa_refused, is_va_step}
+use Rattle.driver_laws.proofs.BuiltLaws.{epa_built, one_va, vas_moved}
+use Rattle.driver_laws.proofs.StepLaws.{adds_by, arrays_by, Builds, builds_by, builds_or_none, ByStep, counts, epa_by, IsStep, NoStep}
 use Rattle.driver_laws.proofs.StepLaws.{step_counts}
+use Rattle.sgx_rules.specs.declared.entries.Action.TheVariants as actions
+use Rattle.sgx_types.specs.declared.lawful.PageInit.TheVariants as inits
+use Rattle.sgx_types.specs.declared.names.Kind.TheVariants as kinds
+use Rattle.job_grammar.specs.declared.jobs.PageLine.TheVariants as lines
+use Rattle.turn_rules.specs.declared.steps.BuildStep.TheVariants as builds
 
 -- ---- how many version array pages the build makes
 
@@ -160,9 +158,9 @@ none_has_pages (e ∷ past) few = by_event e.event few (none_has_pages past)
     by_event _ k before = before k
 
 -- the version array pages come first
-pub arrays_first : (j : JobView) (keeper : Keeper) (past : List Entry) (e : Entry) → ScriptRule j past e → AgeRule j past e
-    → AddsAreBuilt j past → ArraysAreBuilt j keeper past → ArraysFirst j keeper past e.event
-arrays_first j keeper past e script age adds arrays = by_event e.event (builds_or_none j past e script age)
+pub arrays_first : (j : JobView) (past : List Entry) (out : Outs) (e : Entry) → ScriptRule j past e → AgeRuleBy j past out e
+    → AddsAreBuilt j past → ArraysAreBuilt j past → ArraysFirst j past e.event
+arrays_first j past out e script age adds arrays = by_event e.event (builds_or_none j past out e script age)
   where
     by_epa : (ev : Event) → is_epa ev ≡ true → builds_by ev ≡ true → Builds j past e.actor ev → has_pages past ≡ false
     by_epa ev epa there (NoStep other none) = absurd (false≢true (sym none ∙ there))
@@ -171,13 +169,13 @@ arrays_first j keeper past e script age adds arrays = by_event e.event (builds_o
         let none = firsts_add_none (va_pages j) (built past) (enclaves_steps 1 j.enclaves) first in
         none_has_pages past (omega (arith, none, adds.adds))
 
-    by_add : (ev : Event) → is_add ev ≡ true → builds_by ev ≡ true → Builds j past e.actor ev → length keeper.frames ≡ va_pages j
+    by_add : (ev : Event) → is_add ev ≡ true → builds_by ev ≡ true → Builds j past e.actor ev → vas_made past ≡ va_pages j
     by_add ev add there (NoStep other none) = absurd (false≢true (sym none ∙ there))
     by_add ev add there (ByStep is s) =
         let behind = add_is_behind j past s.step s.there (adds_by ev s.step s.frame s.made add) in
         arrays ∙ all_made j (built past) behind
 
-    by_event : (ev : Event) → Builds j past e.actor ev → ArraysFirst j keeper past ev
+    by_event : (ev : Event) → Builds j past e.actor ev → ArraysFirst j past ev
     by_event (Did (actions.Epa f) answer) b = by_epa (Did (actions.Epa f) answer) refl refl b
     by_event (Did (actions.Add n number f kind perm init) answer) b =
         by_add (Did (actions.Add n number f kind perm init) answer) refl refl b
@@ -185,34 +183,27 @@ arrays_first j keeper past e script age adds arrays = by_event e.event (builds_o
 
 -- ---- one entry more
 
-pub first_arrays : (j : JobView) (pages : ℕ) → ArraysAreBuilt j (new_keeper pages) []
-first_arrays j pages = refl
+pub first_arrays : (j : JobView) → ArraysAreBuilt j []
+first_arrays j = refl
 
-frames_moved : (past : List Entry) (ev : Event) (old new : Keeper) → KeeperMoves past ev old new
-    → length new.frames ≡ length old.frames + cond (is_epa ev) 1 0
-frames_moved past (Did (actions.Epa f) answer) old new m = ap (λ fs. length fs) m.frames ∙ length-append old.frames (f ∷ [])
-frames_moved past (Did (actions.EwbStart f slot) answer) old new m = ap (λ fs. length fs) m.frames ∙ omega arith
-frames_moved past (Did (actions.Eld f) answer) old new m = ap (λ fs. length fs) m.2.frames ∙ omega arith
-frames_moved past _ old new m = ap (λ fs. length fs) m.frames ∙ omega arith
-
-pub stays_arrays : (j : JobView) (old new : Keeper) (past : List Entry) (e : Entry) → ScriptRule j past e → AgeRule j past e
-    → is_epa_refused e.event ≡ false → KeeperMoves past e.event old new → ArraysAreBuilt j old past → ArraysAreBuilt j new (e ∷ past)
-stays_arrays j old new past e script age done moves h = by_step e.actor (builds_or_none j past e script age)
+pub stays_arrays : (j : JobView) (past : List Entry) (out : Outs) (e : Entry) → ScriptRule j past e → AgeRuleBy j past out e
+    → is_epa_refused e.event ≡ false → ArraysAreBuilt j past → ArraysAreBuilt j (e ∷ past)
+stays_arrays j past out e script age done h = by_step e.actor (builds_or_none j past out e script age)
   where
     same_kind : (s : IsStep j past e.event) (b c : Bool) → is_epa e.event ≡ b → is_va_step s.step ≡ c → is_epa e.event ≡ is_va_step s.step
     same_kind s true c epa va = epa ∙ sym (arrays_by e.event s.step s.frame s.made epa)
     same_kind s false true epa va = epa_by e.event s.step s.frame s.made done va ∙ sym va
     same_kind s false false epa va = epa ∙ sym va
 
-    made : (s : IsStep j past e.event) → length new.frames ≡ counts is_va_step j (built past + 1)
+    made : (s : IsStep j past e.event) → vas_made (e ∷ past) ≡ counts is_va_step j (built past + 1)
     made s =
-        frames_moved past e.event old new moves ∙ rw (same_kind s (is_epa e.event) (is_va_step s.step) refl refl, h)
+        vas_moved e.event (vas_made past) ∙ rw (same_kind s (is_epa e.event) (is_va_step s.step) refl refl, h)
         (sym (step_counts is_va_step j past s.step s.there))
 
-    kept : builds_by e.event ≡ false → length new.frames ≡ counts is_va_step j (built past)
-    kept none = frames_moved past e.event old new moves ∙ rw (epa_built e.event none) (omega (arith, h))
+    kept : builds_by e.event ≡ false → vas_made (e ∷ past) ≡ counts is_va_step j (built past)
+    kept none = vas_moved e.event (vas_made past) ∙ rw (epa_built e.event none) (omega (arith, h))
 
     by_step : (a : Actor) → Builds j past a e.event
-        → length new.frames ≡ counts is_va_step j (if is_builder a then built past + 1 else built past)
+        → vas_made (e ∷ past) ≡ counts is_va_step j (if is_builder a then built past + 1 else built past)
     by_step a (ByStep is s) = rw is (made s)
     by_step a (NoStep other none) = rw other (kept none)

@@ -1,26 +1,25 @@
 -- By the rule Script loads are processors' alone, and each ends its own.
-use Rattle.std.proofs.Common.{◌≡◌, ℕ, Bool, true, false, if◌then◌else◌, refl, sym, ◌∙◌, ap, List, Option, Some, None}
+use Rattle.std.proofs.Common.{◌≡◌, ℕ, Bool, true, false, if◌then◌else◌, refl, sym, ◌∙◌, ap, List, Some, None}
 use Rattle.std.proofs.lemmas.Bool.{false≢true}
 use Rattle.std.proofs.lemmas.Option.{none-some, same_Some}
 use Rattle.sgx_rules.specs.declared.entries.Action.{Action}
-use Rattle.sgx_rules.specs.declared.entries.Action.TheVariants as actions
 use Rattle.sgx_types.specs.declared.names.Actor.{Actor}
-use Rattle.sgx_types.specs.declared.names.Actor.TheVariants as actors
 use Rattle.sgx_rules.specs.declared.entries.Entry.{Entry}
 use Rattle.sgx_rules.specs.declared.entries.Event.{Event}
-use Rattle.sgx_rules.specs.declared.entries.Event.TheVariants.{Did, Refused, Age, Kick, Bus}
+use Rattle.sgx_rules.specs.declared.entries.Event.TheVariants.{Age, Bus, Did, Kick, Refused}
 use Rattle.sgx_types.specs.declared.names.Page.{Page}
-use Rattle.sgx_types.specs.declared.names.SlotAt.{SlotAt}
 use Rattle.job_grammar.specs.Jobs.{JobView}
 use Rattle.turn_rules.specs.Script.{action_of, frame_at}
-use Rattle.driver_rules.specs.Dues.{Due, Ends, Fetches, Finished, IsFetch, IsNext, KicksAll, LooksAt, Makes, Reports, Stopped}
-use Rattle.driver_rules.specs.Dues.{TriesOut}
-use Rattle.driver_rules.specs.Dues.{Waits}
-use Rattle.driver_rules.specs.Scripts.{IsActors, ScriptRule, is_load}
+use Rattle.driver_rules.specs.Dues.{Asks, Due, Ends, Fetch, Fetches, Finished, IsFetch, IsNext, KicksAll, LooksAt, Makes, Reports}
+use Rattle.driver_rules.specs.Dues.{Stopped, TriesOut, Waits}
+use Rattle.driver_rules.specs.Scripts.{is_load, IsActors, ScriptRule}
 use Rattle.driver_rules.specs.Stops.{is_spent}
-use Rattle.driver_rules.specs.Turns.{Fails, Last, Loads, Other, WasEnded, builder_due, due_after, is_last, last_of, turn_due}
-use Rattle.driver_laws.specs.inner.Loads.{EndsOwn, IsEndedBy, TheirRule, load_ended}
-use Rattle.driver_laws.proofs.OwnLaws.{OfBuild, OfTurn, build_builds, is_paging, is_script, turn_script}
+use Rattle.driver_rules.specs.Turns.{builder_due, due_after, Fails, is_last, Last, last_of, Loads, Other, turn_due, WasEnded}
+use Rattle.driver_laws.specs.inner.Loads.{EndsOwn, IsEndedBy, load_ended, TheirRule}
+use Rattle.driver_laws.proofs.OwnLaws.{build_builds, is_paging, is_script, loaded_own, OfBuild, OfTurn, turn_script}
+use Rattle.sgx_rules.specs.declared.entries.Action.TheVariants as actions
+use Rattle.sgx_types.specs.declared.names.Actor.TheVariants as actors
+use Rattle.sgx_rules.specs.declared.refusals.Refusal.TheVariants as why
 
 -- ---- instructions
 
@@ -77,14 +76,13 @@ this_end n (Bus page why) same = cc
 
 -- ---- what is due
 
-fetch_no_end : (g : Page) (slot : SlotAt) (free : Option ℕ) (ev : Event) → IsFetch g slot free ev → load_ended ev ≡ None
-fetch_no_end g slot free (Bus page why) n = refl
-fetch_no_end g slot None (Did action answer) n = absurd n
-fetch_no_end g slot None (Refused action refusal) n = absurd n
-fetch_no_end g slot (Some f) (Did action answer) n = ap (λ x. load_ended (Did x answer)) n
-fetch_no_end g slot (Some f) (Refused action refusal) n = ap (λ x. load_ended (Refused x refusal)) n
-fetch_no_end g slot free (Age page look) n = refl
-fetch_no_end g slot free (Kick cpu) n = refl
+fetch_no_end : (g : Page) (fetch : Fetch) (ev : Event) → IsFetch g fetch ev → load_ended ev ≡ None
+fetch_no_end g (Asks target slot (Some f)) (Did action answer) n =
+    ap (λ x. load_ended (Did x answer)) (loaded_own target slot f action n).2
+fetch_no_end g (Asks target slot (Some f)) (Refused action why.SlotEmpty) n =
+    ap (λ x. load_ended (Refused x why.SlotEmpty)) (loaded_own target slot f action n).2
+fetch_no_end g fetch (Bus page why) n = refl
+fetch_no_end g _ ev n = absurd n
 
 turn_no_end : (j : JobView) (past : List Entry) (d : Due) (ev : Event) → OfTurn j past d → IsNext d ev → load_ended ev ≡ None
 turn_no_end j past Stopped ev h n = absurd n
@@ -93,9 +91,9 @@ turn_no_end j past (Waits why) ev h n = absurd n
 turn_no_end j past (Makes action) ev h n = no_end ev action (script_no_end action h) n
 turn_no_end j past (Ends action) ev h n = absurd h
 turn_no_end j past (Reports page why) ev h n = ap load_ended n
-turn_no_end j past (Fetches g slot free) ev h n = fetch_no_end g slot free ev n
+turn_no_end j past (Fetches g fetch) ev h n = fetch_no_end g fetch ev n
 turn_no_end j past (LooksAt page held young) ev h n = absurd h
-turn_no_end j past (TriesOut f) ev h n = absurd h
+turn_no_end j past (TriesOut g f) ev h n = absurd h
 turn_no_end j past (KicksAll cpus) ev h n = absurd h
 
 after_ends : (j : JobView) (past : List Entry) (l : Last) (b : Bool) (d : Due) (ev : Event) → OfTurn j past d → IsNext (due_after l b d) ev

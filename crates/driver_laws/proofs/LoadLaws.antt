@@ -4,37 +4,38 @@ use Rattle.std.proofs.Common.{[], ◌∷◌, Option, Some, None, is_some, length
 use Rattle.std.proofs.lemmas.Bool.{eqb-true, eq-eqb, false≢true}
 use Rattle.std.proofs.lemmas.Option.{none-some, same_Some}
 use Rattle.sgx_rules.specs.declared.entries.Action.{Action}
-use Rattle.sgx_rules.specs.declared.entries.Action.TheVariants as actions
 use Rattle.sgx_types.specs.declared.names.Actor.{Actor}
-use Rattle.sgx_types.specs.declared.names.Actor.TheVariants as actors
 use Rattle.sgx_rules.specs.declared.entries.Answer.{Answer}
 use Rattle.sgx_rules.specs.declared.entries.Answer.TheVariants.{Moved}
 use Rattle.sgx_rules.specs.declared.entries.Entry.{Entry}
 use Rattle.sgx_rules.specs.declared.entries.Event.{Event}
-use Rattle.sgx_rules.specs.declared.entries.Event.TheVariants.{Did, Refused, Age, Kick, Bus}
+use Rattle.sgx_rules.specs.declared.entries.Event.TheVariants.{Age, Bus, Did, Kick, Refused}
 use Rattle.sgx_types.specs.declared.names.Cpu.{Cpu}
 use Rattle.sgx_types.specs.declared.names.Page.{Page}
-use Rattle.sgx_types.specs.declared.names.SlotAt.{SlotAt}
+use Rattle.sgx_types.specs.declared.names.VaSlot.{VaSlot}
 use Rattle.sgx_rules.specs.declared.refusals.Refusal.{Refusal}
-use Rattle.sgx_rules.specs.Frames.{content, is_page}
+use Rattle.sgx_rules.specs.Frames.{content, stands}
 use Rattle.sgx_types.specs.Making.{Making}
-use Rattle.sgx_rules.specs.Starts.{Start, open_start, opened_by, slot_found, started}
+use Rattle.sgx_rules.specs.Starts.{open_start, opened_by, slot_found, Start, started}
 use Rattle.sgx_types.proofs.Pages.{same_page-refl}
-use Rattle.sgx_rules.proofs.Contents.{page_is_no_other}
 use Rattle.driver_rules.specs.Places.{Leaving, Loading, place}
 use Rattle.driver_rules.specs.Scripts.{is_load}
-use Rattle.driver_rules.specs.Turns.{Fails, Last, Loads, Other, WasEnded, fails_with, last_by, last_of, load_of}
+use Rattle.driver_rules.specs.Turns.{Fails, fails_with, Last, last_by, last_of, load_of, Loads, Other, start_fails, WasEnded}
 use Rattle.job_grammar.specs.Jobs.{JobView}
 use Rattle.driver_laws.specs.inner.Driven.{IsDriven}
 use Rattle.driver_laws.specs.inner.Kinds.{CanMove}
-use Rattle.driver_laws.specs.inner.Loads.{EndsOwn, LoadsAreOwned, LoadsAreTheirs, TheirRule, load_ended}
+use Rattle.driver_laws.specs.inner.Loads.{EndsOwn, load_ended, LoadsAreOwned, LoadsAreTheirs, TheirRule}
 use Rattle.driver_laws.specs.inner.Started.{frame_loaded}
-use Rattle.driver_laws.specs.inner.Sound.{IsSound, is_load_start, load_slot, stands_in}
-use Rattle.driver_laws.proofs.AloneLaws.{free_none}
+use Rattle.driver_laws.specs.inner.Sound.{is_load_start, IsSound, load_slot}
+use Rattle.driver_laws.proofs.AloneLaws.{free_none, loading_is}
 use Rattle.driver_laws.proofs.EndLaws.{their_rule}
-use Rattle.driver_laws.proofs.HistoryLaws.{can_move, driven_before, driven_sound, loading_is}
-use Rattle.driver_laws.proofs.StartedLaws.{fails_none}
+use Rattle.driver_laws.proofs.HistoryLaws.{driven_before, driven_can, driven_sound}
+use Rattle.driver_laws.proofs.PlaceLaws.{holds_no_load}
+use Rattle.driver_laws.proofs.StartedLaws.{fails_none, start_none}
+use Rattle.driver_laws.proofs.StillLaws.{holds_here}
 use Rattle.driver_laws.proofs.SoundLaws.{entry_of}
+use Rattle.sgx_rules.specs.declared.entries.Action.TheVariants as actions
+use Rattle.sgx_types.specs.declared.names.Actor.TheVariants as actors
 
 -- ---- in general
 
@@ -151,23 +152,23 @@ loads_end loads last f c page to mine none h = record {
 
 -- a page is loading where a start of a load of it is open
 pub loading_place : (past : List Entry) (n : ℕ) (g : Page) → IsSound past → load_of (open_start past n) ≡ Some g
-    → (slot : SlotAt) × (place past g ≡ Loading n slot)
+    → (slot : VaSlot) × (place past g ≡ Loading n slot)
 loading_place past n g s h = by_start (open_start past n) refl h
   where
-    found : (x : Start) → x.loads ≡ Some g → load_slot (Some x) g ≡ Some x.at
+    found : (x : Start) → x.loads ≡ Some g → load_slot (Some x) g ≡ Some x.slot
     found x is = rw (is, same_page-refl g) refl
 
-    by_start : (o : Option Start) → open_start past n ≡ o → load_of o ≡ Some g → (slot : SlotAt) × (place past g ≡ Loading n slot)
+    by_start : (o : Option Start) → open_start past n ≡ o → load_of o ≡ Some g → (slot : VaSlot) × (place past g ≡ Loading n slot)
     by_start None is k = absurd (none-some g k)
     by_start (Some x) is k =
-        (x.at, loading_is (place past g) n x.at (sym (s.places.loads g n) ∙ ap (λ o. load_slot o g) is ∙ found x k))
+        (x.slot, loading_is (place past g) n x.slot (sym (s.places.loads g n) ∙ ap (λ o. load_slot o g) is ∙ found x k))
 
 -- a page's frame loads nothing
 standing_none : (past : List Entry) (n : ℕ) (g : Page) → IsSound past → place past g ≡ Leaving n → load_of (open_start past n) ≡ None
-standing_none past n g s at = by_start (open_start past n) (s.places.loading n ∙ (page_is_no_other (content past n) g holds).waits)
+standing_none past n g s at = by_start (open_start past n) (s.places.loading n ∙ holds_no_load (content past n) g holds)
   where
-    holds : is_page (content past n) g ≡ true
-    holds = s.places.frames g n ∙ ap (λ p. stands_in p n) at ∙ eq-eqb n n refl
+    holds : stands (content past n) g ≡ true
+    holds = holds_here past g (Leaving n) n s at (eq-eqb n n refl)
 
     by_loads : (o : Option Page) → is_some o ≡ false → o ≡ None
     by_loads None h = refl
@@ -186,18 +187,17 @@ loads_kept : (past : List Entry) (e : Entry) → IsSound past → CanMove past e
     → (n : ℕ) → load_of (open_start (e ∷ past) n) ≡ load_of (open_start past n)
 loads_kept past e s can no_start no_end n = by_event e.event can no_start no_end
   where
-    by_frame : (f : ℕ) (b : Bool) (x : Option Start) (g : Page) → (f == n) ≡ b → load_of x ≡ None → place past g ≡ Leaving f
+    by_frame : (f : ℕ) (x : Option Start) (g : Page) → load_of x ≡ None → place past g ≡ Leaving f → (b : Bool) → (f == n) ≡ b
         → load_of (if b then x else open_start past n) ≡ load_of (open_start past n)
-    by_frame f true x g is none at = none ∙ sym (standing_none past n g s (at ∙ ap Leaving (eqb-true f n is)))
-    by_frame f false x g is none at = refl
+    by_frame f x g none at true is = none ∙ sym (standing_none past n g s (at ∙ ap Leaving (eqb-true f n is)))
+    by_frame f x g none at false is = refl
 
     by_event : (ev : Event) → CanMove past ev → begins ev ≡ false → load_ended ev ≡ None
         → load_of (opened_by e.actor (length past) (content past) ev n (open_start past n)) ≡ load_of (open_start past n)
     by_event (Did (actions.EwbStart f slot) answer) c h k =
-        by_frame f.0 (f.0 == n)
-        (started e.actor (length past) slot answer None (slot_found (content past) slot)) c.0.0 refl
-        (ap (λ o. load_of (started e.actor (length past) slot answer None o)) c.2.1) c.0.1
-    by_event (Did (actions.Ewb f) (Moved page version tag)) c h k = by_frame f.0 (f.0 == n) None page refl refl c.0
+        by_frame f.0 (started e.actor (length past) slot answer None (slot_found (content past) slot)) c.0.0
+        (ap (λ o. load_of (started e.actor (length past) slot answer None o)) c.2) c.0.1 (f.0 == n) refl
+    by_event (Did (actions.Ewb f) (Moved page version tag)) c h k = by_frame f.0 None page refl c.0 (f.0 == n) refl
     by_event (Did (actions.Ewb f) answer) c h k = absurd c
     by_event (Did (actions.EldStart f page slot) answer) c h k = absurd (false≢true (sym h))
     by_event (Did (actions.Eld f) answer) c h k = cc
@@ -211,6 +211,8 @@ none_loads l h n g is = none-some n (sym h ∙ ap frame_loaded is)
 
 last_none : (ev : Event) (opened : ℕ → Option Start) → begins ev ≡ false → LoadsNone (last_by ev opened)
 last_none (Did (actions.EldStart f page slot) answer) opened h n g k = absurd (false≢true (sym h))
+last_none (Refused (actions.EldStart f page slot) refusal) opened h n g k =
+    none_loads (start_fails page refusal) (start_none page refusal) n g k
 last_none (Refused (actions.Eld f) refusal) opened h n g k =
     none_loads (fails_with (load_of (opened f.0)) refusal) (fails_none (load_of (opened f.0)) refusal) n g k
 last_none (Bus page reason) opened h n g k = cc
@@ -266,7 +268,7 @@ by_free past c ev s can none no_end h = by_begin (begins ev) refl
     starts : (x : Event) → CanMove past x → begins x ≡ true → LoadsAreTheirs (entry_of (actors.Cpu c) x ∷ past)
     starts (Did (actions.EldStart f page slot) answer) k b =
         let new : Option Start = started (actors.Cpu c) (length past) slot answer (Some page) (slot_found (content past) slot) in
-        let its : load_of new ≡ Some page = ap (λ o. load_of (started (actors.Cpu c) (length past) slot answer (Some page) o)) k.2.1 in
+        let its : load_of new ≡ Some page = ap (λ o. load_of (started (actors.Cpu c) (length past) slot answer (Some page) o)) k.3 in
         loads_same (λ m. load_of (if f.0 == m then new else open_start past m))
         (λ m. if f.0 == m then Some page else load_of (open_start past m)) (λ p. if c.0 == p then Loads f.0 page else last_of past p)
         (λ m. opens_load (open_start past) f.0 m new (f.0 == m) refl ∙ ap (λ l. if f.0 == m then l else load_of (open_start past m)) its)
@@ -317,5 +319,4 @@ driven_theirs k j [] positive d = first_theirs
 driven_theirs k j (e ∷ past) positive d =
     let before = driven_before k j e past d in
     let s = (driven_sound k j past positive before).0 in
-    let can = can_move k j past e positive s d.moves d.fits.0 d.script.0 d.age.0 in
-    stays_theirs past e s can (their_rule j past e d.script.0) (driven_theirs k j past positive before)
+    stays_theirs past e s (driven_can k j e past positive d) (their_rule j past e d.script.0) (driven_theirs k j past positive before)

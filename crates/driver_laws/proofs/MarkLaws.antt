@@ -4,29 +4,31 @@ use Rattle.std.proofs.Common.{subst, List, [], ◌∷◌, ◌++◌, drop, map, S
 use Rattle.std.proofs.lemmas.Bool.{false≢true, not-true}
 use Rattle.sgx_types.proofs.Pages.{same_page-refl, same_pages}
 use Rattle.sgx_rules.specs.declared.entries.Action.{Action}
-use Rattle.sgx_rules.specs.declared.entries.Action.TheVariants.{Add, Enter, Resume, Fill, Load, Store, Xadd, Eld}
+use Rattle.sgx_rules.specs.declared.entries.Action.TheVariants.{Add, Eld, Enter, Fill, Load, Resume, Store, Xadd}
 use Rattle.sgx_types.specs.declared.names.Actor.{Actor}
 use Rattle.sgx_types.specs.declared.names.Actor.TheVariants.{Cpu}
 use Rattle.sgx_rules.specs.declared.entries.Answer.{Answer}
 use Rattle.sgx_rules.specs.declared.entries.Answer.TheVariants.{Moved}
 use Rattle.sgx_rules.specs.declared.entries.Entry.{Entry}
 use Rattle.sgx_rules.specs.declared.entries.Event.{Event}
-use Rattle.sgx_rules.specs.declared.entries.Event.TheVariants.{Did, Refused, Age, Kick, Bus}
+use Rattle.sgx_rules.specs.declared.entries.Event.TheVariants.{Age, Bus, Did, Kick, Refused}
 use Rattle.sgx_rules.specs.declared.entries.Look.{Look}
-use Rattle.sgx_rules.specs.declared.entries.Look.TheVariants as looks
 use Rattle.sgx_types.specs.declared.lawful.PageInit.{PageInit}
 use Rattle.sgx_types.specs.declared.names.Frame.{Frame}
 use Rattle.sgx_types.specs.declared.names.Kind.{Kind}
 use Rattle.sgx_types.specs.declared.names.Page.{Page}
 use Rattle.sgx_types.specs.declared.names.Perm.{Perm}
-use Rattle.sgx_types.specs.Pages.{page_at, same_page}
+use Rattle.sgx_types.specs.Pages.{is_own_page, page_at, same_page}
 use Rattle.driver_rules.specs.Ages.{head_of}
 use Rattle.driver_laws.specs.inner.Agrees.{Listed, listed_by, marked, touched, turned}
 use Rattle.driver_rules.specs.Holds.{is_among}
 use Rattle.driver_laws.specs.inner.Kinds.{CanMove}
-use Rattle.driver_rules.specs.Places.{Place, active, active_after, is_here, is_young, place, to_tail, uses, young_after}
-use Rattle.driver_laws.specs.inner.Sound.{IsSound, once_here, times}
+use Rattle.driver_rules.specs.Places.{active, active_after, is_here, is_young, place, to_tail, uses, young_after}
+use Rattle.driver_laws.specs.inner.Sound.{IsSound, once_listed, times}
+use Rattle.driver_laws.proofs.MoveLaws.{active-aside, active-eld, active-eld-other, active-held, active-noroom, active-taken}
+use Rattle.driver_laws.proofs.MoveLaws.{active-young}
 use Rattle.driver_laws.proofs.SoundLaws.{entry_of}
+use Rattle.sgx_rules.specs.declared.entries.Look.TheVariants as looks
 
 -- ---- lists
 
@@ -88,32 +90,82 @@ longer past e a list marks none =
     (marks g ∙ ap (λ b. if b then false else is_young past g) (none_of (active past) a g none k))) i
     ++ marked_same past e a false (marks a ∙ ap (λ b. if b then false else is_young past a) (same_page-refl a)) i ∷ []
 
+-- a page that is not here stands nowhere in the list
+none_listed : (past : List Entry) (g : Page) → IsSound past → is_here (place past g) ≡ false → times (active past) g ≡ 0
+none_listed past g s away = s.list g ∙ rw away (either (is_own_page g))
+  where
+    zero : ℕ
+    zero = 0
+
+    either : (b : Bool) → (if b then zero else 0) ≡ zero
+    either true = refl
+    either false = refl
+
+-- the mark of a page that is none of the list changes
+beside : (past : List Entry) (e : Entry) (a : Page) → is_own_page a ≡ false → IsSound past → active (e ∷ past) ≡ active past
+    → ((g : Page) → is_young (e ∷ past) g ≡ (if same_page a g then false else is_young past g)) → listed_by (e ∷ past) ≡ listed_by past
+beside past e a other s list marks =
+    ap (map (marked (e ∷ past))) list ∙ map_same (marked (e ∷ past)) (marked past) (active past)
+    (λ g k. marked_same past e g (is_young past g)
+    (marks g ∙ ap (λ b. if b then false else is_young past g) (none_of (active past) a g none k)))
+  where
+    none : times (active past) a ≡ 0
+    none = s.list a ∙ rw other refl
+
 pub listed-add : (past : List Entry) (a : Actor) (e n : ℕ) (f : Frame) (kind : Kind) (perm : Perm) (init : PageInit) (answer : Answer)
     → CanMove past (Did (Add e n f kind perm init) answer) → IsSound past
     → listed_by (entry_of a
     (Did (Add e n f kind perm init) answer) ∷ past) ≡ listed_by past ++ record { page = page_at e n; young = false } ∷ []
 listed-add past a e n f kind perm init answer can s =
     longer past (entry_of a (Did (Add e n f kind perm init) answer)) (page_at e n) refl (λ g. refl)
-    (s.list (page_at e n) ∙ ap once_here can.1)
+    (none_listed past (page_at e n) s (ap is_here can.1))
 
-pub listed-eld : (past : List Entry) (a : Actor) (f : Frame) (page : Page) (version : ℕ) (tag : List ℕ)
+-- a TCS or REG page that comes back, and another page
+pub listed-eld : (past : List Entry) (a : Actor) (f : Frame) (page : Page) (version : ℕ) (tag : List ℕ) → is_own_page page ≡ true
     → CanMove past (Did (Eld f) (Moved page version tag)) → IsSound past
     → listed_by (entry_of a (Did (Eld f) (Moved page version tag)) ∷ past) ≡ listed_by past ++ record { page = page; young = false } ∷ []
-listed-eld past a f page version tag can s =
-    longer past (entry_of a (Did (Eld f) (Moved page version tag))) page refl (λ g. refl) (s.list page ∙ ap once_here can.1)
+listed-eld past a f page version tag own can s =
+    longer past (entry_of a (Did (Eld f) (Moved page version tag))) page (active-eld past a f page version tag own) (λ g. refl)
+    (none_listed past page s (ap is_here can.1))
+
+pub listed-eld-other : (past : List Entry) (a : Actor) (f : Frame) (page : Page) (version : ℕ) (tag : List ℕ) → is_own_page page ≡ false
+    → IsSound past
+    → listed_by (entry_of a (Did (Eld f) (Moved page version tag)) ∷ past) ≡ listed_by past
+listed-eld-other past a f page version tag other s =
+    beside past (entry_of a (Did (Eld f) (Moved page version tag))) page other s (active-eld-other past a f page version tag other)
+    (λ g. refl)
 
 -- ---- a page is looked at
 
 -- the head of the list stands in it once
 once_there : (past : List Entry) (a : Page) (xs : List Page) → IsSound past → active past ≡ a ∷ xs → times xs a ≡ 0
-once_there past a xs s list = by_place (place past a) (sym (ap (λ pages. times pages a) list) ∙ s.list a)
+once_there past a xs s list =
+    by_place (is_own_page a) (is_here (place past a)) (sym (ap (λ pages. times pages a) list) ∙ s.list a)
   where
-    by_place : (p : Place) → (if same_page a a then 1 else 0) + times xs a ≡ once_here p → times xs a ≡ 0
-    by_place p k = by_here (is_here p) (rw (same_page-refl a) at k)
+    by_place : (own b : Bool) → (if same_page a a then 1 else 0) + times xs a ≡ (if own then (if b then 1 else 0) else 0) → times xs a ≡ 0
+    by_place own b k = by_here own b (rw (same_page-refl a) at k)
       where
-        by_here : (b : Bool) → 1 + times xs a ≡ (if b then 1 else 0) → times xs a ≡ 0
-        by_here true m = omega (arith, m)
-        by_here false m = absurd (omega (arith, m))
+        by_here : (own b : Bool) → 1 + times xs a ≡ (if own then (if b then 1 else 0) else 0) → times xs a ≡ 0
+        by_here true true m = omega (arith, m)
+        by_here true false m = absurd (omega (arith, m))
+        by_here false b m = absurd (omega (arith, m))
+
+-- .. and is a TCS or REG page
+pub head_own : (past : List Entry) (a : Page) → IsSound past → head_of (active past) ≡ Some a → is_own_page a ≡ true
+head_own past a s head = by_list (active past) refl head
+  where
+    by_own : (own b : Bool) (n : ℕ) → is_own_page a ≡ own → 1 + n ≡ (if own then (if b then 1 else 0) else 0) → is_own_page a ≡ true
+    by_own true b n is k = is
+    by_own false b n is k = absurd (omega (arith, k))
+
+    by_list : (pages : List Page) → active past ≡ pages → head_of pages ≡ Some a → is_own_page a ≡ true
+    by_list [] is k = cc
+    by_list (x ∷ xs) is k =
+        let same : x ≡ a = cc in
+        let list : active past ≡ a ∷ xs = is ∙ ap (λ y. y ∷ xs) same in
+        let count : (if same_page a a then 1 else 0) + times xs a ≡ once_listed a (place past a) =
+        sym (ap (λ pages. times pages a) list) ∙ s.list a in
+        by_own (is_own_page a) (is_here (place past a)) (times xs a) refl (rw (same_page-refl a) at count)
 
 -- those behind the head keep their marks
 rest_same : (past : List Entry) (by : Actor) (a : Page) (look : Look) (xs : List Page) → times xs a ≡ 0
@@ -125,7 +177,8 @@ rest_same past by a look xs none = map_same (marked (entry_of by (Age a look) �
 -- a page that is taken leaves the list
 pub listed-taken : (past : List Entry) (by : Actor) (a : Page) → head_of (active past) ≡ Some a → IsSound past
     → listed_by (entry_of by (Age a looks.Taken) ∷ past) ≡ drop 1 (listed_by past)
-listed-taken past by a head s = by_list (active past) refl head
+listed-taken past by a head s = ap (map (marked (entry_of by (Age a looks.Taken) ∷ past)))
+    (active-taken past by a (head_own past a s head)) ∙ by_list (active past) refl head
   where
     by_list : (pages : List Page) → active past ≡ pages → head_of pages ≡ Some a
         → map (marked (entry_of by (Age a looks.Taken) ∷ past)) (drop 1 (active past)) ≡ drop 1 (map (marked past) (active past))
@@ -152,15 +205,26 @@ turned_by past by a look head s = by_list (active past) refl head
 
 pub listed-young : (past : List Entry) (by : Actor) (a : Page) → head_of (active past) ≡ Some a → IsSound past
     → listed_by (entry_of by (Age a looks.Young) ∷ past) ≡ turned (listed_by past)
-listed-young past by a head s = turned_by past by a looks.Young head s
+listed-young past by a head s =
+    ap (map (marked (entry_of by (Age a looks.Young) ∷ past))) (active-young past by a (head_own past a s head))
+    ∙ turned_by past by a looks.Young head s
 
 pub listed-held : (past : List Entry) (by : Actor) (a : Page) → head_of (active past) ≡ Some a → IsSound past
     → listed_by (entry_of by (Age a looks.Held) ∷ past) ≡ turned (listed_by past)
-listed-held past by a head s = turned_by past by a looks.Held head s
+listed-held past by a head s =
+    ap (map (marked (entry_of by (Age a looks.Held) ∷ past))) (active-held past by a (head_own past a s head))
+    ∙ turned_by past by a looks.Held head s
 
 pub listed-noroom : (past : List Entry) (by : Actor) (a : Page) → head_of (active past) ≡ Some a → IsSound past
     → listed_by (entry_of by (Age a looks.NoRoom) ∷ past) ≡ turned (listed_by past)
-listed-noroom past by a head s = turned_by past by a looks.NoRoom head s
+listed-noroom past by a head s =
+    ap (map (marked (entry_of by (Age a looks.NoRoom) ∷ past))) (active-noroom past by a (head_own past a s head))
+    ∙ turned_by past by a looks.NoRoom head s
+
+-- a look at a SECS or a version array page leaves the list
+pub listed-aside : (past : List Entry) (by : Actor) (a : Page) (look : Look) → is_own_page a ≡ false → IsSound past
+    → listed_by (entry_of by (Age a look) ∷ past) ≡ listed_by past
+listed-aside past by a look other s = beside past (entry_of by (Age a look)) a other s (active-aside past by a look other) (λ g. refl)
 
 -- ---- a page is used
 

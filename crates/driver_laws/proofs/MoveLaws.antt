@@ -1,35 +1,37 @@
 -- Where each kind of entry leaves a page and the list, as equations to rewrite by.
-use Rattle.std.proofs.Common.{◌≡◌, ℕ, Bool, true, false, if◌then◌else◌, refl, ◌∙◌, ap, List, [], ◌∷◌, ◌++◌}
-use Rattle.std.proofs.Common.{drop, Some}
+use Rattle.std.proofs.Common.{◌≡◌, ℕ, ◌==◌, Bool, true, false, if◌then◌else◌, refl, ◌∙◌, ap, List, [], ◌∷◌, ◌++◌}
+use Rattle.std.proofs.Common.{drop, None, Some, sym}
 use Rattle.std.proofs.lemmas.Bool.{eq-eqb}
-use Rattle.sgx_rules.specs.declared.entries.Action.TheVariants.{Add, Ewb, EldStart, Eld}
+use Rattle.sgx_rules.specs.declared.entries.Action.TheVariants.{Add, Create, Eld, EldStart, Epa, Ewb}
 use Rattle.sgx_types.specs.declared.names.Actor.{Actor}
-use Rattle.sgx_types.specs.declared.names.Actor.TheVariants as actors
 use Rattle.sgx_rules.specs.declared.entries.Answer.{Answer}
 use Rattle.sgx_rules.specs.declared.entries.Answer.TheVariants.{Moved}
 use Rattle.sgx_rules.specs.declared.entries.Entry.{Entry}
 use Rattle.sgx_rules.specs.declared.entries.Event.{Event}
-use Rattle.sgx_rules.specs.declared.entries.Event.TheVariants.{Did, Refused, Age}
+use Rattle.sgx_rules.specs.declared.entries.Event.TheVariants.{Age, Did, Refused}
 use Rattle.sgx_rules.specs.declared.entries.Look.{Look}
-use Rattle.sgx_rules.specs.declared.entries.Look.TheVariants as looks
 use Rattle.sgx_types.specs.declared.lawful.PageInit.{PageInit}
 use Rattle.sgx_types.specs.declared.names.Cpu.{Cpu}
 use Rattle.sgx_types.specs.declared.names.Frame.{Frame}
 use Rattle.sgx_rules.specs.Processors.{is_by}
-use Rattle.driver_rules.specs.Turns.{Loads, Other, last_of}
+use Rattle.driver_rules.specs.Turns.{last_of, Loads, Other}
 use Rattle.sgx_types.specs.declared.names.Kind.{Kind}
 use Rattle.sgx_types.specs.declared.names.Page.{Page}
 use Rattle.sgx_types.specs.declared.names.Perm.{Perm}
 use Rattle.sgx_types.specs.declared.names.SlotAt.{SlotAt}
+use Rattle.sgx_types.specs.declared.names.VaSlot.{VaSlot}
 use Rattle.sgx_rules.specs.declared.refusals.Refusal.{Refusal}
-use Rattle.sgx_types.specs.Pages.{page_at, same_page}
-use Rattle.sgx_rules.specs.Starts.{Start, open_start}
+use Rattle.sgx_types.specs.Pages.{is_own_page, page_at, same_page, secs_page, va_page}
+use Rattle.sgx_rules.specs.Frames.{vas_made}
+use Rattle.sgx_rules.specs.Starts.{open_start, Start}
 use Rattle.sgx_types.proofs.Pages.{same_page-refl}
 use Rattle.driver_laws.specs.inner.Kinds.{is_quiet}
-use Rattle.driver_rules.specs.Places.{Away, Here, Leaving, Loading, active, is_young, place, to_tail}
-use Rattle.driver_laws.specs.inner.Sound.{IsSound, load_slot, slot_loading}
-use Rattle.driver_laws.proofs.PlaceLaws.{loads_one}
+use Rattle.driver_rules.specs.Places.{Absent, active, Away, back_from, Here, is_young, Leaving, Loading, Place, place, to_tail}
+use Rattle.driver_laws.specs.inner.Sound.{IsSound, load_slot, slot_if, slot_loading}
+use Rattle.driver_laws.proofs.PlaceLaws.{loads_no_other}
 use Rattle.driver_laws.proofs.SoundLaws.{entry_of}
+use Rattle.sgx_types.specs.declared.names.Actor.TheVariants as actors
+use Rattle.sgx_rules.specs.declared.entries.Look.TheVariants as looks
 
 -- ---- places
 
@@ -42,6 +44,25 @@ pub place-add-other : (past : List Entry) (a : Actor) (e n : ℕ) (f : Frame) (k
     (g : Page) → same_page (page_at e n) g ≡ false
     → place (entry_of a (Did (Add e n f kind perm init) answer) ∷ past) g ≡ place past g
 place-add-other past a e n f kind perm init answer g other = rw other refl
+
+-- a version array page that is made is here, and so is the SECS of an enclave that is created
+pub place-epa : (past : List Entry) (a : Actor) (f : Frame) (answer : Answer)
+    → place (entry_of a (Did (Epa f) answer) ∷ past) (va_page (vas_made past)) ≡ Here f.0
+place-epa past a f answer = rw (same_page-refl (va_page (vas_made past))) refl
+
+pub place-epa-other : (past : List Entry) (a : Actor) (f : Frame) (answer : Answer) (g : Page)
+    → same_page (va_page (vas_made past)) g ≡ false
+    → place (entry_of a (Did (Epa f) answer) ∷ past) g ≡ place past g
+place-epa-other past a f answer g other = rw other refl
+
+pub place-create : (past : List Entry) (a : Actor) (e : ℕ) (f : Frame) (base size : ℕ) (answer : Answer)
+    → place (entry_of a (Did (Create e f base size) answer) ∷ past) (secs_page e) ≡ Here f.0
+place-create past a e f base size answer = rw (same_page-refl (secs_page e)) refl
+
+pub place-create-other : (past : List Entry) (a : Actor) (e : ℕ) (f : Frame) (base size : ℕ) (answer : Answer) (g : Page)
+    → same_page (secs_page e) g ≡ false
+    → place (entry_of a (Did (Create e f base size) answer) ∷ past) g ≡ place past g
+place-create-other past a e f base size answer g other = rw other refl
 
 -- a page that is taken is leaving
 pub place-taken : (past : List Entry) (a : Actor) (g : Page) (f : ℕ) → place past g ≡ Here f
@@ -68,21 +89,22 @@ place-noroom past a page g = either (same_page page g) (place past g)
 
 -- a page that went out is away in the slot of the start that ended
 pub place-ewb : (past : List Entry) (a : Actor) (f : Frame) (g : Page) (version : ℕ) (tag : List ℕ) (x : Start)
-    → open_start past f.0 ≡ Some x → place (entry_of a (Did (Ewb f) (Moved g version tag)) ∷ past) g ≡ Away x.at
+    → open_start past f.0 ≡ Some x → place (entry_of a (Did (Ewb f) (Moved g version tag)) ∷ past) g ≡ Away x.slot
 place-ewb past a f g version tag x now = rw (same_page-refl g, now) refl
 
 pub place-ewb-other : (past : List Entry) (a : Actor) (f : Frame) (page g : Page) (version : ℕ) (tag : List ℕ) → same_page page g ≡ false
     → place (entry_of a (Did (Ewb f) (Moved page version tag)) ∷ past) g ≡ place past g
 place-ewb-other past a f page g version tag other = rw other refl
 
--- a page whose load begins is loading
-pub place-eldstart : (past : List Entry) (a : Actor) (f : Frame) (g : Page) (slot : SlotAt) (answer : Answer)
-    → place (entry_of a (Did (EldStart f g slot) answer) ∷ past) g ≡ Loading f.0 slot
-place-eldstart past a f g slot answer = rw (same_page-refl g) refl
+-- a page whose load begins is loading from the slot in which it is
+pub place-eldstart : (past : List Entry) (a : Actor) (f : Frame) (g : Page) (to : SlotAt) (answer : Answer) (slot : VaSlot)
+    → place past g ≡ Away slot
+    → place (entry_of a (Did (EldStart f g to) answer) ∷ past) g ≡ Loading f.0 slot
+place-eldstart past a f g to answer slot away = rw (same_page-refl g, away) refl
 
-pub place-eldstart-other : (past : List Entry) (a : Actor) (f : Frame) (page g : Page) (slot : SlotAt) (answer : Answer)
-    → same_page page g ≡ false → place (entry_of a (Did (EldStart f page slot) answer) ∷ past) g ≡ place past g
-place-eldstart-other past a f page g slot answer other = rw other refl
+pub place-eldstart-other : (past : List Entry) (a : Actor) (f : Frame) (page g : Page) (to : SlotAt) (answer : Answer)
+    → same_page page g ≡ false → place (entry_of a (Did (EldStart f page to) answer) ∷ past) g ≡ place past g
+place-eldstart-other past a f page g to answer other = rw other refl
 
 -- a page that came back is here
 pub place-eld : (past : List Entry) (a : Actor) (f : Frame) (g : Page) (version : ℕ) (tag : List ℕ)
@@ -94,27 +116,40 @@ pub place-eld-other : (past : List Entry) (a : Actor) (f : Frame) (page g : Page
 place-eld-other past a f page g version tag other = rw other refl
 
 -- a page whose load was refused is away in its slot
-pub place-eld-refused : (past : List Entry) (a : Actor) (f : Frame) (refusal : Refusal) (g : Page) (slot : SlotAt) → IsSound past
+pub place-eld-refused : (past : List Entry) (a : Actor) (f : Frame) (refusal : Refusal) (g : Page) (slot : VaSlot)
     → place past g ≡ Loading f.0 slot
     → place (entry_of a (Refused (Eld f) refusal) ∷ past) g ≡ Away slot
-place-eld-refused past a f refusal g slot s loading = rw (loads_one (open_start past f.0) g g slot load, same_page-refl g, loading) refl
-  where
-    load : load_slot (open_start past f.0) g ≡ Some slot
-    load = s.places.loads g f.0 ∙ ap (λ y. slot_loading y f.0) loading ∙ rw (eq-eqb f.0 f.0 refl) refl
+place-eld-refused past a f refusal g slot loading = rw (loading, eq-eqb f.0 f.0 refl) refl
 
-pub place-eld-refused-other : (past : List Entry) (a : Actor) (f : Frame) (refusal : Refusal) (page g : Page) (slot : SlotAt) → IsSound past
+pub place-eld-refused-other : (past : List Entry) (a : Actor) (f : Frame) (refusal : Refusal) (page g : Page) (slot : VaSlot) → IsSound past
     → place past page ≡ Loading f.0 slot → same_page page g ≡ false
     → place (entry_of a (Refused (Eld f) refusal) ∷ past) g ≡ place past g
-place-eld-refused-other past a f refusal page g slot s loading other = rw (loads_one (open_start past f.0) page g slot load, other) refl
+place-eld-refused-other past a f refusal page g slot s loading other = by_place (place past g) none
   where
     load : load_slot (open_start past f.0) page ≡ Some slot
     load = s.places.loads page f.0 ∙ ap (λ y. slot_loading y f.0) loading ∙ rw (eq-eqb f.0 f.0 refl) refl
+
+    none : slot_loading (place past g) f.0 ≡ None
+    none = sym (s.places.loads g f.0) ∙ loads_no_other (open_start past f.0) page g slot load other
+
+    by_place : (p : Place) → slot_loading p f.0 ≡ None → back_from f.0 p ≡ p
+    by_place Absent h = refl
+    by_place (Here n) h = refl
+    by_place (Leaving n) h = refl
+    by_place (Away t) h = refl
+    by_place (Loading n t) h = by_frame (n == f.0) h
+      where
+        by_frame : (b : Bool) → slot_if b t ≡ None → (if b then Away t else Loading n t) ≡ Loading n t
+        by_frame true k = cc
+        by_frame false k = refl
 
 -- every other entry moves no page
 pub place-quiet : (past : List Entry) (e : Entry) (g : Page) → is_quiet e.event ≡ true → place (e ∷ past) g ≡ place past g
 place-quiet past e g quiet = by_event e.event quiet
   where
     by_event : (ev : Event) → is_quiet ev ≡ true → place (entry_of e.actor ev ∷ past) g ≡ place past g
+    by_event (Did (Epa f) answer) k = cc
+    by_event (Did (Create enclave f base size) answer) k = cc
     by_event (Did (Add n number f kind perm init) answer) k = cc
     by_event (Did (Ewb f) (Moved page version tag)) k = cc
     by_event (Did (EldStart f page slot) answer) k = cc
@@ -129,22 +164,35 @@ pub active-add : (past : List Entry) (a : Actor) (e n : ℕ) (f : Frame) (kind :
     → active (entry_of a (Did (Add e n f kind perm init) answer) ∷ past) ≡ active past ++ page_at e n ∷ []
 active-add past a e n f kind perm init answer = refl
 
-pub active-eld : (past : List Entry) (a : Actor) (f : Frame) (page : Page) (version : ℕ) (tag : List ℕ)
+pub active-eld : (past : List Entry) (a : Actor) (f : Frame) (page : Page) (version : ℕ) (tag : List ℕ) → is_own_page page ≡ true
     → active (entry_of a (Did (Eld f) (Moved page version tag)) ∷ past) ≡ active past ++ page ∷ []
-active-eld past a f page version tag = refl
+active-eld past a f page version tag own = rw own refl
 
-pub active-taken : (past : List Entry) (a : Actor) (page : Page) → active (entry_of a (Age page looks.Taken) ∷ past) ≡ drop 1 (active past)
-active-taken past a page = refl
+-- a SECS or a version array page that comes back does not come into the list
+pub active-eld-other : (past : List Entry) (a : Actor) (f : Frame) (page : Page) (version : ℕ) (tag : List ℕ) → is_own_page page ≡ false
+    → active (entry_of a (Did (Eld f) (Moved page version tag)) ∷ past) ≡ active past
+active-eld-other past a f page version tag other = rw other refl
 
-pub active-young : (past : List Entry) (a : Actor) (page : Page) → active (entry_of a (Age page looks.Young) ∷ past) ≡ to_tail (active past)
-active-young past a page = refl
+pub active-taken : (past : List Entry) (a : Actor) (page : Page) → is_own_page page ≡ true
+    → active (entry_of a (Age page looks.Taken) ∷ past) ≡ drop 1 (active past)
+active-taken past a page own = rw own refl
 
-pub active-held : (past : List Entry) (a : Actor) (page : Page) → active (entry_of a (Age page looks.Held) ∷ past) ≡ to_tail (active past)
-active-held past a page = refl
+pub active-young : (past : List Entry) (a : Actor) (page : Page) → is_own_page page ≡ true
+    → active (entry_of a (Age page looks.Young) ∷ past) ≡ to_tail (active past)
+active-young past a page own = rw own refl
 
-pub active-noroom : (past : List Entry) (a : Actor) (page : Page)
+pub active-held : (past : List Entry) (a : Actor) (page : Page) → is_own_page page ≡ true
+    → active (entry_of a (Age page looks.Held) ∷ past) ≡ to_tail (active past)
+active-held past a page own = rw own refl
+
+pub active-noroom : (past : List Entry) (a : Actor) (page : Page) → is_own_page page ≡ true
     → active (entry_of a (Age page looks.NoRoom) ∷ past) ≡ to_tail (active past)
-active-noroom past a page = refl
+active-noroom past a page own = rw own refl
+
+-- .. and a look at one leaves the list
+pub active-aside : (past : List Entry) (a : Actor) (page : Page) (look : Look) → is_own_page page ≡ false
+    → active (entry_of a (Age page look) ∷ past) ≡ active past
+active-aside past a page look other = rw other refl
 
 pub active-quiet : (past : List Entry) (e : Entry) → is_quiet e.event ≡ true → active (e ∷ past) ≡ active past
 active-quiet past e quiet = by_event e.event quiet

@@ -1,49 +1,48 @@
 -- By the rule Script looks, kicks, blocks, tracks and write-outs are the reclaimer's alone, and a load is begun for a page that is away.
 use Rattle.std.proofs.Common.{◌≡◌, ℕ, not, Bool, true, false, if◌then◌else◌, refl, sym, ◌∙◌, ap, List, Option, Some}
-use Rattle.std.proofs.Common.{None, slice_get}
+use Rattle.std.proofs.Common.{None, slice_get, subst, ◌&&◌, ◌==◌}
 use Rattle.std.proofs.lemmas.Bool.{false≢true}
 use Rattle.sgx_rules.specs.declared.entries.AccessOp.{AccessOp}
-use Rattle.sgx_rules.specs.declared.entries.AccessOp.TheVariants as accesses
 use Rattle.sgx_rules.specs.declared.entries.Action.{Action}
-use Rattle.sgx_rules.specs.declared.entries.Action.TheVariants as actions
 use Rattle.sgx_types.specs.declared.names.Actor.{Actor}
-use Rattle.sgx_types.specs.declared.names.Actor.TheVariants as actors
 use Rattle.sgx_rules.specs.declared.entries.Answer.{Answer}
 use Rattle.sgx_rules.specs.declared.entries.Entry.{Entry}
 use Rattle.sgx_rules.specs.declared.entries.Event.{Event}
-use Rattle.sgx_rules.specs.declared.entries.Event.TheVariants.{Did, Refused, Age, Kick, Bus}
+use Rattle.sgx_rules.specs.declared.entries.Event.TheVariants.{Age, Bus, Did, Kick, Refused}
 use Rattle.sgx_types.specs.declared.names.Page.{Page}
 use Rattle.sgx_types.specs.declared.names.SlotAt.{SlotAt}
+use Rattle.sgx_types.specs.declared.names.VaSlot.{VaSlot}
 use Rattle.sgx_rules.specs.declared.refusals.Refusal.{Refusal}
 use Rattle.sgx_rules.specs.Flat.{at_offset}
 use Rattle.sgx_types.specs.declared.names.Frame.{Frame}
-use Rattle.sgx_types.specs.Pages.{page_at}
 use Rattle.sgx_rules.specs.Frames.{added, content, frame_of, least_free}
-use Rattle.sgx_rules.specs.Processors.{Stay, holds_number, stay, translations}
+use Rattle.sgx_types.specs.Pages.{is_own_page, page_at, secs_page, va_page}
+use Rattle.sgx_rules.specs.Processors.{holds_number, Stay, stay, translations}
 use Rattle.sgx_rules.specs.Table.{is_lawful_access}
 use Rattle.job_grammar.specs.declared.jobs.Op.{Op}
-use Rattle.job_grammar.specs.declared.jobs.Op.TheVariants as ops
 use Rattle.job_grammar.specs.Jobs.{JobView}
 use Rattle.turn_rules.specs.declared.steps.BuildStep.{BuildStep}
-use Rattle.turn_rules.specs.declared.steps.BuildStep.TheVariants as builds
 use Rattle.turn_rules.specs.Script.{action_of, build_of, built, enter_with, frame_at, is_turned_away, resume_with, with_frame}
-use Rattle.driver_rules.specs.Needs.{Interruption, interruption, needs_after, needs_to_enter, needs_to_resume, next_op}
-use Rattle.driver_rules.specs.Needs.{save_to_enter}
+use Rattle.driver_rules.specs.Needs.{Interruption, interruption, needs_after, needs_to_enter, needs_to_resume, next_op, save_to_enter}
 use Rattle.driver_rules.specs.Needs.{save_to_resume}
-use Rattle.driver_rules.specs.Places.{Absent, Away, Here, Leaving, Loading, Place, frame_here, place}
+use Rattle.driver_rules.specs.Places.{Absent, Away, frame_here, Here, is_here, Leaving, Loading, Place, place}
+use Rattle.driver_rules.specs.Targets.{slot_here, target_by, target_from}
 use Rattle.driver_rules.specs.Scripts.{IsActors, ScriptRule}
-use Rattle.driver_laws.specs.inner.Tracks.{OwnRule, is_reclaimers}
+use Rattle.driver_laws.specs.inner.Tracks.{is_reclaimers, OwnRule}
 use Rattle.driver_rules.specs.declared.waits.Why.{Why}
-use Rattle.driver_rules.specs.declared.waits.Why.TheVariants as waits
-use Rattle.driver_rules.specs.Dues.{Due, Ends, Fetches, Finished, IsFetch, IsNext, KicksAll, LooksAt, Makes, Reports, Stopped}
-use Rattle.driver_rules.specs.Dues.{TriesOut}
-use Rattle.driver_rules.specs.Dues.{Waits, makes_or}
+use Rattle.driver_rules.specs.Dues.{Asks, Due, Ends, Fetch, Fetches, Finished, IsFetch, IsNext, KicksAll, load_by, LooksAt, Makes}
+use Rattle.driver_rules.specs.Dues.{makes_or, Reports, Stopped, TriesOut, Waits, WaitsFor}
 use Rattle.driver_rules.specs.Stops.{is_spent}
-use Rattle.driver_rules.specs.Turns.{Fails, Last, Loads, Other, WasEnded, accesses_by, builder_due, cpu_due, due_after}
-use Rattle.driver_rules.specs.Turns.{early_turn, enters}
-use Rattle.driver_rules.specs.Turns.{fetches, fills, first_away, inside_turn, is_built, is_kicked, is_last, last_of, op_turn}
-use Rattle.driver_rules.specs.Turns.{outside_turn}
-use Rattle.driver_rules.specs.Turns.{resumes, save_frame, stay_turn, step_turn, turn_due, with_pages}
+use Rattle.driver_rules.specs.Turns.{accesses_by, builder_due, cpu_due, due_after, early_turn, enters, Fails, fetch, fetch_by, fetches}
+use Rattle.driver_rules.specs.Turns.{fills, first_away, inside_turn, is_built, is_kicked, is_last, Last, last_of, Loads, op_turn}
+use Rattle.driver_rules.specs.Turns.{Other, outside_turn, resumes, save_frame, stay_turn, step_turn, turn_due, WasEnded, with_pages}
+use Rattle.sgx_rules.specs.declared.entries.AccessOp.TheVariants as accesses
+use Rattle.sgx_rules.specs.declared.entries.Action.TheVariants as actions
+use Rattle.sgx_types.specs.declared.names.Actor.TheVariants as actors
+use Rattle.sgx_rules.specs.declared.refusals.Refusal.TheVariants as why
+use Rattle.job_grammar.specs.declared.jobs.Op.TheVariants as ops
+use Rattle.turn_rules.specs.declared.steps.BuildStep.TheVariants as builds
+use Rattle.driver_rules.specs.declared.waits.Why.TheVariants as waits
 
 -- ---- what is due moves no page but by a load
 
@@ -66,13 +65,27 @@ is_script (actions.Extend f chunk) = false
 is_script (actions.Init enclave expect) = false
 is_script action = not (is_paging action)
 
+-- a page is asked for that is away, by its slot, into the least free frame; for a TCS or REG page its SECS and the version array page
+-- of its slot are here
+pub record IsAsk (j : JobView) (past : List Entry) (g : Page) (slot : Option SlotAt) (free : Option ℕ) : Type 0 where
+  pub away : VaSlot
+  pub at : place past g ≡ Away away
+  pub slot_is : slot ≡ slot_here past away
+  pub free_is : free ≡ least_free j.epc (content past)
+  pub secs : is_own_page g ≡ true → is_here (place past (secs_page g.enclave)) ≡ true
+  pub array : is_own_page g ≡ true → is_here (place past (va_page away.va)) ≡ true
+
+abbrev pub FetchIs : JobView → List Entry → Fetch → Type 0
+FetchIs j past (WaitsFor target) = Unit {0}
+FetchIs j past (Asks target slot free) = IsAsk j past target slot free
+
 -- a processor with no open start makes only such, or begins a load of a page that is away
 abbrev pub OfTurn : JobView → List Entry → Due → Type 0
 OfTurn j past (Makes action) = is_script action ≡ true
 OfTurn j past (Ends action) = ⊥
-OfTurn j past (Fetches g slot free) = (place past g ≡ Away slot) × (free ≡ least_free j.epc (content past))
+OfTurn j past (Fetches g fetch) = FetchIs j past fetch
 OfTurn j past (LooksAt page held young) = ⊥
-OfTurn j past (TriesOut n) = ⊥
+OfTurn j past (TriesOut g n) = ⊥
 OfTurn j past (KicksAll cpus) = ⊥
 OfTurn j past _ = Unit {0}
 
@@ -80,9 +93,9 @@ OfTurn j past _ = Unit {0}
 abbrev pub Plain : JobView → List Entry → Due → Type 0
 Plain j past (Makes action) = is_paging action ≡ false
 Plain j past (Ends action) = (f : Frame) × (action ≡ actions.Eld f)
-Plain j past (Fetches g slot free) = (place past g ≡ Away slot) × (free ≡ least_free j.epc (content past))
+Plain j past (Fetches g fetch) = FetchIs j past fetch
 Plain j past (LooksAt page held young) = ⊥
-Plain j past (TriesOut n) = ⊥
+Plain j past (TriesOut g n) = ⊥
 Plain j past (KicksAll cpus) = ⊥
 Plain j past _ = Unit {0}
 
@@ -90,11 +103,67 @@ either : (P : Due → Type 0) (b : Bool) (x y : Due) → P x → P y → P (if b
 either P true x y h k = h
 either P false x y h k = k
 
+fetch_is : (j : JobView) (past : List Entry) (t : Page) → (is_own_page t ≡ true → is_here (place past (secs_page t.enclave)) ≡ true)
+    → ((slot : VaSlot) → place past t ≡ Away slot → is_own_page t ≡ true → is_here (place past (va_page slot.va)) ≡ true)
+    → FetchIs j past (fetch j.epc past t)
+fetch_is j past t secs array = by_place (place past t) refl
+  where
+    by_place : (at : Place) → place past t ≡ at → FetchIs j past (fetch_by j.epc past t at)
+    by_place (Away slot) is = record {
+      away = slot;
+      at = is;
+      slot_is = refl;
+      free_is = refl;
+      secs = secs;
+      array = array slot is;
+    }
+    by_place Absent is = tt
+    by_place (Here f) is = tt
+    by_place (Leaving f) is = tt
+    by_place (Loading f slot) is = tt
+
+not_own_secs : (e : ℕ) → is_own_page (secs_page e) ≡ false
+not_own_secs e = by_test (e == 0)
+  where
+    by_test : (b : Bool) → (not b && false) ≡ false
+    by_test true = refl
+    by_test false = refl
+
+-- the page that is brought back first has what it needs here
+pub target_is : (j : JobView) (past : List Entry) (g : Page) (slot : VaSlot) → place past g ≡ Away slot
+    → FetchIs j past (fetch j.epc past (target_by past g (Away slot)))
+target_is j past g slot is = by_own (is_own_page g) refl
+  where
+    none : (t : Page) → is_own_page t ≡ false → FetchIs j past (fetch j.epc past t)
+    none t other =
+        fetch_is j past t (λ own. absurd (false≢true (sym other ∙ own))) (λ s at own. absurd (false≢true (sym other ∙ own)))
+
+    its_slot : (s : VaSlot) → Away slot ≡ Away s → slot ≡ s
+    its_slot s h = cc
+
+    by_array : (c : Bool) → is_here (place past (va_page slot.va)) ≡ c → is_here (place past (secs_page g.enclave)) ≡ true
+        → FetchIs j past (fetch j.epc past (if c then g else va_page slot.va))
+    by_array true here secs =
+        fetch_is j past g (λ own. secs)
+        (λ s at own. subst (λ (x : VaSlot). is_here (place past (va_page x.va)) ≡ true) (its_slot s (sym is ∙ at)) here)
+    by_array false here secs = none (va_page slot.va) refl
+
+    by_secs : (b : Bool) → is_here (place past (secs_page g.enclave)) ≡ b
+        → FetchIs j past (fetch j.epc past (if b then (if is_here (place past (va_page slot.va)) then g else va_page slot.va)
+        else secs_page g.enclave))
+    by_secs true secs = by_array (is_here (place past (va_page slot.va))) refl secs
+    by_secs false secs = none (secs_page g.enclave) (not_own_secs g.enclave)
+
+    by_own : (b : Bool) → is_own_page g ≡ b
+        → FetchIs j past (fetch j.epc past (if b then target_from past g slot else g))
+    by_own true own = by_secs (is_here (place past (secs_page g.enclave))) refl
+    by_own false other = none g other
+
 fetch_script : (j : JobView) (past : List Entry) (g : Page) → OfTurn j past (fetches j.epc past g (place past g))
 fetch_script j past g = by_place (place past g) refl
   where
     by_place : (at : Place) → place past g ≡ at → OfTurn j past (fetches j.epc past g at)
-    by_place (Away slot) is = (is, refl)
+    by_place (Away slot) is = target_is j past g slot is
     by_place Absent is = tt
     by_place (Here f) is = tt
     by_place (Leaving f) is = tt
@@ -197,9 +266,9 @@ paging_none _ h = refl
 plain_of : (j : JobView) (past : List Entry) (d : Due) → OfTurn j past d → Plain j past d
 plain_of j past (Makes action) h = paging_none action h
 plain_of j past (Ends action) h = absurd h
-plain_of j past (Fetches g slot free) h = h
+plain_of j past (Fetches g fetch) h = h
 plain_of j past (LooksAt page held young) h = absurd h
-plain_of j past (TriesOut n) h = absurd h
+plain_of j past (TriesOut g n) h = absurd h
 plain_of j past (KicksAll cpus) h = absurd h
 plain_of j past _ h = tt
 
@@ -295,13 +364,19 @@ ended_own f (Age page look) same = cc
 ended_own f (Kick cpu) same = cc
 ended_own f (Bus page why) same = cc
 
-fetched_own : (g : Page) (slot : SlotAt) (o : Option ℕ) (ev : Event) → IsFetch g slot o ev → is_reclaimers ev ≡ false
-fetched_own g slot None (Bus page why) k = refl
-fetched_own g slot None _ k = absurd k
-fetched_own g slot (Some f) (Bus page why) k = refl
-fetched_own g slot (Some f) (Did a answer) k = ap (λ y. is_reclaimers (Did y answer)) k
-fetched_own g slot (Some f) (Refused a refusal) k = ap (λ y. is_reclaimers (Refused y refusal)) k
-fetched_own g slot (Some f) _ k = absurd k
+-- the load of a page is an `eldstart`
+pub loaded_own : (target : Page) (slot : Option SlotAt) (f : ℕ) (a : Action) → load_by target slot f ≡ Some a → (g : Frame) × (at : SlotAt)
+    × (a ≡ actions.EldStart g target at)
+loaded_own target None f a k = cc
+loaded_own target (Some at) f a k = let told : actions.EldStart (frame_at f) target at ≡ a = cc in (frame_at f, at, sym told)
+
+fetched_own : (g : Page) (fetch : Fetch) (ev : Event) → IsFetch g fetch ev → is_reclaimers ev ≡ false
+fetched_own g fetch (Bus page why) k = refl
+fetched_own g (Asks target slot (Some f)) (Did a answer) k =
+    let l = loaded_own target slot f a k in ap (λ y. is_reclaimers (Did y answer)) l.2
+fetched_own g (Asks target slot (Some f)) (Refused a why.SlotEmpty) k =
+    let l = loaded_own target slot f a k in ap (λ y. is_reclaimers (Refused y why.SlotEmpty)) l.2
+fetched_own g _ ev k = absurd k
 
 -- what is next of a plain act is no entry of the reclaimer
 next_own : (j : JobView) (past : List Entry) (d : Due) (ev : Event) → Plain j past d → IsNext d ev → is_reclaimers ev ≡ false
@@ -311,9 +386,9 @@ next_own j past (Waits why) ev h n = absurd n
 next_own j past (Makes action) ev h n = made_own action h ev n
 next_own j past (Ends action) ev h n = ended_own h.0 ev (n ∙ ap Some h.1)
 next_own j past (Reports page why) ev h n = ap is_reclaimers n
-next_own j past (Fetches g slot free) ev h n = fetched_own g slot free ev n
+next_own j past (Fetches g fetch) ev h n = fetched_own g fetch ev n
 next_own j past (LooksAt page held young) ev h n = absurd h
-next_own j past (TriesOut f) ev h n = absurd h
+next_own j past (TriesOut g f) ev h n = absurd h
 next_own j past (KicksAll cpus) ev h n = absurd h
 
 -- looks, kicks, blocks, tracks and write-outs are the reclaimer's alone

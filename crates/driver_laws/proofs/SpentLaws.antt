@@ -2,9 +2,7 @@
 use Rattle.std.proofs.Common.{◌≡◌, ℕ, ◌&&◌, not, Bool, true, false, if◌then◌else◌, refl, sym, ◌∙◌, ap, List, []}
 use Rattle.std.proofs.Common.{◌∷◌, Option, Some, None}
 use Rattle.sgx_rules.specs.declared.entries.Action.{Action}
-use Rattle.sgx_rules.specs.declared.entries.Action.TheVariants as actions
 use Rattle.sgx_types.specs.declared.names.Actor.{Actor}
-use Rattle.sgx_rules.specs.declared.entries.Cause.TheVariants as causes
 use Rattle.sgx_rules.specs.declared.entries.Entry.{Entry}
 use Rattle.sgx_types.specs.declared.lawful.PageInit.{PageInit}
 use Rattle.sgx_types.specs.declared.names.Kind.{Kind}
@@ -13,8 +11,10 @@ use Rattle.sgx_rules.specs.declared.refusals.Refusal.{Refusal}
 use Rattle.sgx_rules.specs.Flat.{enclave_sight, flat}
 use Rattle.sgx_types.specs.Making.{Making}
 use Rattle.sgx_rules.specs.Sights.{enclave_of_stay, row_at, secs_sight_at, sight_at, stay_of}
-use Rattle.sgx_rules.specs.Table.{Case, EnclaveSight, FrameSight, SecsSight, add_row, fill_row, first_of_row, init_row}
+use Rattle.sgx_rules.specs.Table.{add_row, Case, EnclaveSight, fill_row, first_of_row, FrameSight, init_row, SecsSight}
 use Rattle.driver_rules.specs.Stops.{is_last_refusal}
+use Rattle.sgx_rules.specs.declared.entries.Action.TheVariants as actions
+use Rattle.sgx_rules.specs.declared.entries.Cause.TheVariants as causes
 
 -- no case of a row ends a run
 spares : List Case → Bool

@@ -6,21 +6,21 @@ use Rattle.sgx_rules.specs.declared.entries.Action.TheVariants as actions
 use Rattle.sgx_types.specs.declared.names.Actor.TheVariants as actors
 use Rattle.sgx_rules.specs.declared.entries.Entry.{Entry}
 use Rattle.sgx_rules.specs.declared.entries.Event.{Event}
-use Rattle.sgx_rules.specs.declared.entries.Event.TheVariants.{Did, Refused, Bus}
+use Rattle.sgx_rules.specs.declared.entries.Event.TheVariants.{Bus, Did, Refused}
 use Rattle.sgx_types.specs.declared.names.Cpu.{Cpu}
 use Rattle.sgx_types.specs.declared.names.Page.{Page}
 use Rattle.sgx_rules.specs.declared.refusals.Refusal.{Refusal}
-use Rattle.sgx_rules.specs.declared.refusals.Refusal.TheVariants as why
 use Rattle.sgx_rules.specs.Processors.{is_by}
 use Rattle.sgx_rules.specs.Rules.{Along}
-use Rattle.sgx_rules.specs.Starts.{Start, open_start}
+use Rattle.sgx_rules.specs.Starts.{open_start, Start}
 use Rattle.job_grammar.specs.Jobs.{JobView}
 use Rattle.driver_rules.specs.Scripts.{ScriptRule}
 use Rattle.driver_rules.specs.inner.Stops.{frame_started, last_event}
-use Rattle.driver_rules.specs.Turns.{fails_with, last_by, last_of, load_of}
+use Rattle.driver_rules.specs.Turns.{fails_with, last_by, last_of, load_of, start_fails}
 use Rattle.driver_laws.specs.inner.Tracks.{is_reclaimers}
 use Rattle.driver_laws.specs.inner.Started.{frame_loaded}
 use Rattle.driver_laws.proofs.OwnLaws.{script_own}
+use Rattle.sgx_rules.specs.declared.refusals.Refusal.TheVariants as why
 
 pub fails_none : (o : Option Page) (r : Refusal) → frame_loaded (fails_with o r) ≡ None
 fails_none (Some page) (why.MacFail given computed) = refl
@@ -28,9 +28,15 @@ fails_none (Some page) (why.BadHeader enclave address flags) = refl
 fails_none (Some page) _ = refl
 fails_none None r = refl
 
+-- a start that is refused opens nothing
+pub start_none : (page : Page) (r : Refusal) → frame_loaded (start_fails page r) ≡ None
+start_none page why.SlotEmpty = refl
+start_none page _ = refl
+
 last_same : (ev : Event) (opened : ℕ → Option Start) → is_reclaimers ev ≡ false → frame_started (Some ev) ≡ frame_loaded (last_by ev opened)
 last_same (Did (actions.EldStart f page slot) answer) opened own = refl
 last_same (Did (actions.EwbStart f slot) answer) opened own = cc
+last_same (Refused (actions.EldStart f page slot) r) opened own = sym (start_none page r)
 last_same (Refused (actions.Eld f) r) opened own = sym (fails_none (load_of (opened f.0)) r)
 last_same (Bus page reason) opened own = refl
 last_same _ opened own = refl

@@ -8,33 +8,32 @@ use Rattle.std.specs.List.{count_by}
 use Rattle.sgx_types.specs.Pages.{page_at}
 use Rattle.sgx_rules.specs.Frames.{content, frame_of, least_free}
 use Rattle.sgx_rules.specs.declared.entries.Action.{Action}
-use Rattle.sgx_rules.specs.declared.entries.Action.TheVariants as actions
 use Rattle.sgx_types.specs.declared.names.Actor.{Actor}
-use Rattle.sgx_types.specs.declared.names.Actor.TheVariants as actors
 use Rattle.sgx_rules.specs.declared.entries.Entry.{Entry}
 use Rattle.sgx_rules.specs.declared.entries.Event.{Event}
 use Rattle.sgx_rules.specs.declared.entries.Event.TheVariants.{Age, Bus, Did, Kick, Refused}
 use Rattle.sgx_types.specs.declared.names.Page.{Page}
-use Rattle.sgx_types.specs.declared.names.SlotAt.{SlotAt}
 use Rattle.job_grammar.specs.Jobs.{JobView}
 use Rattle.turn_rules.specs.Script.{action_of, build_of, built, frame_at, is_builder, step_action, with_frame}
 use Rattle.turn_rules.specs.declared.steps.BuildStep.{BuildStep}
-use Rattle.turn_rules.specs.declared.steps.BuildStep.TheVariants as builds
-use Rattle.driver_rules.specs.Ages.{AgeRule, InPass, PassOf}
-use Rattle.driver_rules.specs.Dues.{Due, Ends, Fetches, Finished, IsFetch, IsNext, KicksAll, LooksAt, Makes, Reports, Stopped}
-use Rattle.driver_rules.specs.Dues.{TriesOut}
-use Rattle.driver_rules.specs.Dues.{Waits, makes_or}
-use Rattle.driver_rules.specs.Passes.{Between, Blocking, Pass, Scan, Tries, pass}
+use Rattle.driver_rules.specs.Ages.{AgeOf, AgeRuleBy, Ahead, ahead, EndsNext, GoesOn, InPass, IsAhead, Looks, TriesNext}
+use Rattle.driver_rules.specs.Dues.{Asks, Due, Ends, Fetch, Fetches, Finished, IsFetch, IsNext, KicksAll, LooksAt, Makes, makes_or}
+use Rattle.driver_rules.specs.Dues.{Reports, Stopped, TriesOut, Waits}
+use Rattle.driver_rules.specs.Passes.{Between, Blocking, Pass, pass, Scan, Tries}
+use Rattle.driver_rules.specs.Spares.{Outs}
 use Rattle.driver_rules.specs.Scripts.{IsActors, ScriptRule}
 use Rattle.driver_rules.specs.Stops.{is_spent}
-use Rattle.driver_rules.specs.Turns.{Fails, Last, Loads, Other, WasEnded, builder_due, cpu_due, due_after, is_last, last_of}
-use Rattle.driver_rules.specs.Turns.{step_turn}
-use Rattle.driver_rules.specs.Turns.{turn_due}
-use Rattle.driver_rules.specs.declared.waits.Why.TheVariants as waits
+use Rattle.driver_rules.specs.Turns.{builder_due, cpu_due, due_after, Fails, is_last, Last, last_of, Loads, Other, step_turn, turn_due}
+use Rattle.driver_rules.specs.Turns.{WasEnded}
 use Rattle.driver_laws.specs.inner.Agrees.{is_add}
 use Rattle.driver_laws.specs.inner.Counted.{is_add_step}
 use Rattle.driver_laws.specs.inner.Keeps.{is_epa, is_epa_refused, is_va_step}
-use Rattle.driver_laws.proofs.OwnLaws.{OfTurn, is_script, turn_script}
+use Rattle.driver_laws.proofs.OwnLaws.{is_script, loaded_own, OfTurn, turn_script}
+use Rattle.sgx_rules.specs.declared.entries.Action.TheVariants as actions
+use Rattle.sgx_types.specs.declared.names.Actor.TheVariants as actors
+use Rattle.sgx_rules.specs.declared.refusals.Refusal.TheVariants as why
+use Rattle.turn_rules.specs.declared.steps.BuildStep.TheVariants as builds
+use Rattle.driver_rules.specs.declared.waits.Why.TheVariants as waits
 
 -- ---- whose such instructions are
 
@@ -65,14 +64,12 @@ of_action (Did action answer) a same none = let told : action ≡ a = cc in ap i
 of_action (Refused action refusal) a same none = let told : action ≡ a = cc in ap is_building told ∙ none
 of_action _ a same none = refl
 
-fetch_builds_none : (g : Page) (slot : SlotAt) (free : Option ℕ) (ev : Event) → IsFetch g slot free ev → builds_by ev ≡ false
-fetch_builds_none g slot None (Did action answer) n = absurd n
-fetch_builds_none g slot None (Refused action refusal) n = absurd n
-fetch_builds_none g slot (Some f) (Did action answer) n = ap is_building n
-fetch_builds_none g slot (Some f) (Refused action refusal) n = ap is_building n
-fetch_builds_none g slot free (Age page look) n = refl
-fetch_builds_none g slot free (Kick cpu) n = refl
-fetch_builds_none g slot free (Bus page why) n = refl
+fetch_builds_none : (g : Page) (fetch : Fetch) (ev : Event) → IsFetch g fetch ev → builds_by ev ≡ false
+fetch_builds_none g (Asks target slot (Some f)) (Did action answer) n = ap is_building (loaded_own target slot f action n).2
+fetch_builds_none g (Asks target slot (Some f)) (Refused action why.SlotEmpty) n =
+    ap is_building (loaded_own target slot f action n).2
+fetch_builds_none g fetch (Bus page why) n = refl
+fetch_builds_none g _ ev n = absurd n
 
 turn_builds_none : (j : JobView) (past : List Entry) (d : Due) (ev : Event) → OfTurn j past d → IsNext d ev → builds_by ev ≡ false
 turn_builds_none j past Stopped ev h n = absurd n
@@ -81,9 +78,9 @@ turn_builds_none j past (Waits why) ev h n = absurd n
 turn_builds_none j past (Makes action) ev h n = of_action ev action n (script_builds_none action h)
 turn_builds_none j past (Ends action) ev h n = absurd h
 turn_builds_none j past (Reports page why) ev h n = ap builds_by n
-turn_builds_none j past (Fetches g slot free) ev h n = fetch_builds_none g slot free ev n
+turn_builds_none j past (Fetches g fetch) ev h n = fetch_builds_none g fetch ev n
 turn_builds_none j past (LooksAt page held young) ev h n = absurd h
-turn_builds_none j past (TriesOut f) ev h n = absurd h
+turn_builds_none j past (TriesOut g f) ev h n = absurd h
 turn_builds_none j past (KicksAll cpus) ev h n = absurd h
 
 after_builds_none : (j : JobView) (past : List Entry) (l : Last) (b : Bool) (d : Due) (ev : Event) → OfTurn j past d
@@ -117,6 +114,16 @@ pass_builds_none past (Tries g rest form) (Did (actions.Track enclave) answer) h
 pass_builds_none past (Tries g rest form) (Refused (actions.Track enclave) refusal) h = refl
 pass_builds_none past (Tries g rest form) (Kick cpu) h = refl
 pass_builds_none past (Tries g rest form) _ h = absurd h
+
+ahead_builds_none : (j : JobView) (past : List Entry) (a : Ahead) (ev : Event) → IsAhead j past a ev → builds_by ev ≡ false
+ahead_builds_none j past GoesOn ev h = pass_builds_none past (pass j past) ev h.in_pass
+ahead_builds_none j past (Looks g) (Age page look) h = refl
+ahead_builds_none j past (Looks g) _ h = absurd h
+ahead_builds_none j past (TriesNext g) (Did (actions.EwbStart f slot) answer) h = refl
+ahead_builds_none j past (TriesNext g) (Refused (actions.EwbStart f slot) refusal) h = refl
+ahead_builds_none j past (TriesNext g) _ h = absurd h
+ahead_builds_none j past (EndsNext g) (Did (actions.Ewb f) answer) h = refl
+ahead_builds_none j past (EndsNext g) _ h = absurd h
 
 -- ---- the builder's next step
 
@@ -161,14 +168,14 @@ pub data Builds (j : JobView) (past : List Entry) (a : Actor) (ev : Event) : Typ
   ByStep : (a ≡ actors.Builder) → IsStep j past ev → Builds j past a ev
   NoStep : (is_builder a ≡ false) → (builds_by ev ≡ false) → Builds j past a ev
 
-pub builds_or_none : (j : JobView) (past : List Entry) (e : Entry) → ScriptRule j past e → AgeRule j past e
+pub builds_or_none : (j : JobView) (past : List Entry) (out : Outs) (e : Entry) → ScriptRule j past e → AgeRuleBy j past out e
     → Builds j past e.actor e.event
-builds_or_none j past e script age = by_actor e.actor script.next age.in_pass
+builds_or_none j past out e script age = by_actor e.actor script.next age
   where
-    by_actor : (a : Actor) → IsActors j past a e.event → PassOf past (pass j past) a e.event → Builds j past a e.event
-    by_actor actors.Builder n in_pass = ByStep refl (build_step j past e.event n)
-    by_actor (actors.Cpu p) n in_pass = NoStep refl (cpu_builds_none j past p.0 e.event n.1)
-    by_actor actors.Reclaimer n in_pass = NoStep refl (pass_builds_none past (pass j past) e.event in_pass)
+    by_actor : (a : Actor) → IsActors j past a e.event → AgeOf j past out a e.event → Builds j past a e.event
+    by_actor actors.Builder n ag = ByStep refl (build_step j past e.event n)
+    by_actor (actors.Cpu p) n ag = NoStep refl (cpu_builds_none j past p.0 e.event n.1)
+    by_actor actors.Reclaimer n ag = NoStep refl (ahead_builds_none j past (ahead j past out) e.event ag)
 
 -- ---- what a step makes
 

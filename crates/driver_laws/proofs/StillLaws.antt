@@ -2,46 +2,45 @@
 use Rattle.std.proofs.Common.{◌≡◌, ℕ, ◌==◌, Bool, true, false, if◌then◌else◌, refl, sym, ◌∙◌, ap, subst, List}
 use Rattle.std.proofs.Common.{◌∷◌, Some}
 use Rattle.std.proofs.lemmas.Bool.{eqb-true, eq-eqb, false≢true}
-use Rattle.sgx_rules.specs.declared.entries.Action.TheVariants.{Epa, Create, Add, Block, EwbStart, Ewb, EldStart, Eld}
+use Rattle.sgx_rules.specs.declared.entries.Action.TheVariants.{Add, Block, Create, Eld, EldStart, Epa, Ewb, EwbStart}
 use Rattle.sgx_rules.specs.declared.entries.Answer.TheVariants.{Moved}
 use Rattle.sgx_rules.specs.declared.entries.Entry.{Entry}
 use Rattle.sgx_rules.specs.declared.entries.Event.{Event}
-use Rattle.sgx_rules.specs.declared.entries.Event.TheVariants.{Did, Refused, Age}
+use Rattle.sgx_rules.specs.declared.entries.Event.TheVariants.{Age, Did, Refused}
 use Rattle.sgx_rules.specs.declared.entries.Look.{Look}
-use Rattle.sgx_rules.specs.declared.entries.Look.TheVariants as looks
 use Rattle.sgx_types.specs.declared.names.Page.{Page}
-use Rattle.sgx_types.specs.declared.names.SlotAt.{SlotAt}
+use Rattle.sgx_types.specs.declared.names.VaSlot.{VaSlot}
+use Rattle.sgx_rules.specs.Frames.{content, Free, is_blocked, stands}
 use Rattle.sgx_types.specs.Pages.{same_page}
-use Rattle.sgx_rules.specs.Frames.{Free, content, is_blocked, is_page}
-use Rattle.sgx_rules.specs.Starts.{is_load_of, open_start}
-use Rattle.sgx_rules.proofs.Contents.{load_no_page}
+use Rattle.sgx_rules.specs.Starts.{open_start}
 use Rattle.driver_laws.specs.inner.Kinds.{CanMove}
-use Rattle.driver_rules.specs.Places.{Absent, Away, Leaving, Loading, Place, after_look, back_to, place}
-use Rattle.driver_laws.specs.inner.Sound.{IsSound, is_load_start, load_slot, slot_loading, stands_in}
-use Rattle.driver_laws.proofs.PlaceLaws.{holds_one, load_slot_is, of_same}
+use Rattle.driver_rules.specs.Places.{Absent, after_look, Away, back_from, Leaving, Loading, Place, place}
+use Rattle.driver_laws.specs.inner.Sound.{is_load_start, IsSound, load_slot, slot_loading, stands_in}
+use Rattle.driver_laws.proofs.PlaceLaws.{holds_one, load_slot_is, loads_no_page, of_same}
 use Rattle.driver_laws.proofs.SoundLaws.{entry_of}
 use Rattle.driver_laws.specs.inner.Stages.{touches}
+use Rattle.sgx_rules.specs.declared.entries.Look.TheVariants as looks
 
 -- ---- frames
 
 -- a frame holds the page that stands in it
 pub holds_here : (past : List Entry) (g : Page) (p : Place) (f : ℕ) → IsSound past → place past g ≡ p → stands_in p f ≡ true
-    → is_page (content past f) g ≡ true
-holds_here past g p f s at stands = s.places.frames g f ∙ ap (λ y. stands_in y f) at ∙ stands
+    → stands (content past f) g ≡ true
+holds_here past g p f s at there = s.places.frames g f ∙ ap (λ y. stands_in y f) at ∙ there
 
 self_eq : (f : ℕ) → (f == f) ≡ true
 self_eq f = eq-eqb f f refl
 
 -- a frame that is free is another
-pub free_apart : (past : List Entry) (g : Page) (f n : ℕ) → is_page (content past f) g ≡ true → content past n ≡ Free → (n == f) ≡ false
+pub free_apart : (past : List Entry) (g : Page) (f n : ℕ) → stands (content past f) g ≡ true → content past n ≡ Free → (n == f) ≡ false
 free_apart past g f n holds free = by_test (n == f) refl
   where
     by_test : (b : Bool) → (n == f) ≡ b → (n == f) ≡ false
-    by_test true is = absurd (false≢true (sym (ap (λ c. is_page c g) (subst (λ m. content past m ≡ Free) (eqb-true n f is) free)) ∙ holds))
+    by_test true is = absurd (false≢true (sym (ap (λ c. stands c g) (subst (λ m. content past m ≡ Free) (eqb-true n f is) free)) ∙ holds))
     by_test false is = is
 
 -- the start of a page that is loading is a load's
-pub load_open : (past : List Entry) (page : Page) (n : ℕ) (slot : SlotAt) → IsSound past → place past page ≡ Loading n slot
+pub load_open : (past : List Entry) (page : Page) (n : ℕ) (slot : VaSlot) → IsSound past → place past page ≡ Loading n slot
     → is_load_start (open_start past n) ≡ true
 load_open past page n slot s loading =
     let load : load_slot (open_start past n) page ≡ Some slot =
@@ -49,15 +48,15 @@ load_open past page n slot s loading =
     load_slot_is (open_start past n) page slot load
 
 -- .. and so is one that loads
-pub load_apart : (past : List Entry) (g page : Page) (f n : ℕ) (slot : SlotAt) → IsSound past → is_page (content past f) g ≡ true
+pub load_apart : (past : List Entry) (g page : Page) (f n : ℕ) (slot : VaSlot) → IsSound past → stands (content past f) g ≡ true
     → place past page ≡ Loading n slot → (n == f) ≡ false
 load_apart past g page f n slot s holds loading = by_test (n == f) refl
   where
-    none : is_page (content past n) g ≡ false
-    none = load_no_page (content past n) g (sym (s.places.loading n) ∙ load_open past page n slot s loading)
+    none : stands (content past n) g ≡ false
+    none = loads_no_page (content past n) g (sym (s.places.loading n) ∙ load_open past page n slot s loading)
 
     by_test : (b : Bool) → (n == f) ≡ b → (n == f) ≡ false
-    by_test true is = absurd (false≢true (sym none ∙ subst (λ m. is_page (content past m) g ≡ true) (sym (eqb-true n f is)) holds))
+    by_test true is = absurd (false≢true (sym none ∙ subst (λ m. stands (content past m) g ≡ true) (sym (eqb-true n f is)) holds))
     by_test false is = is
 
 -- two pages that stand in frames stand in two
@@ -68,7 +67,7 @@ frames_apart past g h p q n m s at_g in_n at_h in_m other = by_test (n == m) ref
     by_test : (b : Bool) → (n == m) ≡ b → (n == m) ≡ false
     by_test true is =
         let one = holds_here past g p n s at_g in_n in
-        let two = subst (λ k. is_page (content past k) h ≡ true) (sym (eqb-true n m is)) (holds_here past h q m s at_h in_m) in
+        let two = subst (λ k. stands (content past k) h ≡ true) (sym (eqb-true n m is)) (holds_here past h q m s at_h in_m) in
         absurd (false≢true (sym other ∙ sym (holds_one (content past n) g h one) ∙ two))
     by_test false is = is
 
@@ -93,16 +92,16 @@ pub still : (past : List Entry) (e : Entry) (g : Page) (f : ℕ) → IsSound pas
     → place past g ≡ Leaving f → Still past e g f
 still past e g f s can calm at = by_event e.event can calm
   where
-    holds : is_page (content past f) g ≡ true
+    holds : stands (content past f) g ≡ true
     holds = holds_here past g (Leaving f) f s at (self_eq f)
 
     absent : Absent ≡ Leaving f → ⊥
     absent h = cc
 
-    away : (slot : SlotAt) → Away slot ≡ Leaving f → ⊥
+    away : (slot : VaSlot) → Away slot ≡ Leaving f → ⊥
     away slot h = cc
 
-    loads : (n : ℕ) (slot : SlotAt) → Loading n slot ≡ Leaving f → ⊥
+    loads : (n : ℕ) (slot : VaSlot) → Loading n slot ≡ Leaving f → ⊥
     loads n slot h = cc
 
     leaves : (n : ℕ) → (n == f) ≡ false → Leaving n ≡ Leaving f → ⊥
@@ -119,9 +118,18 @@ still past e g f s can calm at = by_event e.event can calm
     either false p h k = k
 
     by_event : (ev : Event) → CanMove past ev → touches ev f ≡ false → Still past (entry_of e.actor ev) g f
-    by_event (Did (Epa n) answer) k m = record { leaving = at; block = rw (free_apart past g f n.0 holds k) refl; start = refl }
+    by_event (Did (Epa n) answer) k m =
+        record {
+          leaving = rw (place_apart past _ g Absent (Leaving f) k.1 at absent) at;
+          block = rw (free_apart past g f n.0 holds k.0) refl;
+          start = refl;
+        }
     by_event (Did (Create enclave n base size) answer) k m =
-        record { leaving = at; block = rw (free_apart past g f n.0 holds k) refl; start = refl }
+        record {
+          leaving = rw (place_apart past _ g Absent (Leaving f) k.1 at absent) at;
+          block = rw (free_apart past g f n.0 holds k.0) refl;
+          start = refl;
+        }
     by_event (Did (Add enclave number n kind perm init) answer) k m =
         record {
           leaving = rw (place_apart past _ g Absent (Leaving f) k.1 at absent) at;
@@ -131,7 +139,7 @@ still past e g f s can calm at = by_event e.event can calm
         }
     by_event (Did (EldStart n page slot) answer) k m =
         record {
-          leaving = rw (place_apart past page g (Away slot) (Leaving f) k.1 at (away slot)) at;
+          leaving = rw (place_apart past page g (Away k.1) (Leaving f) k.2 at (away k.1)) at;
           block = rw
               (free_apart past g f n.0 holds k.0) refl;
           start = rw (free_apart past g f n.0 holds k.0) refl;
@@ -144,7 +152,7 @@ still past e g f s can calm at = by_event e.event can calm
         }
     by_event (Refused (Eld n) refusal) k m =
         record {
-          leaving = either (is_load_of (open_start past n.0) g) (back_to (place past g)) (ap back_to at) at;
+          leaving = ap (back_from n.0) at;
           block = rw (load_apart past g k.0 f n.0 k.1 s holds k.2) refl;
           start = rw (load_apart past g k.0 f n.0 k.1 s holds k.2) refl;
         }

@@ -8,60 +8,56 @@ use Rattle.std.proofs.lemmas.Option.{get_or_from_slice_get, slice_get_within}
 use Rattle.sgx_types.proofs.Pages.{same_page-refl, same_pages}
 use Rattle.sgx_types.specs.Making.{Making}
 use Rattle.sgx_rules.specs.declared.entries.AccessOp.{AccessOp}
-use Rattle.sgx_rules.specs.declared.entries.AccessOp.TheVariants as accesses
 use Rattle.sgx_rules.specs.declared.entries.Action.{Action}
-use Rattle.sgx_rules.specs.declared.entries.Action.TheVariants as actions
 use Rattle.sgx_types.specs.declared.names.Actor.{Actor}
-use Rattle.sgx_types.specs.declared.names.Actor.TheVariants as actors
 use Rattle.sgx_rules.specs.declared.entries.Answer.{Answer}
 use Rattle.sgx_rules.specs.declared.entries.Cause.{Cause}
-use Rattle.sgx_rules.specs.declared.entries.Cause.TheVariants as causes
 use Rattle.sgx_rules.specs.declared.entries.Entry.{Entry}
 use Rattle.sgx_rules.specs.declared.entries.Event.{Event}
-use Rattle.sgx_rules.specs.declared.entries.Event.TheVariants.{Did, Bus}
+use Rattle.sgx_rules.specs.declared.entries.Event.TheVariants.{Bus, Did}
 use Rattle.sgx_types.specs.declared.names.Cpu.{Cpu}
 use Rattle.sgx_types.specs.declared.names.Frame.{Frame}
 use Rattle.sgx_types.specs.declared.names.Page.{Page}
-use Rattle.sgx_types.specs.declared.names.SlotAt.{SlotAt}
 use Rattle.sgx_rules.specs.Flat.{at_offset}
 use Rattle.sgx_types.specs.Pages.{page_at, same_page}
 use Rattle.sgx_rules.specs.Frames.{added, content, frame_of, least_free}
-use Rattle.sgx_rules.specs.Processors.{Enters, Keeps, Leaves, Move, Stay, holds_number, is_by, move_by, stay, stay_after}
-use Rattle.sgx_rules.specs.Processors.{stay_from}
+use Rattle.sgx_rules.specs.Processors.{Enters, holds_number, is_by, Keeps, Leaves, Move, move_by, Stay, stay, stay_after, stay_from}
 use Rattle.sgx_rules.specs.Processors.{translations}
 use Rattle.sgx_rules.specs.Table.{is_lawful_access}
 use Rattle.job_grammar.specs.declared.jobs.Op.{Op}
-use Rattle.job_grammar.specs.declared.jobs.Op.TheVariants as ops
 use Rattle.job_grammar.specs.Jobs.{JobView}
 use Rattle.turn_rules.specs.declared.steps.BuildStep.{BuildStep}
-use Rattle.turn_rules.specs.declared.steps.BuildStep.TheVariants as builds
 use Rattle.turn_rules.specs.Script.{build_of, built, enter_with, frame_at, is_seated_at, is_turned_away, leaves_by, replied}
-use Rattle.turn_rules.specs.Script.{resume_with}
-use Rattle.turn_rules.specs.Script.{saved, saved_after, script_of, with_frame}
-use Rattle.driver_rules.specs.Ages.{AgeRule, InPass, PassOf}
+use Rattle.turn_rules.specs.Script.{resume_with, saved, saved_after, script_of, with_frame}
+use Rattle.driver_rules.specs.Ages.{AgeOf, AgeRuleBy, Ahead, ahead, EndsNext, GoesOn, InPass, IsAhead, Looks, TriesNext}
 use Rattle.driver_laws.specs.inner.Driven.{IsDriven}
-use Rattle.driver_rules.specs.Needs.{Interruption, interrupted_by, interrupted_in, interruption, interruption_after, needs_after}
+use Rattle.driver_rules.specs.Needs.{interrupted_by, interrupted_in, Interruption, interruption, interruption_after, needs_after}
 use Rattle.driver_rules.specs.Needs.{needs_to_enter, needs_to_resume, next_op, save_to_enter, save_to_resume}
-use Rattle.driver_rules.specs.Passes.{Between, Blocking, Pass, Scan, Tries, pass}
-use Rattle.driver_rules.specs.Places.{Absent, Away, Here, Leaving, Loading, Place, frame_here, place}
+use Rattle.driver_rules.specs.Passes.{Between, Blocking, Pass, pass, Scan, Tries}
+use Rattle.driver_rules.specs.Places.{Absent, Away, frame_here, Here, Leaving, Loading, Place, place}
 use Rattle.driver_rules.specs.Scripts.{IsActors, ScriptRule}
+use Rattle.driver_rules.specs.Spares.{Outs, outs}
 use Rattle.driver_laws.specs.inner.Sound.{IsSound}
-use Rattle.driver_laws.specs.inner.Three.{IsApart, NamesOwn, TcsAreApart, is_tcs_of, names_tcs, tcs_by, tcs_of}
+use Rattle.driver_laws.specs.inner.Three.{is_tcs_of, IsApart, names_tcs, NamesOwn, tcs_by, tcs_of, TcsAreApart}
 use Rattle.driver_rules.specs.declared.waits.Why.{Why}
-use Rattle.driver_rules.specs.declared.waits.Why.TheVariants as waits
-use Rattle.driver_rules.specs.Dues.{Due, Ends, Fetches, Finished, IsFetch, IsNext, KicksAll, LooksAt, Makes, Reports, Stopped}
-use Rattle.driver_rules.specs.Dues.{TriesOut}
-use Rattle.driver_rules.specs.Dues.{Waits, makes_or}
+use Rattle.driver_rules.specs.Dues.{Asks, Due, Ends, Fetch, Fetches, Finished, IsFetch, IsNext, KicksAll, LooksAt, Makes, makes_or}
+use Rattle.driver_rules.specs.Dues.{Reports, Stopped, TriesOut, Waits}
 use Rattle.driver_rules.specs.Stops.{is_spent}
-use Rattle.driver_rules.specs.Turns.{Fails, Last, Loads, Other, WasEnded, accesses_by, builder_due, cpu_due, due_after}
-use Rattle.driver_rules.specs.Turns.{early_turn, enters}
-use Rattle.driver_rules.specs.Turns.{fetches, fills, first_away, inside_turn, is_built, is_kicked, is_last, last_of, op_turn}
-use Rattle.driver_rules.specs.Turns.{outside_turn}
-use Rattle.driver_rules.specs.Turns.{resumes, save_frame, stay_turn, step_turn, turn_due, with_pages}
+use Rattle.driver_rules.specs.Turns.{accesses_by, builder_due, cpu_due, due_after, early_turn, enters, Fails, fetches, fills}
+use Rattle.driver_rules.specs.Turns.{first_away, inside_turn, is_built, is_kicked, is_last, Last, last_of, Loads, op_turn, Other}
+use Rattle.driver_rules.specs.Turns.{outside_turn, resumes, save_frame, stay_turn, step_turn, turn_due, WasEnded, with_pages}
 use Rattle.driver_laws.proofs.HistoryLaws.{driven_before, driven_sound}
+use Rattle.driver_laws.proofs.OwnLaws.{loaded_own}
 use Rattle.driver_laws.proofs.SoundLaws.{entry_of}
 use Rattle.driver_laws.proofs.ThreeEntryLaws.{three_others}
 use Rattle.driver_laws.proofs.ThreeLaws.{three_first, three_own}
+use Rattle.sgx_rules.specs.declared.entries.AccessOp.TheVariants as accesses
+use Rattle.sgx_rules.specs.declared.entries.Action.TheVariants as actions
+use Rattle.sgx_types.specs.declared.names.Actor.TheVariants as actors
+use Rattle.sgx_rules.specs.declared.entries.Cause.TheVariants as causes
+use Rattle.job_grammar.specs.declared.jobs.Op.TheVariants as ops
+use Rattle.turn_rules.specs.declared.steps.BuildStep.TheVariants as builds
+use Rattle.driver_rules.specs.declared.waits.Why.TheVariants as waits
 
 -- ---- an operation of a script names its page
 
@@ -195,10 +191,9 @@ named_due j past p own = named_either j p (is_spent past) Stopped (due_after (la
     (named_either j p (is_built j past) (stay_turn j past p (stay past p)) (early_turn (stay past p) (next_op j past p))
     (named_stay j past p (stay past p) own) (named_early j p (stay past p) (next_op j past p))))
 
-own_fetched : (j : JobView) (p : ℕ) (g : Page) (slot : SlotAt) (o : Option ℕ) (a : Action) (answer : Answer)
-    → IsFetch g slot o (Did a answer) → Own j p a
-own_fetched j p g slot None a answer k = absurd k
-own_fetched j p g slot (Some f) a answer k = subst (Own j p) (sym k) tt
+own_fetched : (j : JobView) (p : ℕ) (g : Page) (fetch : Fetch) (a : Action) (answer : Answer) → IsFetch g fetch (Did a answer) → Own j p a
+own_fetched j p g (Asks target slot (Some f)) a answer k = subst (Own j p) (sym (loaded_own target slot f a k).2) tt
+own_fetched j p g _ a answer k = absurd k
 
 -- so a done entry of a processor is by such a page
 own_done : (j : JobView) (p : ℕ) (d : Due) (a : Action) (answer : Answer) → Named j p d → IsNext d (Did a answer) → Own j p a
@@ -211,10 +206,10 @@ own_done j p (Reports page why) a answer h n = absurd (other n)
   where
     other : Did a answer ≡ Bus page why → ⊥
     other k = cc
-own_done j p (Fetches g slot free) a answer h n = own_fetched j p g slot free a answer n
+own_done j p (Fetches g fetch) a answer h n = own_fetched j p g fetch a answer n
 own_done j p (LooksAt page held young) a answer h n = absurd n
-own_done j p (TriesOut f) (actions.EwbStart frame slot) answer h n = tt
-own_done j p (TriesOut f) _ answer h n = absurd n
+own_done j p (TriesOut g f) (actions.EwbStart frame slot) answer h n = tt
+own_done j p (TriesOut g f) _ answer h n = absurd n
 own_done j p (KicksAll []) a answer h n = absurd n
 own_done j p (KicksAll (q ∷ qs)) a answer h n = absurd n
 
@@ -331,6 +326,13 @@ no_resume j past (Scan left taken) e t tf sf answer h = h
 no_resume j past (Blocking todo taken) e t tf sf answer h = h
 no_resume j past (Tries g rest form) e t tf sf answer h = h
 
+ahead_no_resume : (j : JobView) (past : List Entry) (a : Ahead) (e t : ℕ) (tf sf : Frame) (answer : Answer)
+    → IsAhead j past a (Did (actions.Resume e t tf sf) answer) → ⊥
+ahead_no_resume j past GoesOn e t tf sf answer h = no_resume j past (pass j past) e t tf sf answer h.in_pass
+ahead_no_resume j past (Looks g) e t tf sf answer h = h
+ahead_no_resume j past (TriesNext g) e t tf sf answer h = h
+ahead_no_resume j past (EndsNext g) e t tf sf answer h = h
+
 -- .. nor does the builder
 abbrev NoResume : Due → Type 0
 NoResume (Makes (actions.Resume e t tf sf)) = ⊥
@@ -370,15 +372,16 @@ next_no_resume Finished e t tf sf answer h n = n
 next_no_resume (Waits why) e t tf sf answer h n = n
 next_no_resume (Ends a) e t tf sf answer h n = h
 next_no_resume (Reports page why) e t tf sf answer h n = h
-next_no_resume (Fetches g slot free) e t tf sf answer h n = h
+next_no_resume (Fetches g fetch) e t tf sf answer h n = h
 next_no_resume (LooksAt page held young) e t tf sf answer h n = h
-next_no_resume (TriesOut f) e t tf sf answer h n = h
+next_no_resume (TriesOut g f) e t tf sf answer h n = h
 next_no_resume (KicksAll cpus) e t tf sf answer h n = h
 
 -- an entry of another actor leaves the count of the page at stake
-counted : (j : JobView) (past : List Entry) (e : Entry) (p : ℕ) → TcsAreApart j → ((q : ℕ) → NamesOwn j past q) → ScriptRule j past e
-    → AgeRule j past e → is_by p e.actor ≡ false → (g : Page) → tcs_of j past p ≡ Some g → saved (e ∷ past) g ≡ saved past g
-counted j past e p apart own script age other g at = by_event e.actor e.event other script.next age.in_pass
+counted : (j : JobView) (past : List Entry) (out : Outs) (e : Entry) (p : ℕ) → TcsAreApart j → ((q : ℕ) → NamesOwn j past q)
+    → ScriptRule j past e → AgeRuleBy j past out e → is_by p e.actor ≡ false → (g : Page) → tcs_of j past p ≡ Some g
+    → saved (e ∷ past) g ≡ saved past g
+counted j past out e p apart own script age other g at = by_event e.actor e.event other script.next age
   where
     mine : names_tcs j p g ≡ true
     mine = tcs_own j past p (own p) g at
@@ -393,16 +396,16 @@ counted j past e p apart own script age other g at = by_event e.actor e.event ot
         by_stay (Some s) is = apart_page j p c.0 g (page_at s.seat.enclave s.seat.tcs) apart mine ((own c.0).seat s is) k
 
     by_resume : (a : Actor) (n t : ℕ) (tf sf : Frame) (answer : Answer) → is_by p a ≡ false
-        → IsActors j past a (Did (actions.Resume n t tf sf) answer) → PassOf past (pass j past) a (Did (actions.Resume n t tf sf) answer)
+        → IsActors j past a (Did (actions.Resume n t tf sf) answer) → AgeOf j past out a (Did (actions.Resume n t tf sf) answer)
         → same_page (page_at n t) g ≡ false
     by_resume actors.Builder n t tf sf answer k next ag =
         absurd (next_no_resume (builder_due j past) n t tf sf answer (build_no_resume j past) next)
-    by_resume actors.Reclaimer n t tf sf answer k next ag = absurd (no_resume j past (pass j past) n t tf sf answer ag)
+    by_resume actors.Reclaimer n t tf sf answer k next ag = absurd (ahead_no_resume j past (ahead j past out) n t tf sf answer ag)
     by_resume (actors.Cpu c) n t tf sf answer k next ag =
         apart_page j p c.0 g (page_at n t) apart mine (own_done j c.0 (cpu_due j past c.0) (actions.Resume n t tf sf) answer
         (named_due j past c.0 (own c.0)) next.1) k
 
-    by_event : (a : Actor) (ev : Event) → is_by p a ≡ false → IsActors j past a ev → PassOf past (pass j past) a ev
+    by_event : (a : Actor) (ev : Event) → is_by p a ≡ false → IsActors j past a ev → AgeOf j past out a ev
         → saved_after ev (leaves_by a past g) g (saved past g) ≡ saved past g
     by_event a (Did (actions.Aex cause) answer) k next ag = rw (by_left a k) refl
     by_event a (Did (actions.Resume n t tf sf) answer) k next ag = rw (by_resume a n t tf sf answer k next ag) refl
@@ -410,26 +413,26 @@ counted j past e p apart own script age other g at = by_event e.actor e.event ot
 
 -- ---- everyone's entries
 
-pub apart_stay : (j : JobView) (past : List Entry) (e : Entry) → TcsAreApart j → IsSound past → ScriptRule j past e → AgeRule j past e
-    → ((p : ℕ) → IsApart j past p) → (p : ℕ) → IsApart j (e ∷ past) p
-apart_stay j past e apart s script age before p = by_actor e.actor script age
+pub apart_stay : (j : JobView) (past : List Entry) (out : Outs) (e : Entry) → TcsAreApart j → IsSound past → ScriptRule j past e
+    → AgeRuleBy j past out e → ((p : ℕ) → IsApart j past p) → (p : ℕ) → IsApart j (e ∷ past) p
+apart_stay j past out e apart s script age before p = by_actor e.actor script age
   where
-    others : (a : Actor) → ScriptRule j past (entry_of a e.event) → AgeRule j past (entry_of a e.event) → is_by p a ≡ false
+    others : (a : Actor) → ScriptRule j past (entry_of a e.event) → AgeRuleBy j past out (entry_of a e.event) → is_by p a ≡ false
         → IsApart j (entry_of a e.event ∷ past) p
     others a sc ag other = record {
       three =
-          three_others j past (entry_of a e.event) p other (counted j past (entry_of a e.event) p apart (λ q. (before q).own) sc ag other)
-          (before p).three;
+          three_others j past (entry_of a e.event) p other
+          (counted j past out (entry_of a e.event) p apart (λ q. (before q).own) sc ag other) (before p).three;
       own = names_others j past (entry_of a e.event) p other (before p).own;
     }
 
     by_cpu : (c : Cpu) (b : Bool) → (c.0 == p) ≡ b → ScriptRule j past (entry_of (actors.Cpu c) e.event)
-        → AgeRule j past (entry_of (actors.Cpu c) e.event) → IsApart j (entry_of (actors.Cpu c) e.event ∷ past) p
+        → AgeRuleBy j past out (entry_of (actors.Cpu c) e.event) → IsApart j (entry_of (actors.Cpu c) e.event ∷ past) p
     by_cpu c true is sc ag = subst (IsApart j (entry_of (actors.Cpu c) e.event ∷ past)) (eqb-true c.0 p is)
         (record { three = three_own j past c e.event s sc (before c.0).three; own = names_stay j past c e.event sc (before c.0).own })
     by_cpu c false is sc ag = others (actors.Cpu c) sc ag is
 
-    by_actor : (a : Actor) → ScriptRule j past (entry_of a e.event) → AgeRule j past (entry_of a e.event)
+    by_actor : (a : Actor) → ScriptRule j past (entry_of a e.event) → AgeRuleBy j past out (entry_of a e.event)
         → IsApart j (entry_of a e.event ∷ past) p
     by_actor actors.Builder sc ag = others actors.Builder sc ag refl
     by_actor actors.Reclaimer sc ag = others actors.Reclaimer sc ag refl
@@ -444,4 +447,5 @@ pub driven_apart : (k : Making) (j : JobView) (past : List Entry) → 1 ≤ k.fi
 driven_apart k j [] positive apart d = apart_first j
 driven_apart k j (e ∷ past) positive apart d =
     let before = driven_before k j e past d in
-    apart_stay j past e apart (driven_sound k j past positive before).0 d.script.0 d.age.0 (driven_apart k j past positive apart before)
+    apart_stay j past (outs j past) e apart (driven_sound k j past positive before).0 d.script.0 d.age.0
+    (driven_apart k j past positive apart before)

@@ -1,15 +1,13 @@
 -- What an entry leaves of the three pages that a processor holds at once.
-use Rattle.std.proofs.Common.{◌≡◌, ℕ, ◌+◌, ◌-◌, ◌==◌, ◌||◌, not, Bool, true, false, if◌then◌else◌, zero, suc}
+use Rattle.std.proofs.Common.{◌≡◌, ℕ, ◌+◌, ◌-◌, ◌≤◌, ◌==◌, ◌||◌, ◌&&◌, not, Bool, true, false, if◌then◌else◌, zero, suc}
 use Rattle.std.proofs.Common.{refl, sym, ◌∙◌, ap, subst, List, [], ◌∷◌, ◌++◌, Option, Some, None, is_some, arith}
+use Rattle.std.proofs.Common.{◌⊎◌, inl, inr, ⊎_elim}
 use Rattle.std.proofs.lemmas.Bool.{eq-eqb, false≢true, or_left, or_right}
 use Rattle.std.proofs.lemmas.List.Folds.{list_any-append}
 use Rattle.sgx_types.proofs.Pages.{same_page-refl, same_pages}
 use Rattle.sgx_rules.specs.declared.entries.Action.{Action}
-use Rattle.sgx_rules.specs.declared.entries.Action.TheVariants as actions
-use Rattle.sgx_types.specs.declared.names.Actor.TheVariants as actors
 use Rattle.sgx_rules.specs.declared.entries.Answer.{Answer}
 use Rattle.sgx_rules.specs.declared.entries.Cause.{Cause}
-use Rattle.sgx_rules.specs.declared.entries.Cause.TheVariants as causes
 use Rattle.sgx_rules.specs.declared.entries.Entry.{Entry}
 use Rattle.sgx_rules.specs.declared.entries.Event.{Event}
 use Rattle.sgx_rules.specs.declared.entries.Event.TheVariants.{Did, Refused}
@@ -17,24 +15,25 @@ use Rattle.sgx_types.specs.declared.names.Cpu.{Cpu}
 use Rattle.sgx_types.specs.declared.names.Frame.{Frame}
 use Rattle.sgx_types.specs.declared.names.Page.{Page}
 use Rattle.sgx_rules.specs.declared.refusals.Refusal.{Refusal}
-use Rattle.sgx_types.specs.Pages.{page_at, same_page}
-use Rattle.sgx_rules.specs.Frames.{Content, content, is_page}
-use Rattle.sgx_rules.specs.Processors.{Enters, Keeps, Leaves, Move, Stay, is_by, move_by, stay, stay_after, stay_from}
-use Rattle.sgx_rules.proofs.Contents.{held_page}
+use Rattle.sgx_types.specs.Pages.{is_own_page, is_va_page, page_at, same_page}
+use Rattle.sgx_rules.specs.Frames.{Content, content, Free, Holds, IsLoading, IsVa, SecsOf, stands, vas_after, vas_made}
+use Rattle.sgx_rules.specs.Processors.{Enters, is_by, Keeps, Leaves, Move, move_by, Stay, stay, stay_after, stay_from}
 use Rattle.job_grammar.specs.declared.jobs.Op.{Op}
-use Rattle.job_grammar.specs.declared.jobs.Op.TheVariants as ops
 use Rattle.job_grammar.specs.declared.jobs.PageLine.{PageLine}
-use Rattle.job_grammar.specs.declared.jobs.PageLine.TheVariants as lines
 use Rattle.job_grammar.specs.Jobs.{JobView, lines_at, tcs_line}
 use Rattle.turn_rules.specs.Script.{action_of, interrupted_after, is_interrupted, is_reply, leaves_by, saved, saved_after}
 use Rattle.driver_rules.specs.Holds.{access_of_stay, front_to, holds, holds_by, is_among, page_in, up_to}
-use Rattle.driver_rules.specs.Needs.{Interruption, access_page, interrupted_by, interrupted_in, interruption, interruption_after}
-use Rattle.driver_rules.specs.Needs.{last_save}
-use Rattle.driver_rules.specs.Needs.{listed, next_op, next_save}
+use Rattle.driver_rules.specs.Needs.{access_page, interrupted_by, interrupted_in, Interruption, interruption, interruption_after}
+use Rattle.driver_rules.specs.Needs.{last_save, listed, next_op, next_save}
 use Rattle.driver_rules.specs.Places.{is_here, place}
-use Rattle.driver_laws.specs.inner.Three.{AreAmong, HoldsThree, pages_by, tcs_by, tcs_of, three, three_by}
+use Rattle.driver_laws.specs.inner.Three.{AreAmong, HoldsThree, IsLaterArray, pages_by, tcs_by, tcs_of, three, three_by}
 use Rattle.driver_rules.specs.Turns.{first_away}
 use Rattle.driver_laws.proofs.SoundLaws.{entry_of}
+use Rattle.sgx_rules.specs.declared.entries.Action.TheVariants as actions
+use Rattle.sgx_types.specs.declared.names.Actor.TheVariants as actors
+use Rattle.sgx_rules.specs.declared.entries.Cause.TheVariants as causes
+use Rattle.job_grammar.specs.declared.jobs.Op.TheVariants as ops
+use Rattle.job_grammar.specs.declared.jobs.PageLine.TheVariants as lines
 
 -- ---- lists of pages
 
@@ -117,6 +116,65 @@ either_same : {X : Type 0} (b : Bool) (x : X) → (if b then x else x) ≡ x
 either_same true x = refl
 either_same false x = refl
 
+-- ---- what is held
+
+-- one of these pages, or a version array page that was made, but the first
+abbrev pub Held : List Entry → List Page → Page → Type 0
+Held past pages g = (is_among pages g ≡ true) ⊎ IsLaterArray past g
+
+abbrev pub AreHeld : List Entry → List Page → List Page → Type 0
+AreHeld past pages others = (g : Page) → is_among pages g ≡ true → Held past others g
+
+pub among_held : (past : List Entry) (pages others : List Page) → AreAmong pages others → AreHeld past pages others
+among_held past pages others h g among = inl (h g among)
+
+pub none_held : (past : List Entry) (others : List Page) → AreHeld past [] others
+none_held past others = among_held past [] others (none_among others)
+
+pub held_append : (past : List Entry) (xs ys others : List Page) → AreHeld past xs others → AreHeld past ys others
+    → AreHeld past (xs ++ ys) others
+held_append past xs ys others h k g among =
+    or_true (is_among xs g) (is_among ys g) (Held past others g) (sym (among-append xs ys g) ∙ among) (h g) (k g)
+
+vas_more : (ev : Event) (n : ℕ) → n ≤ vas_after ev n
+vas_more (Did (actions.Epa f) answer) n = omega arith
+vas_more _ n = omega arith
+
+-- version array pages that were made stay so
+held_on : (past : List Entry) (e : Entry) (pages others now : List Page) → AreAmong others now → AreHeld past pages others
+    → AreHeld (e ∷ past) pages now
+held_on past e pages others now keeps h g among = ⊎_elim (λ m. inl (keeps g m)) (λ later. inr (record {
+  va = later.va;
+  later = later.later;
+  made = let more = vas_more e.event (vas_made past) in let made = later.made in omega (arith, made, more);
+})) (h g among)
+
+array_not_own : (g : Page) → is_va_page g ≡ true → is_own_page g ≡ false
+array_not_own g va = by_test (is_va_page g) (g.number == 4294967295) va
+  where
+    by_test : (b c : Bool) → b ≡ true → (not b && not c) ≡ false
+    by_test true c h = refl
+    by_test false c h = absurd (false≢true h)
+
+held_three : (j : JobView) (past : List Entry) (p : ℕ) → HoldsThree j past p → AreHeld past (holds j past p) (three j past p)
+held_three j past p h g among = by_own (is_own_page g) refl
+  where
+    by_own : (b : Bool) → is_own_page g ≡ b → Held past (three j past p) g
+    by_own true own = inl (h.held g among own)
+    by_own false other = h.arrays g among other
+
+pub three_held : (j : JobView) (past : List Entry) (p : ℕ) → AreHeld past (holds j past p) (three j past p)
+    → is_interrupted past p ≡ is_some (interruption past p)
+    → (is_some (stay past p) ≡ true → interruption past p ≡ None) → HoldsThree j past p
+three_held j past p h interrupted apart = record {
+  held =
+      λ g among own. ⊎_elim (λ m. m) (λ (later : IsLaterArray past g). absurd (false≢true (sym (array_not_own g later.va) ∙ own)))
+      (h g among);
+  arrays = λ g among other. h g among;
+  interrupted = interrupted;
+  apart = apart;
+}
+
 -- ---- an entry of another actor
 
 other_stay : (m : Move) (past : List Entry) (s : Option Stay) → stay_after m false past s ≡ s
@@ -127,11 +185,12 @@ other_stay Keeps past s = refl
 -- another actor's entry that leaves the count of the TCS page leaves the three
 pub three_others : (j : JobView) (past : List Entry) (e : Entry) (p : ℕ) → is_by p e.actor ≡ false
     → ((g : Page) → tcs_of j past p ≡ Some g → saved (e ∷ past) g ≡ saved past g) → HoldsThree j past p → HoldsThree j (e ∷ past) p
-three_others j past e p other counted h = record {
-  held = λ g among. subst (λ pages. is_among pages g ≡ true) (sym same) (h.held g (subst (λ pages. is_among pages g ≡ true) held among));
-  interrupted = rw other h.interrupted;
-  apart = λ k. same_break ∙ h.apart (ap is_some (sym stays) ∙ k);
-}
+three_others j past e p other counted h =
+    three_held j (e ∷ past) p
+    (subst (λ pages. AreHeld (e ∷ past) pages (three j (e ∷ past) p)) (sym held)
+    (held_on past e (holds j past p) (three j past p) (three j (e ∷ past) p)
+    (subst (AreAmong (three j past p)) (sym same) (all_refl (three j past p))) (held_three j past p h)))
+    (rw other h.interrupted) (λ k. same_break ∙ h.apart (ap is_some (sym stays) ∙ k))
   where
     held : holds j (e ∷ past) p ≡ holds j past p
     held = rw other refl
@@ -186,11 +245,11 @@ own_apart j past c ev h k =
 -- behind a reply it holds nothing
 pub own_reply : (j : JobView) (past : List Entry) (c : Cpu) (ev : Event) → HoldsThree j past c.0
     → is_reply (is_interrupted past c.0) ev ≡ true → HoldsThree j (own_past past c ev) c.0
-own_reply j past c ev h k = record {
-  held = λ g among. absurd (false≢true (subst (λ pages. is_among pages g ≡ true) dropped among));
-  interrupted = rw (own_is c.0) (reply_step (is_interrupted past c.0) ev (stay past c.0) (interruption past c.0) h.interrupted k);
-  apart = own_apart j past c ev h;
-}
+own_reply j past c ev h k =
+    three_held j (own_past past c ev) c.0
+    (λ g among. absurd (false≢true (subst (λ pages. is_among pages g ≡ true) dropped among)))
+    (rw (own_is c.0) (reply_step (is_interrupted past c.0) ev (stay past c.0) (interruption past c.0) h.interrupted k))
+    (own_apart j past c ev h)
   where
     dropped : holds j (own_past past c ev) c.0 ≡ []
     dropped = rw (own_is c.0, k) refl
@@ -198,16 +257,16 @@ own_reply j past c ev h k = record {
 -- else it holds what it held, and what it begins to hold
 own_more : (j : JobView) (past : List Entry) (c : Cpu) (ev : Event) → HoldsThree j past c.0 → is_reply (is_interrupted past c.0) ev ≡ false
     → AreAmong (three j past c.0) (three j (own_past past c ev) c.0)
-    → AreAmong (holds_by j past c.0 (action_of ev)) (three j (own_past past c ev) c.0)
+    → AreHeld (own_past past c ev) (holds_by j past c.0 (action_of ev)) (three j (own_past past c ev) c.0)
     → interrupted_after ev (is_interrupted past c.0) ≡ is_some (interruption_after ev (stay past c.0) (interruption past c.0))
     → HoldsThree j (own_past past c ev) c.0
-own_more j past c ev h k keeps new broken = record {
-  held =
-      λ g among. all_append (holds j past c.0) (holds_by j past c.0 (action_of ev)) (three j (own_past past c ev) c.0)
-      (λ x m. keeps x (h.held x m)) new g (subst (λ pages. is_among pages g ≡ true) longer among);
-  interrupted = rw (own_is c.0) broken;
-  apart = own_apart j past c ev h;
-}
+own_more j past c ev h k keeps new broken =
+    three_held j (own_past past c ev) c.0
+    (subst (λ pages. AreHeld (own_past past c ev) pages (three j (own_past past c ev) c.0)) (sym longer)
+    (held_append (own_past past c ev) (holds j past c.0) (holds_by j past c.0 (action_of ev)) (three j (own_past past c ev) c.0)
+    (held_on past (entry_of (actors.Cpu c) ev) (holds j past c.0) (three j past c.0) (three j (own_past past c ev) c.0) keeps
+    (held_three j past c.0 h)) new))
+    (rw (own_is c.0) broken) (own_apart j past c ev h)
   where
     longer : holds j (own_past past c ev) c.0 ≡ holds j past c.0 ++ holds_by j past c.0 (action_of ev)
     longer = rw (own_is c.0, k) refl
@@ -236,12 +295,13 @@ three_still j past c ev still k =
     breaks = rw (own_is c.0) (still.breaks (stay past c.0) (interruption past c.0))
 
 pub own_still : (j : JobView) (past : List Entry) (c : Cpu) (ev : Event) → IsStill ev → HoldsThree j past c.0
-    → is_reply (is_interrupted past c.0) ev ≡ false → AreAmong (holds_by j past c.0 (action_of ev)) (three j past c.0)
+    → is_reply (is_interrupted past c.0) ev ≡ false → AreHeld past (holds_by j past c.0 (action_of ev)) (three j past c.0)
     → HoldsThree j (own_past past c ev) c.0
 own_still j past c ev still h k new =
     let same = three_still j past c ev still k in
     own_more j past c ev h k (subst (AreAmong (three j past c.0)) (sym same) (all_refl (three j past c.0)))
-    (subst (AreAmong (holds_by j past c.0 (action_of ev))) (sym same) new)
+    (held_on past (entry_of (actors.Cpu c) ev) (holds_by j past c.0 (action_of ev)) (three j past c.0) (three j (own_past past c ev) c.0)
+    (subst (AreAmong (three j past c.0)) (sym same) (all_refl (three j past c.0))) new)
     (still.interrupts (is_interrupted past c.0) ∙ h.interrupted ∙ ap is_some (sym (still.breaks (stay past c.0) (interruption past c.0))))
 
 pub refused_still : (a : Action) (refusal : Refusal) → IsStill (Refused a refusal)
@@ -297,7 +357,9 @@ pub own_fault : (j : JobView) (past : List Entry) (c : Cpu) (answer : Answer) (s
 own_fault j past c answer s h inside =
     let same = three_left j past c causes.Fault answer s true (λ o. refl) refl inside in
     own_more j past c (left causes.Fault answer) h refl (subst (AreAmong (three j past c.0)) (sym same) (all_refl (three j past c.0)))
-    (subst (AreAmong (access_of_stay j past c.0 (stay past c.0))) (sym same) access) broken
+    (among_held (own_past past c (left causes.Fault answer)) (access_of_stay j past c.0 (stay past c.0))
+    (three j (own_past past c (left causes.Fault answer)) c.0)
+    (subst (AreAmong (access_of_stay j past c.0 (stay past c.0))) (sym same) access)) broken
   where
     access : AreAmong (access_of_stay j past c.0 (stay past c.0)) (three j past c.0)
     access =
@@ -312,7 +374,7 @@ pub own_kick : (j : JobView) (past : List Entry) (c : Cpu) (answer : Answer) (s 
 own_kick j past c answer s h inside =
     let same = three_left j past c causes.Kick answer s false (λ o. refl) refl inside in
     own_more j past c (left causes.Kick answer) h refl (subst (AreAmong (three j past c.0)) (sym same) (all_refl (three j past c.0)))
-    (none_among (three j (own_past past c (left causes.Kick answer)) c.0)) broken
+    (none_held (own_past past c (left causes.Kick answer)) (three j (own_past past c (left causes.Kick answer)) c.0)) broken
   where
     broken : true ≡ is_some (interrupted_in (stay past c.0) false)
     broken = rw inside refl
@@ -329,17 +391,19 @@ own_end j past c answer h done =
     (λ g among. absurd (false≢true
     (subst (λ pages. is_among pages g ≡ true) (none_at_end j past (stay past c.0) (interruption past c.0)
     (next_op j past c.0) done) among)))
-    (none_among (three j (own_past past c (left causes.End answer)) c.0)) refl
+    (none_held (own_past past c (left causes.End answer)) (three j (own_past past c (left causes.End answer)) c.0)) refl
 
 -- ---- resumptions
 
-pub page_in_among : (content : Content) (g : Page) (zs : List Page) → is_page content g ≡ true → is_among zs g ≡ true
+pub page_in_among : (content : Content) (g : Page) (zs : List Page) → stands content g ≡ true → is_among zs g ≡ true
     → AreAmong (page_in content) zs
-page_in_among content g zs held there = subst (λ c. AreAmong (page_in c) zs) (sym (held_page content g held).holds) one
-  where
-    one : AreAmong (g ∷ []) zs
-    one x k = or_true (same_page g x) false (is_among zs x ≡ true) k
-        (λ m. subst (λ y. is_among zs y ≡ true) (same_pages g x m) there) (λ m. absurd (false≢true m))
+page_in_among (Holds page kind perm) g zs held there x k =
+    or_true (same_page page x) false (is_among zs x ≡ true) k
+    (λ m. subst (λ y. is_among zs y ≡ true) (sym (same_pages page g held) ∙ same_pages page x m) there) (λ m. absurd (false≢true m))
+page_in_among Free g zs held there x k = absurd (false≢true k)
+page_in_among (IsLoading page) g zs held there x k = absurd (false≢true k)
+page_in_among (IsVa number) g zs held there x k = absurd (false≢true k)
+page_in_among (SecsOf enclave) g zs held there x k = absurd (false≢true k)
 
 pages_less : (j : JobView) (e t n : ℕ) (o : Op) → AreAmong (pages_by j e t n o) (pages_by j e t (n - 1 + 1) o)
 pages_less j e t n o = by_count n (tcs_line (lines_at j.enclaves e) t)
@@ -367,7 +431,9 @@ pub own_resume : (j : JobView) (past : List Entry) (c : Cpu) (i : Interruption) 
     → HoldsThree j past c.0 → stay past c.0 ≡ None → interruption past c.0 ≡ Some i → next_op j past c.0 ≡ Some op
     → AreAmong (page_in (content past sf.0)) (three j past c.0) → HoldsThree j (own_past past c (resumed i tf sf answer)) c.0
 own_resume j past c i tf sf answer op h outside broken next used =
-    own_more j past c (resumed i tf sf answer) h quiet longer (λ g among. longer g (new g among)) refl
+    own_more j past c (resumed i tf sf answer) h quiet longer
+    (among_held (own_past past c (resumed i tf sf answer)) (page_at i.enclave i.tcs ∷ page_in (content past sf.0))
+    (three j (own_past past c (resumed i tf sf answer)) c.0) (λ g among. longer g (new g among))) refl
   where
     quiet : is_reply (is_interrupted past c.0) (resumed i tf sf answer) ≡ false
     quiet = ap not (h.interrupted ∙ ap is_some broken)

@@ -1,34 +1,35 @@
 -- Tracks, blocks and stays, one entry longer.
-use Rattle.std.proofs.Common.{◌≡◌, ℕ, ◌<◌, ◌≤◌, ◌==◌, ◌&&◌, ◌||◌, not, Bool, true, false}
+use Rattle.std.proofs.Common.{◌≡◌, ℕ, ◌+◌, ◌<◌, ◌≤◌, ◌==◌, ◌&&◌, ◌||◌, not, Bool, true, false}
 use Rattle.std.proofs.Common.{if◌then◌else◌, refl, sym, ◌∙◌, ap, subst, List, [], ◌∷◌, Option, Some, None}
 use Rattle.std.proofs.Common.{length, nat_lt, is_some, arith}
 use Rattle.std.proofs.lemmas.Bool.{eqb-true, eq-eqb, false≢true}
+use Rattle.sgx_types.proofs.Pages.{same_pages}
 use Rattle.sgx_types.proofs.Truths.{both_true}
-use Rattle.sgx_rules.specs.declared.entries.Action.TheVariants.{Epa, Create, Add, Block, Ewb, EldStart, Eld}
+use Rattle.sgx_rules.specs.declared.entries.Action.TheVariants.{Add, Block, Create, Eld, EldStart, Epa, Ewb}
 use Rattle.sgx_rules.specs.declared.entries.Answer.TheVariants.{Moved}
 use Rattle.sgx_rules.specs.declared.entries.Entry.{Entry}
 use Rattle.sgx_rules.specs.declared.entries.Event.{Event}
-use Rattle.sgx_rules.specs.declared.entries.Event.TheVariants.{Did, Refused, Age}
+use Rattle.sgx_rules.specs.declared.entries.Event.TheVariants.{Age, Did, Refused}
 use Rattle.sgx_rules.specs.declared.entries.Look.{Look}
-use Rattle.sgx_rules.specs.declared.entries.Look.TheVariants as looks
 use Rattle.sgx_types.specs.declared.names.Page.{Page}
-use Rattle.sgx_types.specs.declared.names.SlotAt.{SlotAt}
+use Rattle.sgx_types.specs.declared.names.VaSlot.{VaSlot}
 use Rattle.sgx_rules.specs.Epochs.{is_before, is_in_before, is_track, last_track}
-use Rattle.sgx_rules.specs.Eviction.{block_place, is_drained, is_drained_from, keeps_back, number_kept_back}
-use Rattle.sgx_rules.specs.Eviction.{track_behind}
+use Rattle.sgx_rules.specs.Eviction.{block_place, is_drained, is_drained_from, keeps_back, number_kept_back, track_behind}
 use Rattle.sgx_types.specs.Counts.{earlier_or}
-use Rattle.sgx_types.specs.Pages.{same_page}
-use Rattle.sgx_rules.specs.Frames.{Free, content, is_block, is_blocked, is_page, is_put, made_before, put_by}
-use Rattle.sgx_rules.specs.Starts.{is_load_of, open_start}
-use Rattle.sgx_rules.specs.Processors.{Enters, Keeps, Leaves, Move, Stay, is_by, move_by, stay, stay_after}
-use Rattle.sgx_rules.proofs.Contents.{load_no_page, page_enclave}
-use Rattle.sgx_types.proofs.CountLaws.{count_below-zero, count_below-none}
+use Rattle.sgx_rules.specs.Frames.{Content, content, Free, Holds, is_block, is_blocked, is_page, is_put, IsLoading, IsVa, made_before}
+use Rattle.sgx_rules.specs.Frames.{put_by, SecsOf, stands}
+use Rattle.sgx_types.specs.Pages.{is_own_page, same_page, secs_page, va_page}
+use Rattle.sgx_rules.specs.Starts.{open_start}
+use Rattle.sgx_rules.specs.Processors.{Enters, is_by, Keeps, Leaves, Move, move_by, Stay, stay, stay_after}
+use Rattle.sgx_rules.proofs.Contents.{page_enclave}
+use Rattle.sgx_types.proofs.CountLaws.{count_below-none, count_below-zero}
 use Rattle.driver_laws.specs.inner.Kinds.{CanMove}
-use Rattle.driver_rules.specs.Places.{Absent, Away, Leaving, Loading, Place, after_look, back_to, place}
+use Rattle.driver_rules.specs.Places.{Absent, after_look, Away, back_from, Leaving, Loading, Place, place}
 use Rattle.driver_laws.specs.inner.Sound.{IsSound, load_slot, slot_loading, stands_in}
-use Rattle.driver_laws.specs.inner.Tracks.{IsCalm, IsTracked, IsWaiting, moves_out}
-use Rattle.driver_laws.proofs.SoundLaws.{entry_of}
-use Rattle.driver_laws.proofs.PlaceLaws.{load_slot_is, of_same}
+use Rattle.driver_laws.specs.inner.Tracks.{IsCalm, IsTracked, IsWaiting, moves_from}
+use Rattle.driver_laws.proofs.SoundLaws.{entry_of, not_own_secs}
+use Rattle.driver_laws.proofs.PlaceLaws.{load_slot_is, loads_no_page, of_same}
+use Rattle.sgx_rules.specs.declared.entries.Look.TheVariants as looks
 
 -- ---- places of tracks and blocks
 
@@ -123,30 +124,39 @@ calm_kept past e n none calm p low = rw (last_kept past e n none) (by_move (move
 -- ---- a page that waits
 
 -- its frame holds it
-pub waiting_holds : (past : List Entry) (g : Page) (f b : ℕ) → IsSound past → IsWaiting past g f b → is_page (content past f) g ≡ true
+pub waiting_holds : (past : List Entry) (g : Page) (f b : ℕ) → IsSound past → IsWaiting past g f b → stands (content past f) g ≡ true
 waiting_holds past g f b s w = s.places.frames g f ∙ ap (λ p. stands_in p f) w.leaving ∙ eq-eqb f f refl
 
+-- .. as a TCS or REG page
+pub own_holds : (c : Content) (g : Page) → stands c g ≡ true → is_own_page g ≡ true → is_page c g ≡ true
+own_holds (Holds page kind perm) g h own = h
+own_holds Free g h own = absurd (false≢true h)
+own_holds (IsLoading page) g h own = absurd (false≢true h)
+own_holds (IsVa n) g h own = absurd (false≢true (ap is_own_page (same_pages (va_page n) g h) ∙ own))
+own_holds (SecsOf e) g h own =
+    absurd (false≢true (sym (not_own_secs e) ∙ ap is_own_page (same_pages (secs_page e) g h) ∙ own))
+
 -- a frame that is free is another
-free_apart : (past : List Entry) (g : Page) (f n : ℕ) → is_page (content past f) g ≡ true → content past n ≡ Free → (n == f) ≡ false
+free_apart : (past : List Entry) (g : Page) (f n : ℕ) → stands (content past f) g ≡ true → content past n ≡ Free → (n == f) ≡ false
 free_apart past g f n holds free = by_test (n == f) refl
   where
     by_test : (b : Bool) → (n == f) ≡ b → (n == f) ≡ false
-    by_test true is = absurd (false≢true (sym (ap (λ c. is_page c g) (subst (λ m. content past m ≡ Free) (eqb-true n f is) free)) ∙ holds))
+    by_test true is = absurd (false≢true (sym (ap (λ c. stands c g) (subst (λ m. content past m ≡ Free) (eqb-true n f is) free)) ∙ holds))
     by_test false is = is
 
 -- .. and so is one that loads
-load_apart : (past : List Entry) (g page : Page) (f n : ℕ) (slot : SlotAt) → IsSound past → is_page (content past f) g ≡ true
+load_apart : (past : List Entry) (g page : Page) (f n : ℕ) (slot : VaSlot) → IsSound past → stands (content past f) g ≡ true
     → place past page ≡ Loading n slot → (n == f) ≡ false
 load_apart past g page f n slot s holds loading = by_test (n == f) refl
   where
     load : load_slot (open_start past n) page ≡ Some slot
     load = s.places.loads page n ∙ ap (λ y. slot_loading y n) loading ∙ rw (eq-eqb n n refl) refl
 
-    none : is_page (content past n) g ≡ false
-    none = load_no_page (content past n) g (sym (s.places.loading n) ∙ load_slot_is (open_start past n) page slot load)
+    none : stands (content past n) g ≡ false
+    none = loads_no_page (content past n) g (sym (s.places.loading n) ∙ load_slot_is (open_start past n) page slot load)
 
     by_test : (b : Bool) → (n == f) ≡ b → (n == f) ≡ false
-    by_test true is = absurd (false≢true (sym none ∙ subst (λ m. is_page (content past m) g ≡ true) (sym (eqb-true n f is)) holds))
+    by_test true is = absurd (false≢true (sym none ∙ subst (λ m. stands (content past m) g ≡ true) (sym (eqb-true n f is)) holds))
     by_test false is = is
 
 -- a page elsewhere is another page
@@ -159,21 +169,27 @@ place_apart past page g p f at leaving apart = by_test (same_page page g) refl
     by_test false is = is
 
 -- a page that is leaving stays so as long as it has not gone out
-pub waiting_kept : (past : List Entry) (e : Entry) (g : Page) (f b : ℕ) → IsSound past → CanMove past e.event → moves_out e.event ≡ false
+pub waiting_kept : (past : List Entry) (e : Entry) (g : Page) (f b : ℕ) → IsSound past → CanMove past e.event → moves_from e.event f ≡ false
     → IsWaiting past g f b → IsWaiting (e ∷ past) g f b
 waiting_kept past e g f b s can stays w = by_event e.event can stays
   where
-    holds : is_page (content past f) g ≡ true
+    holds : stands (content past f) g ≡ true
     holds = waiting_holds past g f b s w
 
     absent : Absent ≡ Leaving f → ⊥
     absent h = cc
 
-    away : (slot : SlotAt) → Away slot ≡ Leaving f → ⊥
+    away : (slot : VaSlot) → Away slot ≡ Leaving f → ⊥
     away slot h = cc
 
-    loads : (n : ℕ) (slot : SlotAt) → Loading n slot ≡ Leaving f → ⊥
+    loads : (n : ℕ) (slot : VaSlot) → Loading n slot ≡ Leaving f → ⊥
     loads n slot h = cc
+
+    apart : (n : ℕ) → (n == f) ≡ false → n ≡ f → ⊥
+    apart n other same = false≢true (sym other ∙ eq-eqb n f same)
+
+    frame : {n : ℕ} → Leaving n ≡ Leaving f → n ≡ f
+    frame h = cc
 
     looked : (look : Look) (p : Place) → p ≡ Leaving f → after_look look p ≡ Leaving f
     looked looks.Taken p h = ap (λ q. after_look looks.Taken q) h
@@ -185,44 +201,63 @@ waiting_kept past e g f b s can stays w = by_event e.event can stays
     either true p h k = h
     either false p h k = k
 
-    by_event : (ev : Event) → CanMove past ev → moves_out ev ≡ false → IsWaiting (entry_of e.actor ev ∷ past) g f b
-    by_event (Did (Epa n) answer) k m = record { leaving = w.leaving; blocked = rw (free_apart past g f n.0 holds k) w.blocked }
+    by_event : (ev : Event) → CanMove past ev → moves_from ev f ≡ false → IsWaiting (entry_of e.actor ev ∷ past) g f b
+    by_event (Did (Epa n) answer) k m =
+        record {
+          leaving = rw (place_apart past _ g Absent f k.1 w.leaving absent) w.leaving;
+          blocked = rw (free_apart past g f n.0 holds k.0) w.blocked;
+          own = w.own;
+        }
     by_event (Did (Create enclave n base size) answer) k m =
-        record { leaving = w.leaving; blocked = rw (free_apart past g f n.0 holds k) w.blocked }
+        record {
+          leaving = rw (place_apart past _ g Absent f k.1 w.leaving absent) w.leaving;
+          blocked = rw (free_apart past g f n.0 holds k.0) w.blocked;
+          own = w.own;
+        }
     by_event (Did (Add enclave number n kind perm init) answer) k m =
         record {
           leaving = rw (place_apart past _ g Absent f k.1 w.leaving absent) w.leaving;
           blocked = rw
               (free_apart past g f n.0 holds k.0) w.blocked;
+          own = w.own;
         }
     by_event (Did (EldStart n page slot) answer) k m =
         record {
-          leaving = rw (place_apart past page g (Away slot) f k.1 w.leaving (away slot)) w.leaving;
+          leaving = rw (place_apart past page g (Away k.1) f k.2 w.leaving (away k.1)) w.leaving;
           blocked = rw
               (free_apart past g f n.0 holds k.0) w.blocked;
+          own = w.own;
         }
     by_event (Did (Eld n) (Moved page version tag)) k m =
         record {
           leaving = rw (place_apart past page g (Loading n.0 k.0) f k.1 w.leaving (loads n.0 k.0)) w.leaving;
           blocked = rw
               (load_apart past g page f n.0 k.0 s holds k.1) w.blocked;
+          own = w.own;
         }
     by_event (Refused (Eld n) refusal) k m =
         record {
-          leaving = either (is_load_of (open_start past n.0) g) (back_to (place past g))
-              (ap back_to w.leaving) w.leaving;
+          leaving = ap (back_from n.0) w.leaving;
           blocked = rw (load_apart past g k.0 f n.0 k.1 s holds k.2) w.blocked;
+          own = w.own;
         }
     by_event (Age page look) k m =
         record {
           leaving = either (same_page page g) (after_look look (place past g))
               (looked look (place past g) w.leaving) w.leaving;
           blocked = w.blocked;
+          own = w.own;
         }
-    by_event (Did (Ewb n) answer) k m = absurd (false≢true (sym m))
-    by_event (Did (Block n) answer) k m = absurd (false≢true (sym m))
+    by_event (Did (Ewb n) (Moved page version tag)) k m =
+        record {
+          leaving = rw (place_apart past page g (Leaving n.0) f k.0 w.leaving (λ h. apart n.0 m (frame h))) w.leaving;
+          blocked = rw m w.blocked;
+          own = w.own;
+        }
+    by_event (Did (Ewb n) answer) k m = absurd k
+    by_event (Did (Block n) answer) k m = record { leaving = w.leaving; blocked = rw m w.blocked; own = w.own }
     by_event (Did (Eld n) answer) k m = absurd k
-    by_event _ k m = record { leaving = w.leaving; blocked = w.blocked }
+    by_event _ k m = record { leaving = w.leaving; blocked = w.blocked; own = w.own }
 
 -- ---- drained
 
@@ -230,7 +265,8 @@ waiting_kept past e g f b s can stays w = by_event e.event can stays
 pub drained_waiting : (past : List Entry) (g : Page) (f b : ℕ) → IsSound past → IsWaiting past g f b
     → is_drained past f ≡ (is_some (track_behind past g.enclave b) && (number_kept_back past g.enclave b == 0))
 drained_waiting past g f b s w =
-    ap (λ e. is_drained_from past e (block_place past f)) (page_enclave (content past f) g (waiting_holds past g f b s w))
+    ap (λ e. is_drained_from past e (block_place past f))
+    (page_enclave (content past f) g (own_holds (content past f) g (waiting_holds past g f b s w) w.own))
     ∙ ap (is_drained_from past (Some g.enclave)) w.blocked
 
 -- inside since before a place

@@ -1,32 +1,31 @@
 -- Slots stay used, one entry longer.
 use Rattle.std.proofs.Common.{◌≡◌, ℕ, ◌<◌, ◌==◌, Bool, true, false, if◌then◌else◌, refl, sym, ◌∙◌, ap, subst}
 use Rattle.std.proofs.Common.{List, [], ◌∷◌, Option, Some, None, length}
-use Rattle.std.proofs.lemmas.Bool.{eq-eqb, false≢true}
-use Rattle.sgx_types.proofs.Pages.{same_places}
-use Rattle.sgx_rules.specs.declared.entries.Action.TheVariants.{Add, EwbStart, Ewb, EldStart, Eld}
+use Rattle.std.proofs.lemmas.Bool.{false≢true}
+use Rattle.sgx_rules.specs.declared.entries.Action.TheVariants.{Add, Create, Eld, EldStart, Epa, Ewb, EwbStart}
 use Rattle.sgx_types.specs.declared.names.Actor.{Actor}
 use Rattle.sgx_rules.specs.declared.entries.Answer.{Answer}
 use Rattle.sgx_rules.specs.declared.entries.Answer.TheVariants.{Moved}
 use Rattle.sgx_rules.specs.declared.entries.Entry.{Entry}
 use Rattle.sgx_rules.specs.declared.entries.Event.{Event}
-use Rattle.sgx_rules.specs.declared.entries.Event.TheVariants.{Did, Refused, Age}
+use Rattle.sgx_rules.specs.declared.entries.Event.TheVariants.{Age, Did, Refused}
 use Rattle.sgx_rules.specs.declared.entries.Look.{Look}
-use Rattle.sgx_rules.specs.declared.entries.Look.TheVariants as looks
 use Rattle.sgx_types.specs.declared.names.Frame.{Frame}
 use Rattle.sgx_types.specs.declared.names.Page.{Page}
 use Rattle.sgx_types.specs.declared.names.SlotAt.{SlotAt}
+use Rattle.sgx_types.specs.declared.names.VaSlot.{VaSlot}
 use Rattle.sgx_rules.specs.declared.refusals.Refusal.{Refusal}
-use Rattle.sgx_types.specs.Pages.{page_at, same_page}
-use Rattle.sgx_types.specs.inner.Places.{same_place}
-use Rattle.driver_laws.specs.inner.ByFrame.{names_slot, open_slot, starting, version_in}
-use Rattle.sgx_rules.specs.Starts.{Start, open_start, version_told}
-use Rattle.driver_rules.specs.Places.{Here, Place, after_look, gone_to, place}
+use Rattle.sgx_types.specs.Pages.{page_at, same_page, same_slot, secs_page, va_page}
+use Rattle.sgx_rules.specs.Frames.{vas_made}
+use Rattle.sgx_rules.specs.Slots.{names_slot, open_slot, slot_of as slot_of_start, version_in}
+use Rattle.sgx_rules.specs.Starts.{open_start, Start, started, version_told}
+use Rattle.driver_rules.specs.Places.{after_look, gone_to, Here, Place, place}
 use Rattle.driver_laws.specs.inner.Kinds.{CanMove}
 use Rattle.driver_laws.specs.inner.Sound.{IsSound, slot_at, slot_outside}
-use Rattle.driver_laws.specs.inner.Used.{LoadsHaveFound, SlotsAreFilled, SlotsAreUsed, StartTells, WritesHaveDrawn}
-use Rattle.driver_laws.proofs.SlotLaws.{other_slot, outside_here, outside_loading, outside_refused, outside_taken, same_place-refl}
+use Rattle.driver_laws.specs.inner.Used.{SlotsAreFilled, SlotsAreUsed, StartTells, WritesHaveDrawn}
+use Rattle.driver_laws.proofs.SlotLaws.{other_slot, outside_here, outside_loading, outside_refused, outside_taken, same_slot-refl}
 use Rattle.driver_laws.proofs.SoundLaws.{entry_of, load_start, named}
-use Rattle.driver_laws.proofs.AloneLaws.{alone}
+use Rattle.sgx_rules.specs.declared.entries.Look.TheVariants as looks
 
 -- ---- versions that were drawn
 
@@ -46,72 +45,37 @@ drawn_closed opened f h n y = by_frame (f == n)
     by_frame true k writes = cc
     by_frame false k writes = h n y k writes
 
--- ---- versions that were found
-
-found_opened : (opened : ℕ → Option Start) (version : SlotAt → ℕ) (f : ℕ) (x : Start)
-    → ((g : Page) → x.loads ≡ Some g → x.version ≡ version x.at) → LoadsHaveFound opened version
-    → LoadsHaveFound (λ n. if f == n then Some x else opened n) version
-found_opened opened version f x new h n y g = by_frame (f == n)
-  where
-    by_frame : (b : Bool) → (if b then Some x else opened n) ≡ Some y → y.loads ≡ Some g → y.version ≡ version y.at
-    by_frame true k loads =
-        let same : x ≡ y = cc in
-        subst (λ (z : Start). z.version ≡ version z.at) same (new g (ap (λ (z : Start). z.loads) same ∙ loads))
-    by_frame false k loads = h n y g k loads
-
-found_dropped : (opened : ℕ → Option Start) (version : SlotAt → ℕ) (f : ℕ) → LoadsHaveFound opened version
-    → LoadsHaveFound (λ n. if f == n then None else opened n) version
-found_dropped opened version f h n y g = by_frame (f == n)
-  where
-    by_frame : (b : Bool) → (if b then None else opened n) ≡ Some y → y.loads ≡ Some g → y.version ≡ version y.at
-    by_frame true k loads = cc
-    by_frame false k loads = h n y g k loads
-
--- the start of a frame ends, and its slot holds another version: no other start names that
-found_closed : (opened : ℕ → Option Start) (version : SlotAt → ℕ) (f : ℕ) (x : Start) (its : Option SlotAt) (v : ℕ) → its ≡ Some x.at
-    → ((n : ℕ) (y : Start) → opened n ≡ Some y → x.at ≡ y.at → f ≡ n) → LoadsHaveFound opened version
-    → LoadsHaveFound (λ n. if f == n then None else opened n) (λ slot. if names_slot its slot then v else version slot)
-found_closed opened version f x its v names apart h n y g = rw names (by_frame (f == n) refl)
-  where
-    by_slot : (b : Bool) → (f == n) ≡ false → opened n ≡ Some y → y.loads ≡ Some g → same_place x.at y.at ≡ b
-        → y.version ≡ (if b then v else version y.at)
-    by_slot true isnt k loads is = absurd (false≢true (sym isnt ∙ eq-eqb f n (apart n y k (same_places x.at y.at is))))
-    by_slot false isnt k loads is = h n y g k loads
-
-    by_frame : (b : Bool) → (f == n) ≡ b → (if b then None else opened n) ≡ Some y → y.loads ≡ Some g
-        → y.version ≡ (if same_place x.at y.at then v else version y.at)
-    by_frame true is k loads = cc
-    by_frame false is k loads = by_slot (same_place x.at y.at) is k loads refl
-
 -- ---- slots that are filled
 
 -- a page went out under a version
-filled_out : (at : Page → Place) (opened : ℕ → Option Start) (version : SlotAt → ℕ) (f : ℕ) (a : Page) (x : Start) (its : Option SlotAt)
-    (v : ℕ) → opened f ≡ Some x → its ≡ Some x.at → 0 < v → SlotsAreFilled at version
-    → SlotsAreFilled (λ g. if same_page a g then gone_to (opened f) (at g) else at g) (λ s. if names_slot its s then v else version s)
-filled_out at opened version f a x its v is_open names some h g slot = rw names (by_slot (same_place x.at slot) (same_page a g) refl)
+filled_out : (at : Page → Place) (opened : ℕ → Option Start) (version : VaSlot → ℕ) (f : ℕ) (a : Page) (x : Start) (its : Option VaSlot)
+    (v : ℕ) → opened f ≡ Some x → its ≡ Some x.slot → 0 < v → SlotsAreFilled at version
+    → SlotsAreFilled (λ g. if same_page a g then gone_to (slot_of_start (opened f)) (at g) else at g)
+    (λ s. if names_slot its s then v else version s)
+filled_out at opened version f a x its v is_open names some h g slot = rw names (by_slot (same_slot x.slot slot) (same_page a g) refl)
   where
-    its_own : slot_outside (gone_to (opened f) (at g)) ≡ Some slot → same_place x.at slot ≡ true
-    its_own k = told (sym (ap (λ y. slot_outside (gone_to y (at g))) is_open) ∙ k)
+    its_own : slot_outside (gone_to (slot_of_start (opened f)) (at g)) ≡ Some slot → same_slot x.slot slot ≡ true
+    its_own k = told (sym (ap (λ y. slot_outside (gone_to (slot_of_start y) (at g))) is_open) ∙ k)
       where
-        told : Some x.at ≡ Some slot → same_place x.at slot ≡ true
-        told e = let same : x.at ≡ slot = cc in subst (λ t. same_place x.at t ≡ true) same (same_place-refl x.at)
+        told : Some x.slot ≡ Some slot → same_slot x.slot slot ≡ true
+        told e = let same : x.slot ≡ slot = cc in subst (λ t. same_slot x.slot t ≡ true) same (same_slot-refl x.slot)
 
-    by_slot : (b c : Bool) → same_place x.at slot ≡ b → slot_outside (if c then gone_to (opened f) (at g) else at g) ≡ Some slot
+    by_slot : (b c : Bool) → same_slot x.slot slot ≡ b → slot_outside (if c then gone_to (slot_of_start (opened f)) (at g) else at g)
+        ≡ Some slot
         → 0 < (if b then v else version slot)
     by_slot true c is k = some
     by_slot false true is k = absurd (false≢true (sym is ∙ its_own k))
     by_slot false false is k = h g slot k
 
 -- a page came back from its slot
-filled_back : (at : Page → Place) (version : SlotAt → ℕ) (f : ℕ) (a : Page) (mine : SlotAt)
-    (its : Option SlotAt) → ((g : Page) (slot : SlotAt) → same_page a g ≡ false → slot_outside (at g) ≡ Some slot
-    → same_place mine slot ≡ false) → its ≡ Some mine → SlotsAreFilled at version
+filled_back : (at : Page → Place) (version : VaSlot → ℕ) (f : ℕ) (a : Page) (mine : VaSlot)
+    (its : Option VaSlot) → ((g : Page) (slot : VaSlot) → same_page a g ≡ false → slot_outside (at g) ≡ Some slot
+    → same_slot mine slot ≡ false) → its ≡ Some mine → SlotsAreFilled at version
     → SlotsAreFilled (λ g. if same_page a g then Here f else at g) (λ s. if names_slot its s then 0 else version s)
 filled_back at version f a mine its apart names h g slot = rw names (by_page (same_page a g) refl)
   where
     by_page : (b : Bool) → same_page a g ≡ b → slot_outside (if b then Here f else at g) ≡ Some slot
-        → 0 < (if same_place mine slot then 0 else version slot)
+        → 0 < (if same_slot mine slot then 0 else version slot)
     by_page true is k = cc
     by_page false is k = rw (apart g slot is k) (h g slot k)
 
@@ -121,28 +85,19 @@ pub first_used : SlotsAreUsed []
 first_used = record {
   filled = λ g slot h. cc;
   drawn = λ n x h. cc;
-  found = λ n x g h. cc;
 }
 
-unmoved : (b : Bool) (p : Place) (slot : SlotAt) → slot_outside (if b then p else p) ≡ Some slot → slot_outside p ≡ Some slot
+unmoved : (b : Bool) (p : Place) (slot : VaSlot) → slot_outside (if b then p else p) ≡ Some slot → slot_outside p ≡ Some slot
 unmoved true p slot k = k
 unmoved false p slot k = k
 
-outside_looked : (past : List Entry) (page g : Page) (look : Look) (slot : SlotAt)
+outside_looked : (past : List Entry) (page g : Page) (look : Look) (slot : VaSlot)
     → slot_outside (if same_page page g then after_look look (place past g) else place past g) ≡ Some slot
     → slot_outside (place past g) ≡ Some slot
 outside_looked past page g looks.Taken slot = outside_taken (place past) page g slot
 outside_looked past page g looks.Young slot = unmoved (same_page page g) (place past g) slot
 outside_looked past page g looks.Held slot = unmoved (same_page page g) (place past g) slot
 outside_looked past page g looks.NoRoom slot = unmoved (same_page page g) (place past g) slot
-
--- the versions behind the end of the start of a frame, where its slot holds another one
-closed_found : (past : List Entry) (f : ℕ) (x : Start) (v : ℕ) → IsSound past → SlotsAreUsed past → open_start past f ≡ Some x
-    → LoadsHaveFound (λ n. if f == n then None else open_start past n)
-    (λ slot. if names_slot (open_slot past f) slot then v else version_in past slot)
-closed_found past f x v s u is_open =
-    found_closed (open_start past) (version_in past) f x (open_slot past f) v (named past f x is_open)
-    (λ n y k same. (alone past s).apart f n x y is_open k same) u.found
 
 used_out : (past : List Entry) (a : Actor) (f : Frame) (page : Page) (version : ℕ) (tag : List ℕ)
     → StartTells past (Did (Ewb f) (Moved page version tag)) → IsSound past → SlotsAreUsed past
@@ -156,22 +111,19 @@ used_out past a f page version tag told s u =
           (named past f.0 x is_open)
           (subst (λ v. 0 < v) (sym told.3) (u.drawn f.0 x is_open told.2)) u.filled;
       drawn = drawn_closed (open_start past) f.0 u.drawn;
-      found = closed_found past f.0 x version s u is_open;
     }
 
-used_loading : (past : List Entry) (a : Actor) (f : Frame) (page : Page) (slot : SlotAt) (answer : Answer)
-    → CanMove past (Did (EldStart f page slot) answer) → StartTells past (Did (EldStart f page slot) answer) → IsSound past
-    → SlotsAreUsed past → SlotsAreUsed (entry_of a (Did (EldStart f page slot) answer) ∷ past)
-used_loading past a f page slot answer can told s u = record {
-  filled = λ g t k. u.filled g t (outside_loading (place past) page f.0 slot can.1 g t k);
-  drawn = subst (λ o. WritesHaveDrawn (starting past a f.0 slot answer (Some page) o)) (sym can.2.1)
-      (drawn_opened (open_start past) f.0 new (λ h. cc) u.drawn);
-  found = subst (λ o. LoadsHaveFound (starting past a f.0 slot answer (Some page) o) (version_in past)) (sym can.2.1)
-      (found_opened (open_start past) (version_in past) f.0 new (λ g h. told) u.found);
+used_loading : (past : List Entry) (a : Actor) (f : Frame) (page : Page) (to : SlotAt) (answer : Answer)
+    → CanMove past (Did (EldStart f page to) answer) → SlotsAreUsed past
+    → SlotsAreUsed (entry_of a (Did (EldStart f page to) answer) ∷ past)
+used_loading past a f page to answer can u = record {
+  filled = λ g t k. u.filled g t (outside_loading (place past) page f.0 can.1 can.2 g t k);
+  drawn = subst (λ o. WritesHaveDrawn (λ n. if f.0 == n then started a (length past) to answer (Some page) o else open_start past n))
+      (sym can.3) (drawn_opened (open_start past) f.0 new (λ h. cc) u.drawn);
 }
   where
     new : Start
-    new = record { at = slot; slot = can.2.0; version = version_told answer; loads = Some page; place = length past; actor = a }
+    new = record { at = to; slot = can.1; version = version_told answer; loads = Some page; place = length past; actor = a }
 
 used_back : (past : List Entry) (a : Actor) (f : Frame) (page : Page) (version : ℕ) (tag : List ℕ)
     → CanMove past (Did (Eld f) (Moved page version tag)) → IsSound past → SlotsAreUsed past
@@ -186,7 +138,6 @@ used_back past a f page version tag can s u =
           (λ g t other k. other_slot (place past) (open_start past) page g slot t s.apart (ap (slot_at (open_start past)) loading) other k)
           (named past f.0 start.0 start.1 ∙ ap Some start.2) u.filled;
       drawn = drawn_closed (open_start past) f.0 u.drawn;
-      found = closed_found past f.0 start.0 0 s u start.1;
     }
 
 used_refused : (past : List Entry) (a : Actor) (f : Frame) (refusal : Refusal) → CanMove past (Refused (Eld f) refusal) → IsSound past
@@ -194,9 +145,8 @@ used_refused : (past : List Entry) (a : Actor) (f : Frame) (refusal : Refusal) �
 used_refused past a f refusal can s u =
     let start = load_start past f.0 can.0 can.1 s can.2 in
     record {
-      filled = λ g slot k. u.filled g slot (outside_refused (place past) (open_start past) f.0 g slot k);
+      filled = λ g slot k. u.filled g slot (outside_refused (place past) f.0 g slot k);
       drawn = drawn_closed (open_start past) f.0 u.drawn;
-      found = found_dropped (open_start past) (version_in past) f.0 u.found;
     }
 
 pub stays_used : (past : List Entry) (e : Entry) → IsSound past → CanMove past e.event → StartTells past e.event → SlotsAreUsed past
@@ -207,24 +157,29 @@ stays_used past e s can told u = by_event e.event can told
     by_event (Did (Add n number f kind perm init) answer) c t = record {
       filled = λ g slot k. u.filled g slot (outside_here (place past) (page_at n number) f.0 g slot k);
       drawn = u.drawn;
-      found = u.found;
+    }
+    by_event (Did (Epa f) answer) c t = record {
+      filled = λ g slot k. u.filled g slot (outside_here (place past) (va_page (vas_made past)) f.0 g slot k);
+      drawn = u.drawn;
+    }
+    by_event (Did (Create n f base size) answer) c t = record {
+      filled = λ g slot k. u.filled g slot (outside_here (place past) (secs_page n) f.0 g slot k);
+      drawn = u.drawn;
     }
     by_event (Age page look) c t =
-        record { filled = λ g slot k. u.filled g slot (outside_looked past page g look slot k); drawn = u.drawn; found = u.found }
-    by_event (Did (EwbStart f slot) answer) c t =
+        record { filled = λ g slot k. u.filled g slot (outside_looked past page g look slot k); drawn = u.drawn }
+    by_event (Did (EwbStart f to) answer) c t =
         let new : Start =
-        record { at = slot; slot = c.2.0; version = version_told answer; loads = None; place = length past; actor = e.actor } in
+        record { at = to; slot = c.1; version = version_told answer; loads = None; place = length past; actor = e.actor } in
         record {
           filled = u.filled;
-          drawn = subst (λ o. WritesHaveDrawn (starting past e.actor f.0 slot answer None o)) (sym c.2.1)
-              (drawn_opened (open_start past) f.0 new (λ h. t.1) u.drawn);
-          found = subst (λ o. LoadsHaveFound (starting past e.actor f.0 slot answer None o) (version_in past)) (sym c.2.1)
-              (found_opened (open_start past) (version_in past) f.0 new (λ g h. cc) u.found);
+          drawn = subst (λ o. WritesHaveDrawn (λ n. if f.0 == n then started e.actor (length past) to answer None o else open_start past n))
+              (sym c.2) (drawn_opened (open_start past) f.0 new (λ h. t.1) u.drawn);
         }
     by_event (Did (Ewb f) (Moved page version tag)) c t = used_out past e.actor f page version tag t s u
-    by_event (Did (EldStart f page slot) answer) c t = used_loading past e.actor f page slot answer c t s u
+    by_event (Did (EldStart f page slot) answer) c t = used_loading past e.actor f page slot answer c u
     by_event (Did (Eld f) (Moved page version tag)) c t = used_back past e.actor f page version tag c s u
     by_event (Refused (Eld f) refusal) c t = used_refused past e.actor f refusal c s u
     by_event (Did (Ewb f) answer) c t = absurd c
     by_event (Did (Eld f) answer) c t = absurd c
-    by_event _ c t = record { filled = u.filled; drawn = u.drawn; found = u.found }
+    by_event _ c t = record { filled = u.filled; drawn = u.drawn }

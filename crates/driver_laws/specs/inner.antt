@@ -1,4 +1,3 @@
-pub mod ByFrame
 pub mod Sound
 pub mod Kinds
 pub mod Tracks
@@ -8,6 +7,8 @@ pub mod Agrees
 pub mod Driven
 pub mod Started
 pub mod Used
+pub mod Fixed
+pub mod Inits
 pub mod Counted
 pub mod Loads
 pub mod Keeps

@@ -1,50 +1,47 @@
 -- The tests pass exactly where the rules hold.
 use Rattle.std.proofs.Common.{◌≡◌, ℕ, ◌<◌, ◌==◌, ◌&&◌, not, Bool, true, false, refl, sym, ap, subst, List, []}
-use Rattle.std.proofs.Common.{◌∷◌, Option, Some, None, length, nat_lt, arith, zero, suc, ◌||◌}
+use Rattle.std.proofs.Common.{◌∷◌, Option, Some, None, length, nat_lt, arith, zero, suc, ◌||◌, ◌⊎◌, inl, inr}
 use Rattle.std.proofs.lemmas.Bool.{eqb-true, eq-eqb, false≢true}
 use Rattle.sgx_types.proofs.Truths.{both_true}
-use Rattle.sgx_types.proofs.Pages.{same_pages}
+use Rattle.sgx_types.proofs.Pages.{same_page-refl, same_pages}
 use Rattle.sgx_rules.specs.declared.entries.Action.{Action}
-use Rattle.sgx_rules.specs.declared.entries.Action.TheVariants.{Block, Track, EwbStart, Ewb, EldStart}
+use Rattle.sgx_rules.specs.declared.entries.Action.TheVariants.{Block, Ewb, EwbStart, Track}
 use Rattle.sgx_types.specs.declared.names.Actor.{Actor}
-use Rattle.sgx_types.specs.declared.names.Actor.TheVariants as actors
 use Rattle.sgx_rules.specs.declared.entries.BusWhy.{BusWhy}
-use Rattle.sgx_rules.specs.declared.entries.BusWhy.TheVariants as reasons
 use Rattle.sgx_rules.specs.declared.entries.Entry.{Entry}
 use Rattle.sgx_rules.specs.declared.entries.Event.{Event}
-use Rattle.sgx_rules.specs.declared.entries.Event.TheVariants.{Did, Refused, Age, Kick, Bus}
+use Rattle.sgx_rules.specs.declared.entries.Event.TheVariants.{Age, Bus, Did, Kick, Refused}
 use Rattle.sgx_rules.specs.declared.entries.Look.{Look}
 use Rattle.sgx_types.specs.declared.names.Page.{Page}
-use Rattle.sgx_types.specs.declared.names.SlotAt.{SlotAt}
-use Rattle.sgx_rules.specs.declared.refusals.Refusal.TheVariants as why
 use Rattle.sgx_types.specs.Pages.{same_page}
 use Rattle.job_grammar.specs.Jobs.{JobView}
-use Rattle.turn_rules.specs.Script.{action_of, build_of, built, frame_at, replied, script_of}
-use Rattle.driver_rules.specs.Ages.{AgeRule, BesideOf, FormOf, InForm, InPass, IsBeside, IsEnd, IsInTries, IsKickOrTry}
-use Rattle.driver_rules.specs.Ages.{IsLastTry, IsLookAt}
-use Rattle.driver_rules.specs.Ages.{IsNextBlock, IsTrackOf, IsTry, KickRule, LookOf, PassOf, head_of}
-use Rattle.driver_rules.specs.inner.Decided.{Tells, beside_of, form_of, is_action, is_actors, is_beside, is_end, is_fetch}
-use Rattle.driver_rules.specs.inner.Decided.{is_in_form, is_look_of}
-use Rattle.driver_rules.specs.inner.Decided.{is_try_of, is_in_pass, is_in_tries, is_kick_of, is_kick_or_try, is_last_try}
-use Rattle.driver_rules.specs.inner.Decided.{is_leaving_in, is_next}
-use Rattle.driver_rules.specs.inner.Decided.{is_next_block, is_some_page, is_stop, is_track_of, is_try, keeps_age, keeps_kick}
-use Rattle.driver_rules.specs.inner.Decided.{keeps_script}
-use Rattle.driver_rules.specs.inner.Decided.{looks_at, looks_of, pass_of, same_reason, are_done, is_done, is_outside, is_ended}
+use Rattle.turn_rules.specs.Script.{action_of, build_of, built, replied, script_of}
+use Rattle.driver_rules.specs.Ages.{AgeOf, AgeRuleBy, Ahead, ahead, BesideOf, EndsNext, FormOf, FormUnless, GoesOn, head_of, InForm}
+use Rattle.driver_rules.specs.Ages.{InPass, IsAhead, IsBeside, IsEnd, IsEndAhead, IsInTries, IsKickOrTry, IsLastTry, IsLookAhead}
+use Rattle.driver_rules.specs.Ages.{IsLookAt, IsNextBlock, IsOfPass, IsTrackOf, IsTry, IsTryAhead, KickRule, LookOf, Looks, TriesNext}
+use Rattle.driver_rules.specs.inner.Decided.{age_of, are_done, beside_of, form_of, is_action, is_actors, is_ahead, is_beside, is_done}
+use Rattle.driver_rules.specs.inner.Decided.{is_end, is_end_ahead, is_ended, is_fetch, is_in_form, is_in_pass, is_in_tries, is_kick_of}
+use Rattle.driver_rules.specs.inner.Decided.{is_kick_or_try, is_last_try, is_leaving_in, is_look_ahead, is_look_of, is_lost, is_next}
+use Rattle.driver_rules.specs.inner.Decided.{is_next_block, is_of_pass, is_outside, is_some_page, is_stop, is_track_of, is_try}
+use Rattle.driver_rules.specs.inner.Decided.{is_try_ahead, is_try_of, keeps_age_by, keeps_kick, keeps_script, looks_at, looks_of}
+use Rattle.driver_rules.specs.inner.Decided.{same_reason, Tells}
 use Rattle.driver_rules.specs.Holds.{is_held}
-use Rattle.driver_rules.specs.Passes.{Blocking, Between, First, Form, Kicks, Pass, Scan, Sealing, Second, Third, ToKick, ToTrack}
-use Rattle.driver_rules.specs.Passes.{Tries}
-use Rattle.driver_rules.specs.Passes.{keepers, pass}
-use Rattle.driver_rules.specs.Places.{Absent, Away, Here, Leaving, Loading, Place, active, is_young, place}
+use Rattle.driver_rules.specs.Passes.{aside, Between, Blocking, First, Form, is_aside, keepers, Kicks, Pass, pass, Scan, Sealing}
+use Rattle.driver_rules.specs.Passes.{Second, Third, ToKick, ToTrack, Tries}
+use Rattle.driver_rules.specs.Places.{Absent, active, Away, Here, is_young, Leaving, Loading, Place, place}
 use Rattle.driver_rules.specs.inner.Same.{same_action}
-use Rattle.driver_rules.specs.Scripts.{IsActors, ScriptRule, is_load, IsDone, IsEnded, IsWhole}
+use Rattle.driver_rules.specs.Scripts.{is_load, IsActors, IsDone, IsEnded, IsWhole, ScriptRule}
+use Rattle.driver_rules.specs.Spares.{Outs}
 use Rattle.driver_rules.specs.Stops.{has_bus, is_spent}
-use Rattle.driver_rules.specs.Dues.{Due, Ends, Fetches, Finished, IsFetch, IsKickOf, IsLook, IsNext, IsTryOf, KicksAll, LooksAt}
-use Rattle.driver_rules.specs.Dues.{Makes}
-use Rattle.driver_rules.specs.Dues.{Reports, Stopped, TriesOut, Waits, is_look}
+use Rattle.driver_rules.specs.Dues.{Asks, Due, Ends, Fetch, Fetches, Finished, is_look, IsFetch, IsKickOf, IsLook, IsLost, IsNext}
+use Rattle.driver_rules.specs.Dues.{IsTryOf, KicksAll, load_by, LooksAt, Makes, Reports, Stopped, TriesOut, Waits, WaitsFor}
 use Rattle.driver_rules.specs.Turns.{builder_due, cpu_due}
-use Rattle.sgx_types.proofs.Pages.{same_page-refl}
 use Rattle.driver_rules.proofs.SameLaws.{action-refl, action-true}
 use Rattle.sgx_rules.specs.Processors.{Stay, stay}
+use Rattle.sgx_types.specs.declared.names.Actor.TheVariants as actors
+use Rattle.sgx_rules.specs.declared.entries.BusWhy.TheVariants as reasons
+use Rattle.sgx_rules.specs.declared.entries.Look.TheVariants as looks
+use Rattle.sgx_rules.specs.declared.refusals.Refusal.TheVariants as why
 
 never : Tells false ⊥
 never = (λ h. false≢true h, λ h. absurd h)
@@ -54,6 +51,14 @@ always = (λ h. tt, λ h. refl)
 
 both : (a b : Bool) (A B : Type 0) → Tells a A → Tells b B → Tells (a && b) (A × B)
 both a b A B s t = (λ h. let k = both_true a b h in (s.0 k.0, t.0 k.1), λ h. rw (s.1 h.0, t.1 h.1) refl)
+
+either : (a b : Bool) (A B : Type 0) → Tells a A → Tells b B → Tells (a || b) (A ⊎ B)
+either true b A B s t = (λ h. inl (s.0 refl), λ h. refl)
+either false b A B s t = (λ h. inr (t.0 h), by_side)
+  where
+    by_side : A ⊎ B → b ≡ true
+    by_side (inl x) = absurd (false≢true (s.1 x))
+    by_side (inr y) = t.1 y
 
 numbers : (m n : ℕ) → Tells (m == n) (m ≡ n)
 numbers m n = (λ h. eqb-true m n h, λ h. eq-eqb m n h)
@@ -116,29 +121,52 @@ pass_tells past (Blocking todo taken) (Did (Block f) answer) = block_tells past 
 pass_tells past (Tries g rest form) ev = tries_tell past g ev
 pass_tells past _ ev = never
 
-looks_of_tells : (j : JobView) (past : List Entry) (a : Actor) (ev : Event) → Tells (looks_of j past a ev) (LookOf j past a ev)
-looks_of_tells j past actors.Reclaimer (Age page look) = looks_tell j past page look
-looks_of_tells j past _ _ = always
+looks_of_tells : (j : JobView) (past : List Entry) (ev : Event) → Tells (looks_of j past ev) (LookOf j past ev)
+looks_of_tells j past (Age page look) = looks_tell j past page look
+looks_of_tells j past _ = always
 
-pass_of_tells : (past : List Entry) (p : Pass) (a : Actor) (ev : Event) → Tells (pass_of past p a ev) (PassOf past p a ev)
-pass_of_tells past p actors.Reclaimer ev = pass_tells past p ev
-pass_of_tells past p _ ev = always
-
-pub age_tells : (j : JobView) (past : List Entry) (e : Entry) → Tells (keeps_age j past e) (AgeRule j past e)
-age_tells j past e =
-    let s = looks_of_tells j past e.actor e.event in
-    let t = pass_of_tells past (pass j past) e.actor e.event in (
-      λ h. let k =
-          both_true (looks_of j past e.actor e.event) (pass_of past
-          (pass j past) e.actor e.event) h in record { look = s.0 k.0; in_pass = t.0 k.1 },
+of_pass_tells : (j : JobView) (past : List Entry) (ev : Event) → Tells (is_of_pass j past ev) (IsOfPass j past ev)
+of_pass_tells j past ev =
+    let s = looks_of_tells j past ev in
+    let t = pass_tells past (pass j past) ev in (
+      λ h. let k = both_true (looks_of j past ev) (is_in_pass past (pass j past) ev) h in record { look = s.0 k.0; in_pass = t.0 k.1 },
       λ h. rw (s.1 h.look, t.1 h.in_pass) refl,
     )
+
+look_ahead_tells : (g : Page) (ev : Event) → Tells (is_look_ahead g ev) (IsLookAhead g ev)
+look_ahead_tells g (Age page looks.NoRoom) = pages page g
+look_ahead_tells g (Age page looks.Taken) = pages page g
+look_ahead_tells g _ = never
+
+try_ahead_tells : (past : List Entry) (g : Page) (ev : Event) → Tells (is_try_ahead past g ev) (IsTryAhead past g ev)
+try_ahead_tells past g (Did (EwbStart f slot) answer) = frame_tells (place past g) f.0
+try_ahead_tells past g (Refused (EwbStart f slot) why.VersionSpent) = frame_tells (place past g) f.0
+try_ahead_tells past g _ = never
+
+end_ahead_tells : (past : List Entry) (g : Page) (ev : Event) → Tells (is_end_ahead past g ev) (IsEndAhead past g ev)
+end_ahead_tells past g (Did (Ewb f) answer) = frame_tells (place past g) f.0
+end_ahead_tells past g _ = never
+
+ahead_tells : (j : JobView) (past : List Entry) (a : Ahead) (ev : Event) → Tells (is_ahead j past a ev) (IsAhead j past a ev)
+ahead_tells j past GoesOn ev = of_pass_tells j past ev
+ahead_tells j past (Looks g) ev = look_ahead_tells g ev
+ahead_tells j past (TriesNext g) ev = try_ahead_tells past g ev
+ahead_tells j past (EndsNext g) ev = end_ahead_tells past g ev
+
+age_of_tells : (j : JobView) (past : List Entry) (out : Outs) (a : Actor) (ev : Event)
+    → Tells (age_of j past out a ev) (AgeOf j past out a ev)
+age_of_tells j past out actors.Reclaimer ev = ahead_tells j past (ahead j past out) ev
+age_of_tells j past out _ ev = always
+
+pub age_tells : (j : JobView) (past : List Entry) (out : Outs) (e : Entry) → Tells (keeps_age_by j past out e) (AgeRuleBy j past out e)
+age_tells j past out e = age_of_tells j past out e.actor e.event
 
 -- ---- Kick
 
 last_try_tells : (ev : Event) → Tells (is_last_try ev) (IsLastTry ev)
 last_try_tells (Did (EwbStart f slot) answer) = always
 last_try_tells (Refused (EwbStart f slot) why.VersionSpent) = always
+last_try_tells (Refused (EwbStart f slot) (why.SlotOccupied version)) = always
 last_try_tells _ = never
 
 try_tells : (ev : Event) → Tells (is_try ev) (IsTry ev)
@@ -175,8 +203,13 @@ beside_tells : (form : Form) → Tells (is_beside form) (IsBeside form)
 beside_tells (Kicks rest) = never
 beside_tells _ = always
 
+unless_tells : (past : List Entry) (b : Bool) (g : Page) (form : Form) (ev : Event)
+    → Tells (b || is_in_form past g form ev) (FormUnless past b g form ev)
+unless_tells past true g form ev = always
+unless_tells past false g form ev = form_tells past g form ev
+
 form_of_tells : (past : List Entry) (p : Pass) (a : Actor) (ev : Event) → Tells (form_of past p a ev) (FormOf past p a ev)
-form_of_tells past (Tries g rest form) actors.Reclaimer ev = form_tells past g form ev
+form_of_tells past (Tries g rest form) actors.Reclaimer ev = unless_tells past (is_aside (aside past) ev) g form ev
 form_of_tells past _ _ ev = always
 
 beside_of_tells : (p : Pass) (a : Actor) → Tells (beside_of p a) (BesideOf p a)
@@ -237,15 +270,18 @@ stop_tells page reason (Refused action refusal) = (λ h. absurd (false≢true h)
 stop_tells page reason (Age g look) = (λ h. absurd (false≢true h), λ h. cc)
 stop_tells page reason (Kick cpu) = (λ h. absurd (false≢true h), λ h. cc)
 
-fetch_tells : (g : Page) (slot : SlotAt) (free : Option ℕ) (ev : Event) → Tells (is_fetch g slot free ev) (IsFetch g slot free ev)
-fetch_tells g slot None (Bus page reasons.PutFailed) = pages page g
-fetch_tells g slot None ev = never
-fetch_tells g slot (Some f) (Bus page reasons.PutFailed) = pages page g
-fetch_tells g slot (Some f) (Bus page reasons.GetFailed) = pages page g
-fetch_tells g slot (Some f) (Bus page reasons.NoRecord) = pages page g
-fetch_tells g slot (Some f) (Did action answer) = actions_same action (EldStart (frame_at f) g slot)
-fetch_tells g slot (Some f) (Refused action refusal) = actions_same action (EldStart (frame_at f) g slot)
-fetch_tells g slot (Some f) ev = never
+lost_tells : (g : Page) (fetch : Fetch) (page : Page) → Tells (is_lost g fetch page) (IsLost g fetch page)
+lost_tells g (WaitsFor target) page = pages page g
+lost_tells g (Asks target slot free) page =
+    either (same_page page g) (same_page page target) (page ≡ g) (page ≡ target) (pages page g) (pages page target)
+
+fetch_tells : (g : Page) (fetch : Fetch) (ev : Event) → Tells (is_fetch g fetch ev) (IsFetch g fetch ev)
+fetch_tells g fetch (Bus page reasons.PutFailed) = lost_tells g fetch page
+fetch_tells g (Asks target slot (Some f)) (Bus page reasons.GetFailed) = pages page target
+fetch_tells g (Asks target slot (Some f)) (Bus page reasons.NoRecord) = pages page target
+fetch_tells g (Asks target slot (Some f)) (Did action answer) = action_tells (load_by target slot f) action
+fetch_tells g (Asks target slot (Some f)) (Refused action why.SlotEmpty) = action_tells (load_by target slot f) action
+fetch_tells g _ ev = never
 
 look_of_tells : (page : Page) (held young : Bool) (ev : Event) → Tells (is_look_of page held young ev) (IsLook page held young ev)
 look_of_tells page held young (Age g look) =
@@ -265,9 +301,9 @@ next_tells (Waits reason) ev = never
 next_tells (Ends action) ev = action_tells (action_of ev) action
 next_tells (Makes action) ev = action_tells (action_of ev) action
 next_tells (Reports page reason) ev = stop_tells page reason ev
-next_tells (Fetches g slot free) ev = fetch_tells g slot free ev
+next_tells (Fetches g fetch) ev = fetch_tells g fetch ev
 next_tells (LooksAt page held young) ev = look_of_tells page held young ev
-next_tells (TriesOut n) ev = try_of_tells n ev
+next_tells (TriesOut g n) ev = try_of_tells n ev
 next_tells (KicksAll cpus) ev = kick_of_tells cpus ev
 
 below : (m n : ℕ) → Tells (nat_lt m n) (m < n)

@@ -1,3 +1,5 @@
 pub mod SameLaws
 pub mod DecidedLaws
 pub mod ReclaimLaws
+pub mod OutLaws
+mod Worked

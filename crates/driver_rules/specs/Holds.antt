@@ -5,17 +5,18 @@ use Rattle.std.specs.List.{list_any}
 use Rattle.std.specs.Option.{option_to_list}
 use Rattle.sgx_rules.specs.declared.entries.Entry.{Entry}
 use Rattle.sgx_rules.specs.declared.entries.Action.{Action}
-use Rattle.sgx_rules.specs.declared.entries.Action.TheVariants.{Resume, Aex, Fill, EldStart}
-use Rattle.sgx_rules.specs.declared.entries.Cause.TheVariants as causes
+use Rattle.sgx_rules.specs.declared.entries.Action.TheVariants.{Aex, EldStart, Fill, Resume}
 use Rattle.sgx_types.specs.declared.names.Page.{Page}
-use Rattle.sgx_types.specs.Pages.{page_at, same_page}
 use Rattle.sgx_rules.specs.Frames.{Content, content, page_of}
-use Rattle.sgx_rules.specs.Processors.{Stay, is_by, stay}
+use Rattle.sgx_types.specs.Pages.{is_own_page, is_va_page, page_at, same_page}
+use Rattle.sgx_rules.specs.Processors.{is_by, Stay, stay}
 use Rattle.job_grammar.specs.Jobs.{JobView}
 use Rattle.turn_rules.specs.declared.steps.BuildStep.{BuildStep}
-use Rattle.turn_rules.specs.declared.steps.BuildStep.TheVariants as builds
 use Rattle.turn_rules.specs.Script.{action_of, build_of, built, is_reply_of}
 use Rattle.driver_rules.specs.Needs.{access_page, listed, needs, next_op}
+use Rattle.driver_rules.specs.Places.{is_here, place}
+use Rattle.sgx_rules.specs.declared.entries.Cause.TheVariants as causes
+use Rattle.turn_rules.specs.declared.steps.BuildStep.TheVariants as builds
 
 abbrev pub is_among : List Page → Page → Bool
 is_among pages g = list_any (λ h. same_page h g) pages
@@ -27,6 +28,17 @@ front_to g (h ∷ hs) = if same_page h g then h ∷ [] else h ∷ front_to g hs
 -- a page with those before it in an order of needs; alone where it is none of them
 abbrev pub up_to : Page → List Page → List Page
 up_to g pages = if is_among pages g then front_to g pages else g ∷ []
+
+-- those before the first that is not here
+abbrev pub those_here : List Entry → List Page → List Page
+those_here past [] = []
+those_here past (h ∷ hs) = if is_here (place past h) then h ∷ those_here past hs else []
+
+-- a page that is brought back with those that are needed before it. Before a SECS or a version array page, which is brought back for a
+-- page that is needed, these are the ones before that page. No SECS is held
+abbrev pub brought_with : List Entry → Page → List Page → List Page
+brought_with past g pages =
+    if is_own_page g then up_to g pages else those_here past pages ++ (if is_va_page g then g ∷ [] else [])
 
 abbrev pub page_in : Content → List Page
 page_in c = option_to_list (page_of c)
@@ -44,7 +56,7 @@ access_of_stay j past p (Some s) = listed (access_page s.seat.enclave (next_op j
 abbrev pub holds_by : JobView → List Entry → ℕ → Option Action → List Page
 holds_by j past p (Some (Fill number f)) = page_of_stay (stay past p) number
 holds_by j past p (Some (Aex causes.Fault)) = access_of_stay j past p (stay past p)
-holds_by j past p (Some (EldStart f page slot)) = up_to page (needs j past p)
+holds_by j past p (Some (EldStart f page slot)) = brought_with past page (needs j past p)
 holds_by j past p (Some (Resume enclave tcs tf sf)) = page_at enclave tcs ∷ page_in (content past sf.0)
 holds_by j past p _ = []
 

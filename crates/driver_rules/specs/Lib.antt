@@ -1,8 +1,10 @@
 pub mod Places
 pub mod Needs
+pub mod Targets
 pub mod Holds
 pub mod Passes
 pub mod Stops
+pub mod Spares
 pub mod Dues
 pub mod Turns
 pub mod Ages

@@ -4,35 +4,35 @@ use Rattle.std.specs.Prelude.{ℕ, ◌==◌, ◌/◌, Bool, true, false, not, if
 use Rattle.std.specs.Prelude.{length, nat_le, slice_get}
 use Rattle.sgx_rules.specs.declared.entries.Entry.{Entry}
 use Rattle.sgx_rules.specs.declared.entries.Event.{Event}
-use Rattle.sgx_rules.specs.declared.entries.Event.TheVariants.{Did, Refused, Kick, Bus}
+use Rattle.sgx_rules.specs.declared.entries.Event.TheVariants.{Bus, Did, Kick, Refused}
 use Rattle.sgx_rules.specs.declared.entries.Action.{Action}
-use Rattle.sgx_rules.specs.declared.entries.Action.TheVariants as actions
 use Rattle.sgx_rules.specs.declared.entries.AccessOp.{AccessOp}
-use Rattle.sgx_rules.specs.declared.entries.AccessOp.TheVariants as accesses
-use Rattle.sgx_rules.specs.declared.entries.Cause.TheVariants as causes
 use Rattle.sgx_rules.specs.declared.entries.BusWhy.{BusWhy}
-use Rattle.sgx_rules.specs.declared.entries.BusWhy.TheVariants as reasons
 use Rattle.sgx_types.specs.declared.names.Page.{Page}
 use Rattle.sgx_rules.specs.declared.refusals.Refusal.{Refusal}
-use Rattle.sgx_rules.specs.declared.refusals.Refusal.TheVariants as why
 use Rattle.sgx_rules.specs.Flat.{at_offset}
 use Rattle.sgx_types.specs.Pages.{page_at}
 use Rattle.sgx_rules.specs.Frames.{added, content, least_free}
-use Rattle.sgx_rules.specs.Processors.{Stay, holds_number, is_by, stay, translations}
-use Rattle.sgx_rules.specs.Starts.{Start, open_start}
+use Rattle.sgx_rules.specs.Processors.{holds_number, is_by, Stay, stay, translations}
+use Rattle.sgx_rules.specs.Starts.{open_start, Start}
 use Rattle.sgx_rules.specs.Table.{is_lawful_access}
 use Rattle.job_grammar.specs.declared.jobs.Op.{Op}
-use Rattle.job_grammar.specs.declared.jobs.Op.TheVariants as ops
 use Rattle.job_grammar.specs.Jobs.{JobView}
 use Rattle.turn_rules.specs.declared.steps.BuildStep.{BuildStep}
 use Rattle.turn_rules.specs.Script.{build_of, built, enter_with, frame_at, is_turned_away, resume_with, step_due}
-use Rattle.driver_rules.specs.declared.waits.Why.TheVariants as waits
-use Rattle.driver_rules.specs.Dues.{Due, Ends, Fetches, Finished, Makes, Reports, Stopped, Waits, makes_or}
-use Rattle.driver_rules.specs.Needs.{Interruption, interruption, needs_after, needs_to_enter, needs_to_resume, next_op}
-use Rattle.driver_rules.specs.Needs.{save_to_enter}
+use Rattle.driver_rules.specs.Dues.{Asks, Due, Ends, Fetch, Fetches, Finished, Makes, makes_or, Reports, Stopped, Waits, WaitsFor}
+use Rattle.driver_rules.specs.Needs.{Interruption, interruption, needs_after, needs_to_enter, needs_to_resume, next_op, save_to_enter}
 use Rattle.driver_rules.specs.Needs.{save_to_resume}
-use Rattle.driver_rules.specs.Places.{Away, Place, frame_here, is_here, place}
+use Rattle.driver_rules.specs.Places.{Away, frame_here, is_here, Place, place}
 use Rattle.driver_rules.specs.Stops.{is_spent}
+use Rattle.driver_rules.specs.Targets.{slot_here, target_by}
+use Rattle.sgx_rules.specs.declared.entries.Action.TheVariants as actions
+use Rattle.sgx_rules.specs.declared.entries.AccessOp.TheVariants as accesses
+use Rattle.sgx_rules.specs.declared.entries.Cause.TheVariants as causes
+use Rattle.sgx_rules.specs.declared.entries.BusWhy.TheVariants as reasons
+use Rattle.sgx_rules.specs.declared.refusals.Refusal.TheVariants as why
+use Rattle.job_grammar.specs.declared.jobs.Op.TheVariants as ops
+use Rattle.driver_rules.specs.declared.waits.Why.TheVariants as waits
 
 -- ---- how its last entry left it
 
@@ -48,12 +48,18 @@ fails_with (Some page) (why.MacFail given computed) = Fails page reasons.Mac
 fails_with (Some page) (why.BadHeader enclave address flags) = Fails page reasons.Header
 fails_with _ refusal = WasEnded
 
+-- a start that found no version in the slot is told as a refused load
+abbrev pub start_fails : Page → Refusal → Last
+start_fails page why.SlotEmpty = Fails page reasons.Slot
+start_fails page refusal = WasEnded
+
 abbrev pub load_of : Option Start → Option Page
 load_of None = None
 load_of (Some start) = start.loads
 
 abbrev pub last_by : Event → (ℕ → Option Start) → Last
 last_by (Did (actions.EldStart f page slot) answer) opened = Loads f.0 page
+last_by (Refused (actions.EldStart f page slot) refusal) opened = start_fails page refusal
 last_by (Refused (actions.Eld f) refusal) opened = fails_with (load_of (opened f.0)) refusal
 last_by (Bus page why) opened = WasEnded
 last_by _ opened = Other
@@ -87,10 +93,18 @@ abbrev pub first_away : List Entry → List Page → Option Page
 first_away past [] = None
 first_away past (g ∷ gs) = if is_here (place past g) then first_away past gs else Some g
 
--- the first step for a page that is not here: one that is outside is asked for; one that is on its way out, or that another processor
--- brings back, is waited for
+-- the first step for a page that is brought back: one that is outside is asked for; one that is on its way out, or that another
+-- processor brings back, is waited for
+abbrev pub fetch_by : ℕ → List Entry → Page → Place → Fetch
+fetch_by frames past g (Away slot) = Asks g (slot_here past slot) (least_free frames (content past))
+fetch_by frames past g _ = WaitsFor g
+
+abbrev pub fetch : ℕ → List Entry → Page → Fetch
+fetch frames past g = fetch_by frames past g (place past g)
+
+-- .. for a page that is not here: where it is outside, for the page that has to be back first
 abbrev pub fetches : ℕ → List Entry → Page → Place → Due
-fetches frames past g (Away slot) = Fetches g slot (least_free frames (content past))
+fetches frames past g (Away slot) = Fetches g (fetch frames past (target_by past g (Away slot)))
 fetches frames past g _ = Waits (waits.Busy g)
 
 -- .. and with all of them here what is to be done

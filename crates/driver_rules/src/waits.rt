@@ -23,4 +23,7 @@ pub enum Why {
 
     /// The reclaimer is working, and some actor holds each page that it might take.
     AllHeld,
+
+    /// The reclaimer is to write a page out, and each slot that it may take is in use.
+    NoSlot,
 }

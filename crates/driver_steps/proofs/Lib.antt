@@ -1,3 +1,4 @@
 pub mod PartLaws
 pub mod AgreesLaws
 pub mod SightLaws
+pub mod TellsLaws

@@ -1,3 +1,4 @@
 pub mod Carried
 pub mod Agrees
+pub mod Tells
 pub mod Asked

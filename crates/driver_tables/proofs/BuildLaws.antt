@@ -1,4 +1,5 @@
--- Behind the steps that make version array pages a build makes none, and each page that it adds or measures has a place in the tables.
+-- Behind the steps that make version array pages a build makes none, and each SECS that it makes and each page that it adds or measures
+-- has a place in the tables.
 use Rattle.std.proofs.Common.{◌≡◌, ◌⊎◌, inl, inr, ⊎_elim, ℕ, zero, suc, ◌+◌, ◌<◌, ◌≤◌, Bool, true, false}
 use Rattle.std.proofs.Common.{List, [], ◌∷◌, ◌++◌, Option, Some, None, length, map, fold, get_or, max, replicate, slice_get, refl}
 use Rattle.std.proofs.Common.{ap, subst, ◌∙◌, arith}
@@ -11,21 +12,25 @@ use Rattle.sgx_types.specs.declared.names.Kind.{Kind}
 use Rattle.sgx_types.specs.declared.names.Kind.TheVariants as kinds
 use Rattle.sgx_types.specs.declared.names.Page.{Page}
 use Rattle.sgx_types.specs.declared.names.Perm.{Perm}
-use Rattle.sgx_types.specs.Pages.{no_perm, page_at}
+use Rattle.sgx_types.specs.Pages.{is_own_page, no_perm, page_at, secs_page}
 use Rattle.job_grammar.specs.declared.jobs.PageLine.{PageLine}
 use Rattle.job_grammar.specs.declared.jobs.PageLine.TheVariants as lines
 use Rattle.job_grammar.specs.Jobs.{EnclaveView, JobView, va_pages}
+use Rattle.job_grammar.specs.inner.Valid.{IsValid}
 use Rattle.turn_rules.specs.declared.steps.BuildStep.{BuildStep}
 use Rattle.turn_rules.specs.declared.steps.BuildStep.TheVariants as builds
 use Rattle.turn_rules.specs.Script.{build_of, enclave_steps, enclaves_steps, line_steps, numbers_from, page_steps}
 use Rattle.active_list.specs.inner.Places.{IsPlaced}
+use Rattle.active_list.proofs.PlaceLaws.{low_own, secs_placed}
 use Rattle.driver_rules.specs.Holds.{page_extended}
 use Rattle.driver_laws.specs.inner.Keeps.{is_va_step}
-use Rattle.driver_tables.specs.inner.Counts.{enclave_places, last_end, line_end, page_counts}
+use Rattle.driver_tables.specs.inner.Counts.{enclave_places, job_counts, last_end, line_end, page_counts}
+use Rattle.driver_tables.proofs.CountLaws.{count_enclaves, few_places, low_placed}
 
--- a step makes no version array page, and adds or measures a page of this enclave below a number
+-- a step makes no version array page, makes the SECS of this enclave, and adds or measures a page of it below a number
 abbrev IsLow : ℕ → ℕ → BuildStep → Type 0
 IsLow enclave end builds.Va = ⊥
+IsLow enclave end (builds.Create e base size) = e ≡ enclave
 IsLow enclave end (builds.Add e n kind perm init) = (e ≡ enclave) × (n < end)
 IsLow enclave end (builds.Extend e n chunk) = (e ≡ enclave) × (n < end)
 IsLow enclave end _ = Unit {0}
@@ -33,6 +38,7 @@ IsLow enclave end _ = Unit {0}
 -- .. a page that has a place
 abbrev IsBehind : List ℕ → BuildStep → Type 0
 IsBehind counts builds.Va = ⊥
+IsBehind counts (builds.Create e base size) = (1 ≤ e) × (e < length counts)
 IsBehind counts (builds.Add e n kind perm init) = n < get_or counts e 0
 IsBehind counts (builds.Extend e n chunk) = n < get_or counts e 0
 IsBehind counts _ = Unit {0}
@@ -107,34 +113,37 @@ each_end ls i d low = lines_below ls 0 i d low
 
 enclave_low : (enclave : ℕ) (e : EnclaveView) → Each (IsLow enclave (enclave_places e)) (enclave_steps enclave e)
 enclave_low enclave e = (
-  tt,
+  refl,
   each_append (IsLow enclave (enclave_places e)) (flat_map (line_steps enclave) e.lines) (builds.Init enclave e.expect ∷ [])
       (lines_low enclave (enclave_places e) e.lines (lines_below e.lines 0)) (tt, tt),
 )
 
-low_behind : (counts : List ℕ) (enclave end : ℕ) → get_or counts enclave 0 ≡ end → (x : BuildStep) → IsLow enclave end x
-    → IsBehind counts x
-low_behind counts enclave end is (builds.Add e n kind perm init) h =
+low_behind : (counts : List ℕ) (enclave end : ℕ) → get_or counts enclave 0 ≡ end → 1 ≤ enclave → enclave < length counts → (x : BuildStep)
+    → IsLow enclave end x → IsBehind counts x
+low_behind counts enclave end is some low_e (builds.Add e n kind perm init) h =
     let count : get_or counts e 0 ≡ end = ap (λ k. get_or counts k 0) h.0 ∙ is in
     let low = h.1 in omega (arith, count, low)
-low_behind counts enclave end is builds.Va h = h
-low_behind counts enclave end is (builds.Create e base size) h = tt
-low_behind counts enclave end is (builds.Extend e n chunk) h =
+low_behind counts enclave end is some low_e builds.Va h = h
+low_behind counts enclave end is some low_e (builds.Create e base size) h =
+    (omega (arith, some, h), omega (arith, low_e, h))
+low_behind counts enclave end is some low_e (builds.Extend e n chunk) h =
     let count : get_or counts e 0 ≡ end = ap (λ k. get_or counts k 0) h.0 ∙ is in
     let low = h.1 in omega (arith, count, low)
-low_behind counts enclave end is (builds.Init e expect) h = tt
+low_behind counts enclave end is some low_e (builds.Init e expect) h = tt
 
 enclaves_behind : (counts : List ℕ) (enclave : ℕ) (es : List EnclaveView)
-    → ((k : ℕ) (e : EnclaveView) → slice_get es k ≡ Some e → get_or counts (enclave + k) 0 ≡ enclave_places e)
-    → Each (IsBehind counts) (enclaves_steps enclave es)
-enclaves_behind counts enclave [] is = tt
-enclaves_behind counts enclave (e ∷ es) is =
+    → ((k : ℕ) (e : EnclaveView) → slice_get es k ≡ Some e → get_or counts (enclave + k) 0 ≡ enclave_places e) → 1 ≤ enclave
+    → enclave + length es ≤ length counts → Each (IsBehind counts) (enclaves_steps enclave es)
+enclaves_behind counts enclave [] is some low = tt
+enclaves_behind counts enclave (e ∷ es) is some low =
     each_append (IsBehind counts) (enclave_steps enclave e) (enclaves_steps (enclave + 1) es)
     (each_then (IsLow enclave (enclave_places e)) (IsBehind counts) (enclave_steps enclave e)
     (low_behind counts enclave (enclave_places e)
-    (ap (λ k. get_or counts k 0) (let same : enclave ≡ enclave + 0 = omega arith in same) ∙ is 0 e refl)) (enclave_low enclave e))
+    (ap (λ k. get_or counts k 0) (let same : enclave ≡ enclave + 0 = omega arith in same) ∙ is 0 e refl) some (omega (arith, low)))
+    (enclave_low enclave e))
     (enclaves_behind counts (enclave + 1) es (λ k x at.
-    ap (λ n. get_or counts n 0) (let same : enclave + 1 + k ≡ enclave + suc k = omega arith in same) ∙ is (suc k) x at))
+    ap (λ n. get_or counts n 0) (let same : enclave + 1 + k ≡ enclave + suc k = omega arith in same) ∙ is (suc k) x at)
+    (omega arith) (omega (arith, low)))
 
 count_at : (es : List EnclaveView) (k : ℕ) (e : EnclaveView) → slice_get es k ≡ Some e
     → get_or (map enclave_places es) k 0 ≡ enclave_places e
@@ -146,6 +155,7 @@ all_behind : (j : JobView) → Each (IsBehind (0 ∷ page_counts j)) (enclaves_s
 all_behind j =
     enclaves_behind (0 ∷ page_counts j) 1 j.enclaves
     (λ k e is. ap (λ n. get_or (0 ∷ page_counts j) n 0) (let same : 1 + k ≡ suc k = omega arith in same) ∙ count_at j.enclaves k e is)
+    (omega arith) (let same = count_enclaves j in omega (arith, same))
 
 -- ---- the build
 
@@ -160,7 +170,7 @@ got_either P (suc k) (suc n) xs x h is =
 
 no_array : (counts : List ℕ) (x : BuildStep) → is_va_step x ≡ true → IsBehind counts x → ⊥
 no_array counts builds.Va h k = k
-no_array counts (builds.Create e base size) h k = false≢true h
+no_array counts (builds.Create e base size) h k = absurd (false≢true h)
 no_array counts (builds.Add e n kind perm init) h k = false≢true h
 no_array counts (builds.Extend e n chunk) h k = false≢true h
 no_array counts (builds.Init e expect) h k = false≢true h
@@ -171,35 +181,64 @@ arrays_before j n x is va =
     ⊎_elim (λ (k : (n < va_pages j) × (x ≡ builds.Va)). k.0) (λ k. absurd (no_array (0 ∷ page_counts j) x va k))
     (got_either (IsBehind (0 ∷ page_counts j)) (va_pages j) n (enclaves_steps 1 j.enclaves) x (all_behind j) is)
 
--- the page of a step that adds one has a place
-pub add_placed : (j : JobView) (n e k : ℕ) (kind : Kind) (perm : Perm) (init : PageInit)
-    → slice_get (build_of j) n ≡ Some (builds.Add e k kind perm init) → IsPlaced (0 ∷ page_counts j) (page_at e k)
-add_placed j n e k kind perm init is =
+-- the page of a step that adds one is below the enclave's last one
+add_low : (j : JobView) (n e k : ℕ) (kind : Kind) (perm : Perm) (init : PageInit)
+    → slice_get (build_of j) n ≡ Some (builds.Add e k kind perm init) → k < get_or (0 ∷ page_counts j) e 0
+add_low j n e k kind perm init is =
     ⊎_elim
     (λ (m : (n < va_pages j) × (builds.Add e k kind perm init ≡ builds.Va)).
     (let same : builds.Add e k kind perm init ≡ builds.Va = m.1 in absurd cc))
-    (λ (m : k < get_or (0 ∷ page_counts j) e 0). record { within = m })
+    (λ (m : k < get_or (0 ∷ page_counts j) e 0). m)
     (got_either (IsBehind (0 ∷ page_counts j)) (va_pages j) n (enclaves_steps 1 j.enclaves) (builds.Add e k kind perm init) (all_behind j)
     is)
 
--- .. and so has that of one that measures
-pub extended_placed : (j : JobView) (n : ℕ) (g : Page) → page_extended (slice_get (build_of j) n) ≡ Some g
-    → IsPlaced (0 ∷ page_counts j) g
-extended_placed j n g is = by_step (slice_get (build_of j) n) refl is
+-- .. so it has a place
+pub add_placed : (j : JobView) (n e k : ℕ) (kind : Kind) (perm : Perm) (init : PageInit)
+    → slice_get (build_of j) n ≡ Some (builds.Add e k kind perm init) → IsPlaced (job_counts j) (page_at e k)
+add_placed j n e k kind perm init is = low_placed (job_counts j) (page_at e k) (add_low j n e k kind perm init is)
+
+-- .. and in a valid job, which has few pages, it is a TCS or REG page
+pub add_own : (j : JobView) → IsValid j → (n e k : ℕ) (kind : Kind) (perm : Perm) (init : PageInit)
+    → slice_get (build_of j) n ≡ Some (builds.Add e k kind perm init) → is_own_page (page_at e k) ≡ true
+add_own j v n e k kind perm init is =
+    low_own (job_counts j) (page_at e k) (few_places j v) (add_low j n e k kind perm init is)
+
+-- the SECS of a step that creates an enclave has a place
+pub create_placed : (j : JobView) (n e base size : ℕ) → slice_get (build_of j) n ≡ Some (builds.Create e base size)
+    → IsPlaced (job_counts j) (secs_page e)
+create_placed j n e base size is =
+    ⊎_elim
+    (λ (m : (n < va_pages j) × (builds.Create e base size ≡ builds.Va)).
+    (let same : builds.Create e base size ≡ builds.Va = m.1 in absurd cc))
+    (λ (m : (1 ≤ e) × (e < length (0 ∷ page_counts j))).
+    (let some = m.0 in let low = m.1 in secs_placed (job_counts j) e some (omega (arith, low))))
+    (got_either (IsBehind (0 ∷ page_counts j)) (va_pages j) n (enclaves_steps 1 j.enclaves) (builds.Create e base size) (all_behind j) is)
+
+-- the page of a step that measures is one of its enclave's
+pub extended_low : (j : JobView) (n : ℕ) (g : Page) → page_extended (slice_get (build_of j) n) ≡ Some g
+    → g.number < get_or (0 ∷ page_counts j) g.enclave 0
+extended_low j n g is = by_step (slice_get (build_of j) n) refl is
   where
-    by_build : (x : BuildStep) → slice_get (build_of j) n ≡ Some x → page_extended (Some x) ≡ Some g → IsPlaced (0 ∷ page_counts j) g
+    by_build : (x : BuildStep) → slice_get (build_of j) n ≡ Some x → page_extended (Some x) ≡ Some g
+        → g.number < get_or (0 ∷ page_counts j) g.enclave 0
     by_build (builds.Extend e k chunk) at h =
         let same : page_at e k ≡ g = cc in
         ⊎_elim
         (λ (m : (n < va_pages j) × (builds.Extend e k chunk ≡ builds.Va)).
         (let bad : builds.Extend e k chunk ≡ builds.Va = m.1 in absurd cc))
-        (λ (m : k < get_or (0 ∷ page_counts j) e 0). subst (IsPlaced (0 ∷ page_counts j)) same (record { within = m }))
+        (λ (m : k < get_or (0 ∷ page_counts j) e 0). subst (λ (p : Page). p.number < get_or (0 ∷ page_counts j) p.enclave 0) same m)
         (got_either (IsBehind (0 ∷ page_counts j)) (va_pages j) n (enclaves_steps 1 j.enclaves) (builds.Extend e k chunk) (all_behind j) at)
     by_build builds.Va at h = cc
     by_build (builds.Create e base size) at h = cc
     by_build (builds.Add e k kind perm init) at h = cc
     by_build (builds.Init e expect) at h = cc
 
-    by_step : (o : Option BuildStep) → slice_get (build_of j) n ≡ o → page_extended o ≡ Some g → IsPlaced (0 ∷ page_counts j) g
+    by_step : (o : Option BuildStep) → slice_get (build_of j) n ≡ o → page_extended o ≡ Some g
+        → g.number < get_or (0 ∷ page_counts j) g.enclave 0
     by_step None at h = cc
     by_step (Some x) at h = by_build x at h
+
+-- .. so it has its place
+pub extended_placed : (j : JobView) (n : ℕ) (g : Page) → page_extended (slice_get (build_of j) n) ≡ Some g
+    → IsPlaced (job_counts j) g
+extended_placed j n g is = low_placed (job_counts j) g (extended_low j n g is)

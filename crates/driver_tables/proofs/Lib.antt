@@ -1,5 +1,6 @@
 pub mod CountLaws
 pub mod ShowLaws
+pub mod TargetLaws
 pub mod LoadShowLaws
 pub mod FirstLaws
 pub mod OtherShowLaws

@@ -14,7 +14,8 @@ use Rattle.sgx_types.specs.declared.names.Frame.{Frame}
 use Rattle.sgx_types.specs.declared.names.Kind.{Kind}
 use Rattle.sgx_types.specs.declared.names.Page.{Page}
 use Rattle.sgx_types.specs.declared.names.Perm.{Perm}
-use Rattle.sgx_types.specs.Pages.{page_at, same_page}
+use Rattle.sgx_types.specs.Pages.{page_at, same_page, secs_page, va_page}
+use Rattle.sgx_rules.specs.Frames.{vas_made}
 use Rattle.sgx_rules.specs.Starts.{open_start}
 use Rattle.job_grammar.specs.Jobs.{JobView, va_pages}
 use Rattle.active_list.specs.declared.ring.Listed as ring
@@ -24,42 +25,44 @@ use Rattle.active_list.specs.inner.Keeping.{kept_at, page_kept}
 use Rattle.active_list.specs.inner.Listing as listing
 use Rattle.active_list.specs.inner.Places.{IsPlaced}
 use Rattle.active_list.specs.inner.States.{with_state}
-use Rattle.slot_keeper.specs.inner.Keeper.{Adds}
 use Rattle.driver_rules.specs.Places.{uses}
 use Rattle.driver_rules.specs.Turns.{last_by, last_of}
-use Rattle.driver_laws.specs.inner.Agrees.{ShowsSlots, has_pages, listed_by, loaded_by, touched}
+use Rattle.driver_laws.specs.inner.Agrees.{Keeping, ShowsSlots, has_pages, listed_by, loaded_by, touched}
 use Rattle.driver_laws.specs.inner.Kinds.{CanMove, is_quiet}
 use Rattle.driver_laws.specs.inner.Sound.{IsSound}
-use Rattle.driver_laws.proofs.AgreeLaws.{is_slotless, shows_add, shows_create, shows_epa, shows_quiet}
+use Rattle.driver_laws.specs.inner.Used.{VersionsStand}
+use Rattle.driver_laws.proofs.AgreeLaws.{shows_add, shows_create, shows_epa}
 use Rattle.driver_laws.proofs.MarkLaws.{is_markless, is_use, listed-add, listed-quiet, listed-use, listed-uses}
-use Rattle.driver_laws.proofs.MoveLaws.{place-add, place-add-other, place-quiet}
+use Rattle.driver_laws.proofs.MoveLaws.{place-add, place-add-other, place-create, place-create-other, place-epa, place-epa-other}
+use Rattle.driver_laws.proofs.MoveLaws.{place-quiet}
 use Rattle.driver_laws.proofs.SoundLaws.{entry_of}
 use Rattle.driver_tables.specs.declared.driver.Driver.{Driver}
+use Rattle.driver_tables.specs.inner.Moves.{HasArray, with_here}
 use Rattle.driver_tables.specs.inner.Tables.{ShowsTables, listed}
 use Rattle.driver_tables.proofs.LoadShowLaws.{copies_none}
-use Rattle.driver_tables.proofs.ShowLaws.{shows_moved, shows_still}
+use Rattle.driver_tables.proofs.ShowLaws.{is_slotless, shows_moved, shows_quiet, shows_still}
 
 -- ---- the builder
 
--- a page was added
-pub shows_added : (j : JobView) (d : Driver) (past : List Entry) (e n : ℕ) (f : Frame) (kind : Kind) (perm : Perm) (init : PageInit)
-    (answer : Answer) → CanMove past (Did (Add e n f kind perm init) answer) → IsSound past → length d.slots.frames ≡ va_pages j
-    → IsPlaced d.states.counts (page_at e n) → ShowsTables j d past
-    → ShowsTables j
+-- a page was added, after all version array pages were made
+pub shows_added : (k : Keeping) (j : JobView) (d : Driver) (past : List Entry) (e n : ℕ) (f : Frame) (kind : Kind) (perm : Perm)
+    (init : PageInit) (answer : Answer) → CanMove past (Did (Add e n f kind perm init) answer) → IsSound past
+    → vas_made past ≡ va_pages j → IsPlaced d.states.counts (page_at e n) → ShowsTables k j d past
+    → ShowsTables k j
     (record d { active = pushed d.active (page_at e n); states = with_state d.states (page_at e n) (states.Here f) })
     (entry_of actors.Builder (Did (Add e n f kind perm init) answer) ∷ past)
-shows_added j d past e n f kind perm init answer can sound made here t =
-    shows_moved j d
+shows_added k j d past e n f kind perm init answer can sound made here t =
+    shows_moved k j d
     (record d { active = pushed d.active (page_at e n); states = with_state d.states (page_at e n) (states.Here f) }) past
     (entry_of actors.Builder (Did (Add e n f kind perm init) answer)) (page_at e n) (states.Here f) t here
     (record {
       here = place-add past actors.Builder e n f kind perm init answer;
       others = λ q other. place-add-other past actors.Builder e n f kind perm init answer q other;
-    }) refl (record { active = refl; rooms = refl; marks = refl; cpus = refl }) (record {
+    }) refl (record { active = refl; rooms = refl; marks = refl; cpus = refl; enclaves = refl; arrays = refl }) (record {
       list =
           map_push d.active.pages ∙ ap (λ xs. xs ++ record { page = page_at e n; young = false } ∷ []) t.list
           ∙ sym (listed-add past actors.Builder e n f kind perm init answer can sound);
-      slots = shows_add j d.slots past actors.Builder e n f kind perm init answer can made t.slots;
+      slots = shows_add k j d.slots past actors.Builder e n f kind perm init answer can made t.slots;
       copies = t.copies;
     })
   where
@@ -69,43 +72,55 @@ shows_added j d past e n f kind perm init answer can sound made here t =
     map_push (x ∷ xs) = ap (λ zs. listed x ∷ zs) (map_push xs)
 
 -- a version array page was made, before any page was added
-pub shows_array : (j : JobView) (old new : Driver) (past : List Entry) (f : Frame) (answer : Answer) → CanMove past (Did (Epa f) answer)
-    → has_pages past ≡ false → Adds old.slots f new.slots → new ≡ record old { slots = new.slots } → ShowsTables j old past
-    → ShowsTables j new (entry_of actors.Builder (Did (Epa f) answer) ∷ past)
-shows_array j old new past f answer can none adds only t =
-    shows_still j old new past (entry_of actors.Builder (Did (Epa f) answer)) t (λ q. refl) (ap (λ (d : Driver). d.states) only) (record {
-      active = ap (λ (d : Driver). d.active.counts) only;
-      rooms = ap (λ (d : Driver). length d.kept) only;
-      marks = ap (λ (d : Driver). d.marks) only;
-      cpus = ap (λ (d : Driver). d.cpus) only;
+pub shows_array : (k : Keeping) (j : JobView) (old new : Driver) (past : List Entry) (f : Frame) (answer : Answer)
+    → CanMove past (Did (Epa f) answer) → has_pages past ≡ false → IsSound past → VersionsStand past
+    → IsPlaced old.states.counts (va_page (vas_made past))
+    → HasArray old (vas_made past) (k.firsts (vas_made past)) f new
+    → ShowsTables k j old past → ShowsTables k j new (entry_of actors.Builder (Did (Epa f) answer) ∷ past)
+shows_array k j old new past f answer can none sound stand here is t =
+    shows_moved k j old new past (entry_of actors.Builder (Did (Epa f) answer)) (va_page (vas_made past)) (states.Here f) t here
+    (record {
+      here = place-epa past actors.Builder f answer;
+      others = λ q other. place-epa-other past actors.Builder f answer q other;
+    }) (ap (λ (d : Driver). d.states) is.others) (record {
+      active = ap (λ (d : Driver). d.active.counts) is.others;
+      rooms = ap (λ (d : Driver). length d.kept) is.others;
+      marks = ap (λ (d : Driver). d.marks) is.others;
+      cpus = ap (λ (d : Driver). d.cpus) is.others;
+      enclaves = ap (λ (d : Driver). d.enclaves) is.others;
+      arrays = ap (λ (d : Driver). d.va_pages) is.others;
     }) (record {
       list =
-          ap (λ (d : Driver). map listed d.active.pages) only ∙ t.list
+          ap (λ (d : Driver). map listed d.active.pages) is.others ∙ t.list
           ∙ sym (listed-quiet past (entry_of actors.Builder (Did (Epa f) answer)) refl);
-      slots = shows_epa j old.slots new.slots past actors.Builder f answer can none adds t.slots;
-      copies = λ p. ap (λ (d : Driver). page_kept (kept_at d.kept p)) only ∙ t.copies p;
+      slots = shows_epa k j old.slots new.slots past actors.Builder f answer can none sound stand is.slots t.slots;
+      copies = λ p. ap (λ (d : Driver). page_kept (kept_at d.kept p)) is.others ∙ t.copies p;
     })
 
--- an enclave was created
-pub shows_created : (j : JobView) (d : Driver) (past : List Entry) (e : ℕ) (f : Frame) (base size : ℕ) (answer : Answer)
-    → CanMove past (Did (Create e f base size) answer) → ShowsTables j d past
-    → ShowsTables j d (entry_of actors.Builder (Did (Create e f base size) answer) ∷ past)
-shows_created j d past e f base size answer can t =
-    shows_still j d d past (entry_of actors.Builder (Did (Create e f base size) answer)) t (λ q. refl) refl
-    (record { active = refl; rooms = refl; marks = refl; cpus = refl }) (record {
+-- an enclave was created: its SECS is here
+pub shows_created : (k : Keeping) (j : JobView) (d : Driver) (past : List Entry) (e : ℕ) (f : Frame) (base size : ℕ) (answer : Answer)
+    → CanMove past (Did (Create e f base size) answer) → IsPlaced d.states.counts (secs_page e) → ShowsTables k j d past
+    → ShowsTables k j (with_here d (secs_page e) f) (entry_of actors.Builder (Did (Create e f base size) answer) ∷ past)
+shows_created k j d past e f base size answer can here t =
+    shows_moved k j d (with_here d (secs_page e) f) past (entry_of actors.Builder (Did (Create e f base size) answer)) (secs_page e)
+    (states.Here f) t here
+    (record {
+      here = place-create past actors.Builder e f base size answer;
+      others = λ q other. place-create-other past actors.Builder e f base size answer q other;
+    }) refl (record { active = refl; rooms = refl; marks = refl; cpus = refl; enclaves = refl; arrays = refl }) (record {
       list = t.list ∙ sym (listed-quiet past (entry_of actors.Builder (Did (Create e f base size) answer)) refl);
-      slots = shows_create j d.slots past actors.Builder e f base size answer can t.slots;
+      slots = shows_create k j d.slots past actors.Builder e f base size answer can t.slots;
       copies = t.copies;
     })
 
 -- any other entry of the builder
-pub shows_builders : (j : JobView) (d : Driver) (past : List Entry) (ev : Event) → is_quiet ev ≡ true → is_slotless ev ≡ true
-    → is_markless ev ≡ true → ShowsTables j d past → ShowsTables j d (entry_of actors.Builder ev ∷ past)
-shows_builders j d past ev quiet slotless markless t =
-    shows_still j d d past (entry_of actors.Builder ev) t (λ q. place-quiet past (entry_of actors.Builder ev) q quiet) refl
-    (record { active = refl; rooms = refl; marks = refl; cpus = refl }) (record {
+pub shows_builders : (k : Keeping) (j : JobView) (d : Driver) (past : List Entry) (ev : Event) → is_quiet ev ≡ true
+    → is_slotless ev ≡ true → is_markless ev ≡ true → ShowsTables k j d past → ShowsTables k j d (entry_of actors.Builder ev ∷ past)
+shows_builders k j d past ev quiet slotless markless t =
+    shows_still k j d d past (entry_of actors.Builder ev) t (λ q. place-quiet past (entry_of actors.Builder ev) q quiet) refl
+    (record { active = refl; rooms = refl; marks = refl; cpus = refl; enclaves = refl; arrays = refl }) (record {
       list = t.list ∙ sym (listed-quiet past (entry_of actors.Builder ev) markless);
-      slots = shows_quiet j d.slots past (entry_of actors.Builder ev) slotless t.slots;
+      slots = shows_quiet k j d.slots past (entry_of actors.Builder ev) slotless t.slots;
       copies = t.copies;
     })
 
@@ -120,33 +135,36 @@ touch_same page (x ∷ xs) = λ i. one (same_page page x.page) i ∷ touch_same 
     one true = refl
     one false = refl
 
-module _ (j : JobView) (old new : Driver) (past : List Entry) (c : Cpu) (action : Action) (answer : Answer)
+module _ (k : Keeping) (j : JobView) (old new : Driver) (past : List Entry) (c : Cpu) (action : Action) (answer : Answer)
     (quiet : is_quiet (Did action answer) ≡ true) (slotless : is_slotless (Did action answer) ≡ true)
     (none : loaded_by (last_by (Did action answer) (open_start past)) ≡ None) (idle : loaded_by (last_of past c.0) ≡ None)
-    (t : ShowsTables j old past) where
+    (t : ShowsTables k j old past) where
   -- a use of pages, by what it makes of the list
   by_list : (pages : List ring.Listed) → new ≡ record old { active = record old.active { pages = pages } }
       → map listed pages ≡ listed_by (entry_of (actors.Cpu c) (Did action answer) ∷ past)
-      → ShowsTables j new (entry_of (actors.Cpu c) (Did action answer) ∷ past)
+      → ShowsTables k j new (entry_of (actors.Cpu c) (Did action answer) ∷ past)
   by_list pages only list =
-      shows_still j old new past (entry_of (actors.Cpu c) (Did action answer)) t
+      shows_still k j old new past (entry_of (actors.Cpu c) (Did action answer)) t
       (λ q. place-quiet past (entry_of (actors.Cpu c) (Did action answer)) q quiet) (ap (λ (d : Driver). d.states) only) (record {
         active = ap (λ (d : Driver). d.active.counts) only;
         rooms = ap (λ (d : Driver). length d.kept) only;
         marks = ap (λ (d : Driver). d.marks) only;
         cpus = ap (λ (d : Driver). d.cpus) only;
+        enclaves = ap (λ (d : Driver). d.enclaves) only;
+        arrays = ap (λ (d : Driver). d.va_pages) only;
       }) (record {
         list = ap (λ (d : Driver). map listed d.active.pages) only ∙ list;
         slots =
-            subst (λ k. ShowsSlots j k (entry_of (actors.Cpu c) (Did action answer) ∷ past)) (sym (ap (λ (d : Driver). d.slots) only))
-            (shows_quiet j old.slots past (entry_of (actors.Cpu c) (Did action answer)) slotless t.slots);
+            subst (λ keeper. ShowsSlots k j keeper (entry_of (actors.Cpu c) (Did action answer) ∷ past))
+            (sym (ap (λ (d : Driver). d.slots) only))
+            (shows_quiet k j old.slots past (entry_of (actors.Cpu c) (Did action answer)) slotless t.slots);
         copies = λ p. ap (λ (d : Driver). page_kept (kept_at d.kept p)) only
             ∙ copies_none old.kept past c (Did action answer) t.copies idle none p;
       })
 
   -- an instruction that uses one page
   pub shows_use : (page : Page) → is_use action ≡ true → ((g : Page) → uses past (actors.Cpu c) action g ≡ same_page page g)
-      → new ≡ record old { active = with_touch old.active page } → ShowsTables j new (entry_of (actors.Cpu c) (Did action answer) ∷ past)
+      → new ≡ record old { active = with_touch old.active page } → ShowsTables k j new (entry_of (actors.Cpu c) (Did action answer) ∷ past)
   shows_use page used one only =
       by_list (map (listing.touched page) old.active.pages) only
       (touch_same page old.active.pages ∙ ap (map (touched page)) t.list
@@ -156,7 +174,7 @@ module _ (j : JobView) (old new : Driver) (past : List Entry) (c : Cpu) (action 
   pub shows_uses : (page other : Page) → is_use action ≡ true
       → ((g : Page) → uses past (actors.Cpu c) action g ≡ (same_page page g || same_page other g))
       → new ≡ record old { active = with_touch (with_touch old.active other) page }
-      → ShowsTables j new (entry_of (actors.Cpu c) (Did action answer) ∷ past)
+      → ShowsTables k j new (entry_of (actors.Cpu c) (Did action answer) ∷ past)
   shows_uses page other used two only =
       by_list (map (listing.touched page) (map (listing.touched other) old.active.pages)) only
       (touch_same page (map (listing.touched other) old.active.pages)
@@ -164,13 +182,13 @@ module _ (j : JobView) (old new : Driver) (past : List Entry) (c : Cpu) (action 
       ∙ sym (listed-uses past (actors.Cpu c) action answer page other used two))
 
 -- any other entry of a processor that loads nothing
-pub shows_others : (j : JobView) (d : Driver) (past : List Entry) (c : Cpu) (ev : Event) → is_quiet ev ≡ true → is_slotless ev ≡ true
-    → is_markless ev ≡ true → loaded_by (last_of past c.0) ≡ None → loaded_by (last_by ev (open_start past)) ≡ None → ShowsTables j d past
-    → ShowsTables j d (entry_of (actors.Cpu c) ev ∷ past)
-shows_others j d past c ev quiet slotless markless idle none t =
-    shows_still j d d past (entry_of (actors.Cpu c) ev) t (λ q. place-quiet past (entry_of (actors.Cpu c) ev) q quiet) refl
-    (record { active = refl; rooms = refl; marks = refl; cpus = refl }) (record {
+pub shows_others : (k : Keeping) (j : JobView) (d : Driver) (past : List Entry) (c : Cpu) (ev : Event) → is_quiet ev ≡ true
+    → is_slotless ev ≡ true → is_markless ev ≡ true → loaded_by (last_of past c.0) ≡ None → loaded_by (last_by ev (open_start past)) ≡ None
+    → ShowsTables k j d past → ShowsTables k j d (entry_of (actors.Cpu c) ev ∷ past)
+shows_others k j d past c ev quiet slotless markless idle none t =
+    shows_still k j d d past (entry_of (actors.Cpu c) ev) t (λ q. place-quiet past (entry_of (actors.Cpu c) ev) q quiet) refl
+    (record { active = refl; rooms = refl; marks = refl; cpus = refl; enclaves = refl; arrays = refl }) (record {
       list = t.list ∙ sym (listed-quiet past (entry_of (actors.Cpu c) ev) markless);
-      slots = shows_quiet j d.slots past (entry_of (actors.Cpu c) ev) slotless t.slots;
+      slots = shows_quiet k j d.slots past (entry_of (actors.Cpu c) ev) slotless t.slots;
       copies = copies_none d.kept past c ev t.copies idle none;
     })

@@ -1,4 +1,5 @@
 pub mod Counts
 pub mod Moves
 pub mod Tables
+pub mod Targets
 pub mod Held

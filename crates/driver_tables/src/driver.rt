@@ -13,9 +13,9 @@ use sgx_types::names::Memory;
 use slot_keeper::keeper::SlotKeeper;
 use std::alloc::Global;
 
-/// What the driver keeps of a job: the list of the pages that may be written out and the holds of pages, what became of each page,
-/// the slots for versions, the record that each processor's started load looks at, and the job's numbers. No call but `new` takes
-/// memory, and each takes constant time.
+/// What the driver keeps of a job: the list of the TCS and REG pages that may be written out and the holds of pages, what became of each
+/// page, also of SECSs and version array pages, the slots for versions, the record that each processor's started load looks at, and the
+/// job's numbers. No call but `new` takes memory, and each takes constant time.
 #[derive(Drop)]
 pub struct Driver {
     pub active: Active,
@@ -41,9 +41,9 @@ impl Driver {
         let counts = page_counts(alloc, job.enclaves())?;
         let cpus = job.scripts().len() as u8;
         let kept = KeptRecords::new(alloc, cpus)?;
-        let states = PageStates::new(alloc, &counts)?;
+        let states = PageStates::new(alloc, &counts, job.va_pages())?;
         let slots = SlotKeeper::new(alloc, job.va_pages())?;
-        let active = Active::new(alloc, &counts)?;
+        let active = Active::new(alloc, &counts, job.va_pages())?;
         Ok(Driver {
             active,
             states,

@@ -5,3 +5,4 @@ mod counts;
 pub mod driver;
 pub mod laws;
 pub mod moves;
+pub mod targets;

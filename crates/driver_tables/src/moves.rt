@@ -1,6 +1,7 @@
 //! What each kind of entry changes in the driver's tables.
 
-ghost use Rattle.std.specs.Prelude.{◌≡◌, true, false, Some};
+ghost use Rattle.std.specs.Prelude.{◌≡◌, ◌<◌, ◌≤◌, true, false, Some, length};
+ghost use Rattle.sgx_types.specs.Pages.{is_own_page, va_page};
 ghost use Rattle.active_list.specs.inner.Active.{pushed};
 ghost use Rattle.active_list.specs.inner.Listing.{head_of};
 ghost use Rattle.active_list.specs.inner.Places.{IsPlaced};
@@ -8,16 +9,18 @@ ghost use Rattle.active_list.specs.inner.Ring.{is_listed};
 ghost use Rattle.active_list.specs.inner.States.{state_of, with_state};
 ghost use Rattle.active_list.specs.declared.page_states.PageState.TheVariants as states;
 ghost use Rattle.sgx_rules.specs.declared.entries.Look.TheVariants as looks;
-ghost use Rattle.slot_keeper.specs.inner.Keeper.{is_out};
-ghost use Rattle.driver_tables.specs.inner.Moves.{IsLooked, IsLoaded, frame_in, leaving_of, slot_away};
+ghost use Rattle.slot_keeper.specs.inner.Keeper.{is_added, is_out};
+ghost use Rattle.driver_tables.specs.inner.Moves.{IsLooked, IsLookedAside, IsLoaded, frame_in, gone, leaving_of, slot_away};
+ghost use Rattle.driver_tables.specs.inner.Moves.{HasArray, with_here, with_leaving, with_load};
 
 use crate::driver::Driver;
 use active_list::page_states::PageState;
 use sgx_rules::entries::Look;
-use sgx_types::names::{Frame, Page, SlotAt};
+use sgx_types::names::{Cpu, Frame, Page, SECS_NUMBER, VaSlot};
+use sgx_types::record::Record;
 
 impl Driver {
-    /// A page was added in a frame: it is here, and listed as the last, not young.
+    /// A TCS or REG page was added in a frame: it is here, and listed as the last, not young.
     pub fn add(&mut self, page: Page, frame: Frame)
         requires placed { IsPlaced self.old.active.counts page }
         requires absent { is_listed self.old.active.pages page ≡ false }
@@ -29,6 +32,31 @@ impl Driver {
         } }
     {
         self.active.push_back(page);
+        self.arrive(page, frame);
+    }
+
+    /// A version array page was made in a frame: it is here, and its slots from one on can be taken. None of them is out.
+    pub fn add_array(&mut self, va: u32, first: u16, frame: Frame)
+        requires placed { IsPlaced self.old.states.counts (va_page va) }
+        requires room { length self.old.slots.arrays < self.old.slots.room }
+        requires fresh { is_added self.old.slots va ≡ false }
+        requires within { first ≤ 512 }
+        ensures { HasArray self.old va first frame self.new }
+    {
+        let array = Page {
+            enclave: 0,
+            number: va,
+        };
+        self.arrive(array, frame);
+        self.slots.add(va, first);
+    }
+
+    /// A SECS or a version array page is in a frame: the SECS was made there, or the page came back. The list and the slots are left as
+    /// they are.
+    pub fn arrive(&mut self, page: Page, frame: Frame)
+        requires placed { IsPlaced self.old.states.counts page }
+        ensures { self.new ≡ with_here self.old page frame }
+    {
         self.states.set_state(page, PageState::Here(frame));
     }
 
@@ -54,12 +82,52 @@ impl Driver {
         ensures { IsLooked self.old page looks.Taken self.new }
     {
         let _ = self.active.remove_head();
+        self.leave(page);
+    }
+
+    /// A SECS or a version array page was looked at, which no list has: one that was taken leaves its frame, and another look changes
+    /// nothing.
+    pub fn look_aside(&mut self, page: Page, look: Look)
+        requires placed { IsPlaced self.old.states.counts page }
+        ensures { IsLookedAside self.old page look self.new }
+    {
+        match look {
+            Look::Taken => self.leave(page),
+            Look::Held | Look::Young | Look::NoRoom => {}
+        }
+    }
+
+    // A page that was taken is in its frame until it is written out.
+    fn leave(&mut self, page: Page)
+        requires placed { IsPlaced self.old.states.counts page }
+        ensures { self.new ≡ with_leaving self.old page }
+    {
         let state = leaving(self.states.state(page));
         self.states.set_state(page, state);
     }
 
-    /// A page came back into a frame from its slot: it is here, listed as the last and not young, and the slot is out no more.
-    pub fn load(&mut self, page: Page, frame: Frame, slot: SlotAt)
+    /// A page, of any kind, has gone out of its frame: it is away in a slot, or lost where the store did not take its record. The slots
+    /// are left as they are: that of a TCS or REG page is out since its write-out started.
+    pub fn evict(&mut self, page: Page, slot: VaSlot, is_lost: bool)
+        requires placed { IsPlaced self.old.states.counts page }
+        ensures { self.new ≡ record self.old { states = with_state self.old.states page (gone slot is_lost) } }
+    {
+        self.states.set_state(page, gone(slot, is_lost));
+    }
+
+    /// A processor's load of a page, of any kind, has started from its slot into a frame: the page is loading, and the record that the
+    /// load looks at is kept for the processor.
+    pub fn start_load(&mut self, cpu: Cpu, page: Page, slot: VaSlot, frame: Frame, rec: &Record)
+        requires room { cpu.0 < length self.old.kept }
+        requires placed { IsPlaced self.old.states.counts page }
+        ensures { self.new ≡ with_load self.old cpu page slot frame rec.now }
+    {
+        self.states.set_state(page, PageState::Loading(frame, slot));
+        self.kept.keep(cpu, page, rec);
+    }
+
+    /// A TCS or REG page came back into a frame from its slot: it is here, listed as the last and not young, and the slot is out no more.
+    pub fn load(&mut self, page: Page, frame: Frame, slot: VaSlot)
         requires placed { IsPlaced self.old.active.counts page }
         requires absent { is_listed self.old.active.pages page ≡ false }
         requires counts { self.old.states.counts ≡ self.old.active.counts }
@@ -70,7 +138,7 @@ impl Driver {
         self.slots.give(slot);
     }
 
-    /// A page's load was refused: it is away in the slot from which it was to come.
+    /// The load of a page, of any kind, was refused: it is away in the slot from which it was to come.
     pub fn load_refused(&mut self, page: Page)
         requires placed { IsPlaced self.old.states.counts page }
         ensures { self.new ≡ record self.old { states = with_state self.old.states page (slot_away (state_of self.old.states page)) } }
@@ -93,6 +161,16 @@ fn leaving(state: PageState) -> PageState
     }
 }
 
+// The state of a page that has gone out.
+fn gone(slot: VaSlot, is_lost: bool) -> PageState
+    ensures { result ≡ gone slot is_lost }
+{
+    if is_lost {
+        return PageState::Lost(slot);
+    }
+    PageState::Away(slot)
+}
+
 /// The frame of a page that stands in one. That of any other page is told as frame 0.
 pub fn frame_in(state: PageState) -> Frame
     ensures { result ≡ frame_in state }
@@ -101,4 +179,12 @@ pub fn frame_in(state: PageState) -> Frame
         PageState::Here(frame) | PageState::Leaving(frame) => frame,
         _ => Frame(0),
     }
+}
+
+/// Whether a page is a TCS or REG page by its name, and so one that is listed where it is here. The others are SECSs and version array
+/// pages.
+pub fn is_own_page(page: Page) -> bool
+    ensures { result ≡ is_own_page page }
+{
+    page.enclave != 0 && page.number != SECS_NUMBER
 }

@@ -11,6 +11,7 @@ use Rattle.measure_log.specs.Rule.{measurement}
 use Rattle.job_grammar.specs.Jobs.{JobView}
 use Rattle.turn_rules.specs.Machines.{machine_of}
 use Rattle.driver_rules.specs.inner.Decided.{all_along, is_ended, keeps_age, keeps_kick, keeps_script}
+use Rattle.driver_rules.specs.Spares.{outs}
 use Rattle.driver_rules.proofs.DecidedLaws.{age_tells, ended_tells, kick_tells, script_tells}
 use Rattle.run_history.specs.declared.rules.Rule.{Rule}
 use Rattle.run_history.specs.declared.rules.Rule.TheVariants as rules
@@ -121,7 +122,7 @@ first_broken j past e rules.Age h =
     let k = both_true (keeps_script j past e) (keeps_machines j past e && not (keeps_age j past e)) h in
     let l = both_true (keeps_machines j past e) (not (keeps_age j past e)) k.1 in record {
       earlier = before_age j past e k.0 (machines_say j past e l.0);
-      fails = refuted (keeps_age j past e) _ (age_tells j past e).1 l.1;
+      fails = refuted (keeps_age j past e) _ (age_tells j past (outs j past) e).1 l.1;
     }
 first_broken j past e rules.Kick h =
     let k = both_true (keeps_script j past e) (keeps_machines j past e && (keeps_age j past e && not (keeps_kick j past e))) h in
@@ -133,7 +134,7 @@ first_broken j past e rules.Kick h =
   where
     before_kick : keeps_script j past e ≡ true → keeps_machines j past e ≡ true → keeps_age j past e ≡ true → (r : Rule) → rank r < 10
         → Says j r past (Some e)
-    before_kick script machines age rules.Age low = (age_tells j past e).0 age
+    before_kick script machines age rules.Age low = (age_tells j past (outs j past) e).0 age
     before_kick script machines age rules.Kick low = absurd (omega (arith, low))
     before_kick script machines age rules.Script low = (script_tells j past e).0 script
     before_kick script machines age r low = before_age j past e script (machines_say j past e machines) r (omega (arith, low))
@@ -161,7 +162,7 @@ pub init_breaks_age : (j : JobView) (past : List Entry) (a : Actor) → keeps_sc
 init_breaks_age j past a script row taken place broken = record {
   earlier = before_age j past (measured_init a past) script (λ rule own. init_says j past a row taken rule own
       (says_of_place j past rule place own));
-  fails = refuted (keeps_age j past (measured_init a past)) _ (age_tells j past (measured_init a past)).1 broken;
+  fails = refuted (keeps_age j past (measured_init a past)) _ (age_tells j past (outs j past) (measured_init a past)).1 broken;
 }
 
 -- ---- whole histories, and where a trace fails first
@@ -176,7 +177,7 @@ says_eleven j past e rule h =
     by_rule : keeps_machines j past e ≡ true → keeps_script j past e ≡ true → keeps_age j past e ≡ true → keeps_kick j past e ≡ true
         → (rule : Rule) → Says j rule past (Some e)
     by_rule machines script age kick rules.Script = (script_tells j past e).0 script
-    by_rule machines script age kick rules.Age = (age_tells j past e).0 age
+    by_rule machines script age kick rules.Age = (age_tells j past (outs j past) e).0 age
     by_rule machines script age kick rules.Kick = (kick_tells j past e).0 kick
     by_rule machines script age kick rules.Refusal = machines_say j past e machines rules.Refusal refl
     by_rule machines script age kick rules.Flat = machines_say j past e machines rules.Flat refl

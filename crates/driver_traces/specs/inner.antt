@@ -1,6 +1,7 @@
 pub mod Words
 pub mod KickTrace
 pub mod BusTrace
+pub mod SecsTrace
 pub mod SpentTrace
 pub mod PairTrace
 pub mod MeasuredTrace

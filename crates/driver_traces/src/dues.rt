@@ -7,7 +7,7 @@ ghost use Rattle.sgx_rules.specs.declared.entries.Cause.TheVariants as causes;
 ghost use Rattle.sgx_types.specs.Pages.{page_at};
 ghost use Rattle.turn_rules.specs.Script.{frame_at};
 ghost use Rattle.driver_rules.specs.declared.waits.Why.TheVariants as waits;
-ghost use Rattle.driver_rules.specs.Dues.{Ends, Fetches, Finished, KicksAll, LooksAt, Makes, Reports, Stopped, TriesOut, Waits};
+ghost use Rattle.driver_rules.specs.Dues.{Asks, Ends, Fetches, Finished, KicksAll, LooksAt, Makes, Reports, Stopped, TriesOut, Waits};
 ghost use Rattle.driver_rules.specs.Holds.{is_held};
 ghost use Rattle.driver_rules.specs.inner.Reclaims.{reclaimer_due};
 ghost use Rattle.driver_rules.specs.Turns.{builder_due, cpu_due};
@@ -29,9 +29,10 @@ pub fn the_builder_waits_for_a_frame()
 pub fn a_processor_waits_and_why()
     ensures busy { cpu_due crowd_job (aex (cpu 0) causes.Fault ∷ first_of 15 crowd_trace) 0 ≡ Waits (waits.Busy (page_at 1 4)) }
     ensures building { cpu_due kick_job (first_of 7 kick_trace) 0 ≡ Waits waits.Building }
-    ensures fetches { cpu_due kick_job (first_of 30 kick_trace) 0 ≡ Fetches (page_at 1 0) (slot_at 0) (Some 4) }
+    ensures fetches { cpu_due kick_job (first_of 30 kick_trace) 0
+        ≡ Fetches (page_at 1 0) (Asks (page_at 1 0) (Some (slot_at 0)) (Some 4)) }
     ensures ends { cpu_due kick_job (first_of 31 kick_trace) 0 ≡ Ends (actions.Eld (frame_at 4)) }
-    ensures no_frame { cpu_due kick_job (first_of 37 kick_trace) 0 ≡ Fetches (page_at 1 2) (slot_at 2) None }
+    ensures no_frame { cpu_due kick_job (first_of 37 kick_trace) 0 ≡ Fetches (page_at 1 2) (Asks (page_at 1 2) (Some (slot_at 2)) None) }
     ensures enters { cpu_due kick_job (first_of 35 kick_trace) 0 ≡ Makes (actions.Enter 1 0 (frame_at 4) (frame_at 5)) }
     ensures kicked { cpu_due kick_job (first_of 115 kick_trace) 0 ≡ Makes (actions.Aex causes.Kick) }
     ensures reports { cpu_due bus_job (first_of 55 bus_trace) 0 ≡ Reports (page_at 1 2) reasons.Mac }
@@ -46,12 +47,12 @@ pub fn the_reclaimer_waits_and_why()
     ensures enough { reclaimer_due kick_job (first_of 3 kick_trace) false ≡ Waits (waits.Enough 4) }
     ensures looks { reclaimer_due kick_job (first_of 7 kick_trace) false ≡ LooksAt (page_at 1 0) false false }
     ensures blocks { reclaimer_due kick_job (first_of 9 kick_trace) false ≡ Makes (actions.Block (frame_at 2)) }
-    ensures tries { reclaimer_due kick_job (first_of 11 kick_trace) false ≡ TriesOut 2 }
+    ensures tries { reclaimer_due kick_job (first_of 11 kick_trace) false ≡ TriesOut (page_at 1 0) 2 }
     ensures tracks { reclaimer_due kick_job (first_of 12 kick_trace) false ≡ Makes (actions.Track 1) }
     ensures ends { reclaimer_due kick_job (first_of 14 kick_trace) false ≡ Ends (actions.Ewb (frame_at 2)) }
     ensures kicks { reclaimer_due kick_job (first_of 114 kick_trace) false ≡ KicksAll (0 ∷ []) }
     ensures older { reclaimer_due kick_job (first_of 115 kick_trace) true ≡ Waits (waits.Older 1 1) }
-    ensures third { reclaimer_due kick_job (first_of 116 kick_trace) true ≡ TriesOut 3 }
+    ensures third { reclaimer_due kick_job (first_of 116 kick_trace) true ≡ TriesOut (page_at 1 4) 3 }
     ensures both { reclaimer_due crowd_job (first_of 19 crowd_trace) false ≡ KicksAll (0 ∷ 1 ∷ []) }
     ensures older_two { reclaimer_due crowd_job (first_of 21 crowd_trace) true ≡ Waits (waits.Older 1 2) }
     ensures finished { reclaimer_due kick_job (first_of 131 kick_trace) false ≡ Finished }

@@ -10,6 +10,7 @@ pub mod laws;
 pub mod right;
 pub mod whole_traces;
 pub mod wrong_ages;
+pub mod wrong_dues;
 pub mod wrong_kicks;
 pub mod wrong_scripts;
 pub mod wrong_tables;

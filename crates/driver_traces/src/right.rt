@@ -12,6 +12,7 @@ ghost use Rattle.driver_traces.specs.inner.ReloadTrace.{reload_job, reload_trace
 ghost use Rattle.driver_traces.specs.inner.ReplayTrace.{replay_job, replay_trace};
 ghost use Rattle.driver_traces.specs.inner.RoomTrace.{room_job, room_trace};
 ghost use Rattle.driver_traces.specs.inner.TimerTrace.{timer_job, timer_trace};
+ghost use Rattle.driver_traces.specs.inner.SecsTrace.{secs_job, secs_trace};
 ghost use Rattle.driver_traces.specs.inner.VersionTrace.{version_job, version_trace};
 ghost use Rattle.driver_traces.specs.inner.SpentTrace.{spent_job, spent_trace};
 ghost use Rattle.driver_traces.specs.inner.Faults.{keeps_all, keeps_all_six};
@@ -80,6 +81,11 @@ pub fn the_version_trace_is_right()
     ensures entries { keeps_all version_job version_trace ≡ true }
     ensures six { keeps_all_six version_job version_trace ≡ true }
     ensures end { is_ended version_job version_trace ≡ true }
+{}
+
+pub fn the_secs_trace_is_right()
+    ensures entries { keeps_all secs_job secs_trace ≡ true }
+    ensures end { is_ended secs_job secs_trace ≡ true }
 {}
 
 pub fn the_crowd_trace_is_right()

@@ -1,6 +1,7 @@
 -- The end of a load is what is due, and what its entry keeps.
-use Rattle.std.proofs.Common.{◌≡◌, ℕ, ◌<◌, not, Bool, true, false, if◌then◌else◌, List, ◌∷◌, Option, None}
+use Rattle.std.proofs.Common.{◌≡◌, ℕ, not, Bool, true, false, if◌then◌else◌, List, ◌∷◌, Option, None}
 use Rattle.std.proofs.Common.{Some, MatchOption, ⊎_elim, ◌⊎◌, inl, inr, length, is_some, refl, sym, ap, subst, ◌∙◌}
+use Rattle.std.proofs.Common.{◌<◌, nat_lt, nat_le, slice_set, arith, ◌&&◌, ◌||◌, ◌==◌}
 use Rattle.std.proofs.lemmas.Bool.{eq-eqb}
 use Rattle.std.specs.Str.{bytes_eq}
 use Rattle.std.proofs.lemmas.Option.{same_Some}
@@ -12,10 +13,13 @@ use Rattle.sgx_rules.specs.declared.entries.Event.TheVariants.{Did, Refused}
 use Rattle.sgx_types.specs.declared.names.Cpu.{Cpu}
 use Rattle.sgx_types.specs.declared.names.Frame.{Frame}
 use Rattle.sgx_types.specs.declared.names.Page.{Page}
-use Rattle.sgx_types.specs.declared.names.SlotAt.{SlotAt}
+use Rattle.sgx_types.specs.declared.names.VaSlot.{VaSlot}
+use Rattle.sgx_types.specs.Pages.{is_own_page}
+use Rattle.slot_keeper.specs.inner.Keeper.{is_ours}
+use Rattle.driver_rules.specs.inner.Slotted.{fixed_count}
 use Rattle.sgx_rules.specs.declared.refusals.Refusal.{Refusal}
 use Rattle.sgx_rules.specs.declared.refusals.Refusal.TheVariants as why
-use Rattle.sgx_rules.specs.Frames.{content, reloaded}
+use Rattle.sgx_rules.specs.Frames.{reloaded, vas_made}
 use Rattle.sgx_types.specs.Making.{Making}
 use Rattle.sgx_types.specs.Sealed.{Sealed}
 use Rattle.sgx_rules.specs.Starts.{Start, open_start}
@@ -39,28 +43,29 @@ use Rattle.driver_rules.specs.Places.{Loading, active, place}
 use Rattle.driver_rules.specs.Dues.{Ends, IsNext}
 use Rattle.driver_rules.specs.inner.Reclaims.{is_refused}
 use Rattle.driver_rules.specs.Turns.{Fails, Loads, fails_with, last_of, load_of}
-use Rattle.driver_laws.specs.inner.Agrees.{loaded_by}
+use Rattle.driver_laws.specs.inner.Agrees.{drivers, first_kept, loaded_by}
 use Rattle.driver_laws.specs.inner.Kinds.{CanMove}
-use Rattle.driver_laws.specs.inner.Sound.{is_absent, is_load_start, once_here, slot_at}
+use Rattle.driver_laws.specs.inner.Sound.{slot_of, is_absent, is_load_start, once_listed, slot_at}
 use Rattle.driver_laws.proofs.LoadLaws.{loading_place}
 use Rattle.driver_tables.specs.declared.driver.Driver.{Driver}
 use Rattle.driver_tables.specs.inner.Tables.{ShowsTables, place_in}
-use Rattle.driver_tables.proofs.LoadShowLaws.{shows_bus, shows_load_end, shows_load_refused}
+use Rattle.driver_tables.proofs.LoadShowLaws.{came_aside, shows_bus, shows_load_end, shows_load_end_aside, shows_load_refused}
 use Rattle.driver_tables.proofs.ListLaws.{not_listed}
+use Rattle.driver_tables.proofs.TargetLaws.{fixed_aside}
 use Rattle.fault_handler.specs.declared.answers.Loaded.{Loaded}
 use Rattle.fault_handler.specs.inner.Due.{IsRightEnd}
-use Rattle.fault_handler.specs.inner.Finishing.{CanFinish, IsFinished, bus_why}
+use Rattle.fault_handler.specs.inner.Finishing.{CanFinish, ComesBack, IsFinished, bus_why}
 use Rattle.driver_steps.specs.inner.Agrees.{Agrees}
 
 -- ---- what is known of a page that loads
 
 -- a state by its place
-record IsLoadingState (s : PageState) (n : ℕ) (slot : SlotAt) : Type 0 where
+record IsLoadingState (s : PageState) (n : ℕ) (slot : VaSlot) : Type 0 where
   frame : Frame
   state : s ≡ states.Loading frame slot
   number : frame.0 ≡ n
 
-loading_state : (s : PageState) (n : ℕ) (slot : SlotAt) → place_in s ≡ Loading n slot → IsLoadingState s n slot
+loading_state : (s : PageState) (n : ℕ) (slot : VaSlot) → place_in s ≡ Loading n slot → IsLoadingState s n slot
 loading_state (states.Loading f t) n slot h = record {
   frame = f;
   state = ap (states.Loading f)
@@ -68,10 +73,10 @@ loading_state (states.Loading f t) n slot h = record {
   number = frames f.0 n t slot h;
 }
   where
-    slots : (a b : ℕ) (x y : SlotAt) → Loading a x ≡ Loading b y → x ≡ y
+    slots : (a b : ℕ) (x y : VaSlot) → Loading a x ≡ Loading b y → x ≡ y
     slots a b x y k = cc
 
-    frames : (a b : ℕ) (x y : SlotAt) → Loading a x ≡ Loading b y → a ≡ b
+    frames : (a b : ℕ) (x y : VaSlot) → Loading a x ≡ Loading b y → a ≡ b
     frames a b x y k = cc
 loading_state states.Absent n slot h = cc
 loading_state (states.Here f) n slot h = cc
@@ -88,12 +93,46 @@ kept_for : (k : Option Kept) (page : Page) → page_kept k ≡ Some page → IsK
 kept_for None page h = cc
 kept_for (Some k) page h = record { rec = k.sealed; kept = ap (λ p. Some (keeping p k.sealed)) (same_Some k.page page h) }
 
+-- ---- slots
+
+from_zero : (n : ℕ) → nat_le 0 n ≡ true
+from_zero n = grind (arith)
+
+module _ (made : Making) (j : JobView) (past : List Entry) (d : Driver) (m : Parts) (r : Agrees made j past d m) (page : Page)
+    (slot : VaSlot) where
+  -- the slot of a SECS or a version array page is none of the keeper's
+  aside_not_ours : IsPlaced d.states.counts page → is_own_page page ≡ false → slot_of past page ≡ Some slot
+      → is_ours d.slots slot ≡ false
+  aside_not_ours placed aside at =
+      ap (is_ours d.slots) ((r.fixed page slot at).fixed aside) ∙ fixed_aside j d past page r.shows placed aside
+
+  -- that of a TCS or REG page is one of the keeper's, where it is one of 512
+  ours_within : is_own_page page ≡ true → slot_of past page ≡ Some slot → nat_lt slot.index 512 ≡ true → is_ours d.slots slot ≡ true
+  ours_within own at within =
+      r.shows.slots.ours slot
+      ∙ all (nat_lt slot.va (vas_made past)) (nat_le (first_kept j slot.va) slot.index) (nat_lt slot.index 512)
+      (r.shows.slots.placed page slot at) (by_array (slot.va == 0) refl ((r.fixed page slot at).own own)) within
+    where
+      all : (a b c : Bool) → a ≡ true → b ≡ true → c ≡ true → (a && (b && c)) ≡ true
+      all true true true h k l = refl
+      all true true false h k l = cc
+      all true false c h k l = cc
+      all false b c h k l = cc
+
+      by_array : (b : Bool) → (slot.va == 0) ≡ b → (not b || nat_le (fixed_count j) slot.index) ≡ true
+          → nat_le (if b then fixed_count j else 0) slot.index ≡ true
+      by_array true is h = h
+      by_array false is h = from_zero slot.index
+
+  own_ours : is_own_page page ≡ true → slot_of past page ≡ Some slot → is_ours d.slots slot ≡ true
+  own_ours own at = ours_within own at (r.shows.slots.within page slot at)
+
 module _ (made : Making) (j : JobView) (past : List Entry) (d : Driver) (m : Parts) (r : Agrees made j past d m) (cpu : Cpu) (page : Page)
     (n : ℕ) (last : last_of past cpu.0 ≡ Loads n page) where
   opens : load_of (open_start past n) ≡ Some page
   opens = r.theirs.started cpu.0 n page last
 
-  at : (slot : SlotAt) × (place past page ≡ Loading n slot)
+  at : (slot : VaSlot) × (place past page ≡ Loading n slot)
   at = loading_place past n page r.sound opens
 
   placed : IsPlaced d.states.counts page
@@ -106,7 +145,7 @@ module _ (made : Making) (j : JobView) (past : List Entry) (d : Driver) (m : Par
   pub end_frame : (can : CanFinish cpu page d m) → n ≡ can.frame.0
   end_frame can = sym state_is.number ∙ frames state_is.frame can.frame at.0 can.slot (sym state_is.state ∙ can.tables.loading)
     where
-      frames : (a b : Frame) (x y : SlotAt) → states.Loading a x ≡ states.Loading b y → a.0 ≡ b.0
+      frames : (a b : Frame) (x y : VaSlot) → states.Loading a x ≡ states.Loading b y → a.0 ≡ b.0
       frames a b x y k = cc
 
   copy : IsKeptFor (kept_at d.kept cpu.0) page
@@ -128,10 +167,12 @@ module _ (made : Making) (j : JobView) (past : List Entry) (d : Driver) (m : Par
     slot = at.0;
     tables = record {
       loading = state_is.state;
-      placed = subst (λ counts. IsPlaced counts page) r.shows.counts placed;
+      placed = placed;
       counts = r.shows.counts;
-      absent = not_listed past d.active.pages (active past) page r.shows.list (r.sound.list page ∙ ap once_here at.1);
-      out = r.shows.slots.used page at.0 (ap (slot_at (open_start past)) at.1);
+      absent = λ own. not_listed past d.active.pages (active past) page r.shows.list
+          (r.sound.list page ∙ ap (once_listed page) at.1 ∙ rw own refl);
+      out = λ own. r.shows.slots.used page at.0 (ap (slot_at (open_start past)) at.1)
+          (own_ours made j past d m r page at.0 own (ap (slot_at (open_start past)) at.1));
     };
     room = room;
     kept = copy.rec;
@@ -173,7 +214,7 @@ row_fails rec computed header page cpu f refusal h = by_tag (not (bytes_eq rec.t
     by_tag false c k = by_header c k
 
 module _ (made : Making) (j : JobView) (past : List Entry) (d d' : Driver) (m : Parts) (t : State) (r : Agrees made j past d m) (cpu : Cpu)
-    (page : Page) (f : Frame) (slot : SlotAt) (loading : place past page ≡ Loading f.0 slot) (last : last_of past cpu.0 ≡ Loads f.0 page)
+    (page : Page) (f : Frame) (slot : VaSlot) (loading : place past page ≡ Loading f.0 slot) (last : last_of past cpu.0 ≡ Loads f.0 page)
     (room : cpu.0 < length d.kept) (loaded : Loaded) (rec : Sealed)
     (is : IsFinished cpu page slot f rec d (state_of m) loaded d' t) where
   here : IsPlaced d.states.counts page
@@ -220,6 +261,17 @@ module _ (made : Making) (j : JobView) (past : List Entry) (d d' : Driver) (m : 
                 page cpu f refusal row ∙ ap (λ (e : Entry). Fails page (bus_why e.event)) (sym k.0);
           })
 
+  -- an own page is listed again, another one is only here
+  by_kind : (version : ℕ) (tag : List ℕ) → CanMove past (Did (Eld f) (Moved page version tag)) → (b : Bool) → is_own_page page ≡ b
+      → ComesBack (record d { kept = slice_set d.kept cpu.0 None }) page f slot d'
+      → ShowsTables (drivers j) j d' (did_by (actors.Cpu cpu) (Eld f) (Moved page version tag) ∷ past)
+  by_kind version tag can true own back =
+      shows_load_end (drivers j) j d d' past cpu f page version tag slot own can loading r.sound here room r.shows (back.0 own)
+  by_kind version tag can false aside back =
+      shows_load_end_aside (drivers j) j d d' past cpu f page version tag slot aside can loading r.sound here room r.shows
+      (came_aside (record d { kept = slice_set d.kept cpu.0 None }) page f slot d'
+      (aside_not_ours made j past d m r page slot here aside (ap (slot_at (open_start past)) loading)) (back.1 aside))
+
   done : IsDoneEnd cpu f page is.entry → IsRightEnd j past cpu page f loaded d'
   done k =
       let went = is.ends.1 (ap (λ (e : Entry). is_refused e.event) k.is) in
@@ -230,16 +282,16 @@ module _ (made : Making) (j : JobView) (past : List Entry) (d d' : Driver) (m : 
         due = subst (λ (e : Entry). IsNext (Ends (Eld f)) e.event) (sym k.is) refl;
         end = (refl, ap (λ (e : Entry). is_refused e.event) k.is);
         kept = subst (λ (e : Entry). CanMove past e.event) (sym k.is) can;
-        shows = subst (λ (e : Entry). ShowsTables j d' (e ∷ past)) (sym k.is)
-            (shows_load_end j d d' past cpu f page k.version k.tag slot can loading r.sound here room r.shows went.1);
+        shows = subst (λ (e : Entry). ShowsTables (drivers j) j d' (e ∷ past)) (sym k.is)
+            (by_kind k.version k.tag can (is_own_page page) refl went.1);
       })
 
   refused : IsRefusedEnd cpu f page is.entry → IsRightEnd j past cpu page f loaded d'
   refused k =
       let went = is.ends.0 (ap (λ (e : Entry). is_refused e.event) k.is) in
       let can : CanMove past (Refused (Eld f) k.refusal) = (page, slot, loading) in
-      let shown : ShowsTables j d' (is.entry ∷ past) = subst (λ (e : Entry). ShowsTables j d' (e ∷ past)) (sym k.is)
-      (shows_load_refused j d d' past cpu f page slot k.refusal can loading r.sound here room r.shows went.1) in
+      let shown : ShowsTables (drivers j) j d' (is.entry ∷ past) = subst (λ (e : Entry). ShowsTables (drivers j) j d' (e ∷ past)) (sym k.is)
+      (shows_load_refused (drivers j) j d d' past cpu f page slot k.refusal can loading r.sound here room r.shows went.1) in
       let fails : last_of (is.entry ∷ past) cpu.0 ≡ Fails page (bus_why is.entry.event) =
       ap (λ (e : Entry). last_of (e ∷ past) cpu.0) k.is ∙ rw (eq-eqb cpu.0 cpu.0 refl, opened_here) refl ∙ k.fails in
       subst (λ l. IsRightEnd j past cpu page f l d') (sym went.0) (record {
@@ -248,7 +300,7 @@ module _ (made : Making) (j : JobView) (past : List Entry) (d d' : Driver) (m : 
         due = subst (λ (e : Entry). IsNext (Ends (Eld f)) e.event) (sym k.is) refl;
         end = (refl, fails);
         kept = subst (λ (e : Entry). CanMove past e.event) (sym k.is) can;
-        shows = (shown, shows_bus j d' (is.entry ∷ past) cpu page (bus_why is.entry.event) (ap loaded_by fails) shown);
+        shows = (shown, shows_bus (drivers j) j d' (is.entry ∷ past) cpu page (bus_why is.entry.event) (ap loaded_by fails) shown);
       })
 
   pub end_right : IsRightEnd j past cpu page f loaded d'
@@ -268,5 +320,5 @@ finished_is_right made j past d d' m t r cpu page can n last loaded is =
     same : n ≡ can.frame.0
     same = frames n can.frame.0 (at made j past d m r cpu page n last).0 can.slot (sym (at made j past d m r cpu page n last).1 ∙ loading)
       where
-        frames : (a b : ℕ) (x y : SlotAt) → Loading a x ≡ Loading b y → a ≡ b
+        frames : (a b : ℕ) (x y : VaSlot) → Loading a x ≡ Loading b y → a ≡ b
         frames a b x y k = cc

@@ -3,7 +3,7 @@ use Rattle.std.proofs.Common.{◌≡◌, Option, None, Some, sym, ap, subst, ◌
 use Rattle.sgx_types.specs.declared.names.Cpu.{Cpu}
 use Rattle.sgx_types.specs.declared.names.Frame.{Frame}
 use Rattle.sgx_types.specs.declared.names.Page.{Page}
-use Rattle.sgx_types.specs.declared.names.SlotAt.{SlotAt}
+use Rattle.sgx_types.specs.declared.names.VaSlot.{VaSlot}
 use Rattle.sgx_types.specs.Sealed.{Sealed}
 use Rattle.active_list.specs.inner.Keeping.{kept_at, record_kept}
 use Rattle.active_list.specs.inner.States.{state_of as page_state}
@@ -19,7 +19,7 @@ abbrev frame_or : Frame → PageState → Frame
 frame_or other (Loading frame slot) = frame
 frame_or other state = other
 
-abbrev slot_or : SlotAt → PageState → SlotAt
+abbrev slot_or : VaSlot → PageState → VaSlot
 slot_or other (Loading frame slot) = slot
 slot_or other state = other
 
@@ -28,7 +28,7 @@ record_or other None = other
 record_or other (Some rec) = rec
 
 pub finished_as : (cpu : Cpu) (page : Page) (d d' : Driver) (m : Parts) (s t : State) (loaded : Loaded) (can : CanFinish cpu page d m)
-    (frame : Frame) (slot : SlotAt) (rec : Sealed) → page_state d.states page ≡ Loading frame slot
+    (frame : Frame) (slot : VaSlot) (rec : Sealed) → page_state d.states page ≡ Loading frame slot
     → record_kept (kept_at d.kept cpu.0) ≡ Some rec → IsFinished cpu page slot frame rec d s loaded d' t
     → IsFinished cpu page can.slot can.frame can.kept d s loaded d' t
 finished_as cpu page d d' m s t loaded can frame slot rec loading copy is =

@@ -5,14 +5,14 @@ use Rattle.sgx_types.proofs.Pages.{same_pages}
 use Rattle.sgx_rules.specs.declared.entries.Entry.{Entry}
 use Rattle.sgx_types.specs.declared.names.Cpu.{Cpu}
 use Rattle.sgx_types.specs.declared.names.Page.{Page}
-use Rattle.sgx_types.specs.declared.names.SlotAt.{SlotAt}
+use Rattle.sgx_types.specs.declared.names.VaSlot.{VaSlot}
 use Rattle.sgx_rules.specs.Frames.{is_this}
 use Rattle.sgx_rules.specs.PageBytes.{header_at}
 use Rattle.sgx_types.specs.Pages.{same_page}
 use Rattle.sgx_rules.specs.Fresh.{Out, last_out}
 use Rattle.sgx_types.specs.Making.{Making}
 use Rattle.sgx_types.specs.Sealed.{Sealed}
-use Rattle.driver_laws.specs.inner.ByFrame.{version_in}
+use Rattle.sgx_rules.specs.Slots.{version_in}
 use Rattle.sgx_rules.specs.Starts.{Start, open_start}
 use Rattle.sgx_rules.specs.inner.Starts.{BareStart}
 use Rattle.seal_record.specs.Cipher.{tag}
@@ -33,12 +33,11 @@ use Rattle.run_history.specs.Given.{gift}
 use Rattle.run_history.specs.inner.Honest.{GiftsAreLast, IsLastPut}
 use Rattle.run_history.specs.Stored.{StoreCalls}
 use Rattle.run_history.proofs.HonestLaws.{last_sealed, load_at}
-use Rattle.active_list.specs.inner.Places.{IsPlaced}
 use Rattle.sgx_types.specs.declared.names.Actor.TheVariants as actors
 use Rattle.sgx_rules.specs.inner.Enclaves.{EnclavesAreFlat}
 use Rattle.sgx_rules.proofs.Busy.{IsBareOf}
 use Rattle.fault_handler.specs.declared.answers.Loaded.{Loaded}
-use Rattle.fault_handler.specs.inner.Finishing.{CanFinish, IsBack, IsFinished}
+use Rattle.fault_handler.specs.inner.Finishing.{CanFinish, FindsVersion, IsBack, IsFinished}
 use Rattle.fault_handler.proofs.OwnRecords.{own_record}
 
 -- a version that is told
@@ -47,20 +46,21 @@ out_of None version h = cc
 out_of (Some x) version h = (x, refl, same_Some x.version version h)
 
 -- the page and the slot of the open start of a load
-start_of : (x : Start) (g : Page) (slot : SlotAt) → load_slot (Some x) g ≡ Some slot → (x.loads ≡ Some g) × (x.at ≡ slot)
+pub start_of : (x : Start) (g : Page) (slot : VaSlot) → load_slot (Some x) g ≡ Some slot → (x.loads ≡ Some g) × (x.slot ≡ slot)
 start_of x g slot h = by_loads x.loads refl h
   where
-    by_page : (page : Page) (b : Bool) → same_page page g ≡ b → slot_if b x.at ≡ Some slot → (Some page ≡ Some g) × (x.at ≡ slot)
-    by_page page true is k = (ap Some (same_pages page g is), same_Some x.at slot k)
+    by_page : (page : Page) (b : Bool) → same_page page g ≡ b → slot_if b x.slot ≡ Some slot → (Some page ≡ Some g) × (x.slot ≡ slot)
+    by_page page true is k = (ap Some (same_pages page g is), same_Some x.slot slot k)
     by_page page false is k = cc
 
-    by_loads : (l : Option Page) → x.loads ≡ l → slot_if (is_this l g) x.at ≡ Some slot → (l ≡ Some g) × (x.at ≡ slot)
+    by_loads : (l : Option Page) → x.loads ≡ l → slot_if (is_this l g) x.slot ≡ Some slot → (l ≡ Some g) × (x.slot ≡ slot)
     by_loads None is k = cc
     by_loads (Some page) is k = by_page page (same_page page g) refl k
 
 module _ (made : Making) (j : JobView) (past : List Entry) (calls : List Call) (d d' : Driver) (m : Parts) (t : State) (cpu : Cpu)
     (page : Page) (loaded : Loaded) (can : CanFinish cpu page d m) (r : Agrees made j past d m) (store : StoreCalls made.key past calls)
-    (gifts : GiftsAreLast past calls) (seen : EnclavesAreFlat past) (given : gift past calls can.frame.0 ≡ Some can.kept)
+    (gifts : GiftsAreLast past calls) (finds : FindsVersion past can.frame.0 can.slot) (seen : EnclavesAreFlat past)
+    (given : gift past calls can.frame.0 ≡ Some can.kept)
     (is : IsFinished cpu page can.slot can.frame can.kept d (state_of m) loaded d' t) where
   abbrev s : State
   s = state_of m
@@ -68,12 +68,12 @@ module _ (made : Making) (j : JobView) (past : List Entry) (calls : List Call) (
   abbrev coming : IsComing s can.frame.0
   coming = is.reloaded.coming
 
-  at : place past page ≡ Loading can.frame.0 can.slot
+  pub at : place past page ≡ Loading can.frame.0 can.slot
   at =
-      sym (r.shows.states page (subst (λ counts. IsPlaced counts page) (sym can.tables.counts) can.tables.placed))
+      sym (r.shows.states page can.tables.placed)
       ∙ ap place_in can.tables.loading
 
-  out : (x : Out) × (last_out past page ≡ Some x) × (x.version ≡ version_in past can.slot)
+  pub out : (x : Out) × (last_out past page ≡ Some x) × (x.version ≡ version_in past can.slot)
   out = out_of (last_out past page) (version_in past can.slot) (r.sound.versions page can.slot (ap slot_outside at))
 
   put : IsLastPut made.key past calls page out.0.version
@@ -88,18 +88,17 @@ module _ (made : Making) (j : JobView) (past : List Entry) (calls : List Call) (
   opened : open_start past can.frame.0 ≡ Some its.start
   opened = its.opened
 
-  start : (its.start.loads ≡ Some page) × (its.start.at ≡ can.slot)
+  start : (its.start.loads ≡ Some page) × (its.start.slot ≡ can.slot)
   start =
       start_of its.start page can.slot
       (sym (ap (λ o. load_slot o page) opened) ∙ load_at past can.frame.0 page can.slot r.sound at)
 
-  its_page : coming.page ≡ page
+  pub its_page : coming.page ≡ page
   its_page = same_Some coming.page page (sym coming.loads ∙ sym (ap (λ (y : BareStart). y.loads) its.same) ∙ start.0)
 
-  version : coming.start.version ≡ out.0.version
+  pub version : coming.start.version ≡ out.0.version
   version =
-      sym (ap (λ (y : BareStart). y.version) its.same) ∙ r.used.found can.frame.0 its.start page opened start.0
-      ∙ ap (version_in past) start.1 ∙ sym out.2
+      sym (ap (λ (y : BareStart). y.version) its.same) ∙ finds its.start opened ∙ sym out.2
 
   headed : put.rec.header ≡ coming.header
   headed =

@@ -1,5 +1,5 @@
 -- What the start of a load makes of a state.
-use Rattle.std.proofs.Common.{◌≡◌, true, false, Option, None, Some, MatchOption, refl, sym, ap, ◌∙◌}
+use Rattle.std.proofs.Common.{◌≡◌, Bool, true, false, Option, None, Some, MatchOption, refl, sym, ap, subst, ◌∙◌}
 use Rattle.std.proofs.lemmas.Bool.{eq-eqb, false≢true}
 use Rattle.sgx_types.specs.declared.names.Actor.{Actor}
 use Rattle.sgx_rules.specs.declared.entries.Action.TheVariants.{EldStart}
@@ -9,6 +9,7 @@ use Rattle.sgx_types.specs.declared.names.Cpu.{Cpu}
 use Rattle.sgx_types.specs.declared.names.Frame.{Frame}
 use Rattle.sgx_types.specs.declared.names.Page.{Page}
 use Rattle.sgx_types.specs.declared.names.SlotAt.{SlotAt}
+use Rattle.sgx_types.specs.declared.names.VaSlot.{VaSlot}
 use Rattle.sgx_rules.specs.declared.refusals.Refusal.{Refusal}
 use Rattle.sgx_rules.specs.Table.{first_of_row, is_loading}
 use Rattle.paging_laws.specs.inner.State.{State, after_eldstart, row_of}
@@ -22,8 +23,9 @@ use Rattle.paging_machine.specs.inner.Parts.{Parts, state_of}
 use Rattle.driver_rules.specs.inner.Reclaims.{is_refused}
 use Rattle.driver_steps.specs.inner.Carried.{Carries}
 use Rattle.driver_tables.specs.declared.driver.Driver.{Driver}
-use Rattle.fault_handler.specs.inner.Resolving.{IsStarted, IsToOpen}
+use Rattle.fault_handler.specs.inner.Resolving.{IsStarted, IsToOpen, TellsFault}
 use Rattle.driver_tables.specs.inner.Moves.{with_load}
+use Rattle.fault_handler.specs.declared.answers.FaultAnswer.{FaultAnswer}
 use Rattle.fault_handler.specs.declared.answers.FaultAnswer.TheVariants as answers
 
 -- where it is not refused, the frame waits for the page
@@ -55,37 +57,46 @@ start_loads s t a f page slot e step done =
 
 -- ---- what the code's start says
 
-module _ (cpu : Cpu) (page : Page) (slot : SlotAt) (frame : Frame) (rec : Sealed) (d : Driver) (m m' : Parts) (entry : Entry)
-    (step : IsStep (state_of m) (actors.Cpu cpu) (EldStart frame page slot) entry (state_of m'))
+module _ (cpu : Cpu) (page : Page) (slot : VaSlot) (to : SlotAt) (frame : Frame) (rec : Sealed) (d : Driver) (m m' : Parts) (entry : Entry)
+    (step : IsStep (state_of m) (actors.Cpu cpu) (EldStart frame page to) entry (state_of m'))
     (carries : Carries (state_of m) entry (state_of m'))
   where
-    pub says_refused : (work : Box UnsealWork) → is_refused entry.event ≡ true
-        → IsStarted cpu page slot frame rec d m (answers.Started entry work) d m'
-    says_refused work refused = record {
+    pub says_refused : is_refused entry.event ≡ true → IsStarted cpu page slot to frame rec d m (answers.Slot entry) d m'
+    says_refused refused = record {
       entry = entry;
-      work = work;
-      says = refl;
       step = step;
       carries = carries;
-      driver = rw refused refl;
-      work_is = λ done. absurd (false≢true (sym done ∙ refused));
+      refused = λ k. (refl, refl);
+      started = λ done. absurd (false≢true (sym done ∙ refused));
     }
 
     pub says_started : (work : Box UnsealWork) (d' : Driver) → is_refused entry.event ≡ false → d' ≡ with_load d cpu page slot frame rec
         → work.value.rec ≡ rec → work.value.key ≡ (state_of m').key
         → IsSomeAnd ((state_of m').start frame.0) (λ start. work.value.version ≡ start.version)
-        → IsStarted cpu page slot frame rec d m (answers.Started entry work) d' m'
+        → IsStarted cpu page slot to frame rec d m (answers.Started entry work) d' m'
     says_started work d' done tables brought key version = record {
       entry = entry;
-      work = work;
-      says = refl;
       step = step;
       carries = carries;
-      driver = rw done tables;
-      work_is = λ k. opened ((state_of m').start frame.0) refl version;
+      refused = λ k. absurd (false≢true (sym done ∙ k));
+      started = λ k. record {
+        work = work;
+        says = refl;
+        driver = tables;
+        opens = opened ((state_of m').start frame.0) refl version;
+      };
     }
       where
         opened : (x : Option BareStart) → (state_of m').start frame.0 ≡ x → IsSomeAnd x (λ start. work.value.version ≡ start.version)
             → IsToOpen (state_of m') frame.0 rec work.value
         opened None is v = absurd v
         opened (Some start) is v = record { brought = brought; key = key; start = start; opened = is; version = v }
+
+-- a load's start tells no failure of the store
+pub no_fault : {cpu : Cpu} {page : Page} {slot : VaSlot} {to : SlotAt} {frame : Frame} {rec : Sealed} {d d' : Driver} {m m' : Parts}
+    {answer : FaultAnswer} → IsStarted cpu page slot to frame rec d m answer d' m' → TellsFault answer → ⊥
+no_fault is told = by_test (is_refused is.entry.event) refl
+  where
+    by_test : (b : Bool) → is_refused is.entry.event ≡ b → ⊥
+    by_test true k = subst TellsFault (is.refused k).0 told
+    by_test false k = subst TellsFault (is.started k).says told

@@ -13,11 +13,15 @@ pub enum FaultAnswer {
     /// Nothing yet: the page is on its way out, or another processor brings it back, or no frame is free.
     Again(Why),
 
-    /// The page doesn't come back: its put failed, its get failed, or the store has no record of it.
+    /// The page, or the one that has to be back before it, doesn't come back: its put failed, its get failed,
+    /// or the store has no record of it.
     Bus(BusWhy),
 
     /// The page's load has started by this entry. What is left is to open the record that the store gave.
     Started { entry: Entry, work: Box<UnsealWork> },
+
+    /// This entry refused the start of the page's load: its slot has no version.
+    Slot { entry: Entry },
 }
 
 /// What comes of the end of a load.

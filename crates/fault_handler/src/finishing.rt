@@ -9,17 +9,19 @@ use active_list::kept_records::copy_record;
 use active_list::page_states::PageState;
 use driver_steps::steps::is_refused;
 use driver_tables::driver::Driver;
+use driver_tables::moves::is_own_page;
 use paging_machine::machine::Machine;
 use seal_record::unseal::{UnsealWork, UnsealedWork, unseal};
 use sgx_rules::entries::{BusWhy, Entry, Event};
 use sgx_rules::refusals::Refusal;
-use sgx_types::names::{Actor, Cpu, Frame, Page, SlotAt};
+use sgx_types::names::{Actor, Cpu, Frame, Page, VaSlot};
 use sgx_types::record::Record;
 
 /// The end of a processor's load of a page, by the record that is kept for it: where the work opened another one, the kept record
 /// is opened anew in the work's buffers. Takes no memory.
 ///
-/// The page is here, listed as the last and not young, and its slot is given back. A refused load leaves it away in that slot:
+/// The page is here. A TCS or REG page is listed as the last and not young, and its slot is given back. A refused load
+/// leaves the page away in its slot:
 /// with `Mac` where the record was not sealed under the slot's version, and else with `Header` where it is another page's. That this
 /// is right is a law, `ends_are_right`.
 pub fn finish(
@@ -74,7 +76,7 @@ fn is_same(one: &Record, other: &Record) -> bool
 }
 
 // What the entry of a load's end makes of the tables.
-fn end(driver: &mut Driver, page: Page, frame: Frame, slot: SlotAt, entry: Entry) -> Loaded
+fn end(driver: &mut Driver, page: Page, frame: Frame, slot: VaSlot, entry: Entry) -> Loaded
     requires { IsToList driver.old page frame slot }
     ensures { Ends driver.old page frame slot entry result driver.new }
 {
@@ -83,7 +85,11 @@ fn end(driver: &mut Driver, page: Page, frame: Frame, slot: SlotAt, entry: Entry
         let why = bus_why(&entry);
         return Loaded::Bus { entry, why };
     }
-    driver.load(page, frame, slot);
+    if is_own_page(page) {
+        driver.load(page, frame, slot);
+    } else {
+        driver.arrive(page, frame);
+    }
     Loaded::Here(entry)
 }
 

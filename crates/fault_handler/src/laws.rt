@@ -7,8 +7,8 @@ ghost use Rattle.active_list.specs.inner.States.{state_of as page_state};
 ghost use Rattle.driver_rules.specs.Turns.{Loads, last_of};
 ghost use Rattle.driver_tables.specs.declared.driver.Driver.{Driver};
 ghost use Rattle.fault_handler.specs.inner.Due.{IsRight, IsRightEnd};
-ghost use Rattle.fault_handler.specs.inner.Finishing.{CanFinish, IsBack, IsFinished};
-ghost use Rattle.fault_handler.specs.inner.Resolving.{IsResolved};
+ghost use Rattle.fault_handler.specs.inner.Finishing.{CanFinish, FindsVersion, IsBack, IsFinished};
+ghost use Rattle.fault_handler.specs.inner.Resolving.{CanResolve, IsResolved, asked_in};
 ghost use Rattle.fault_handler.specs.declared.answers.FaultAnswer.{FaultAnswer};
 ghost use Rattle.fault_handler.specs.declared.answers.Loaded.{Loaded};
 ghost use Rattle.backing_store.specs.Calls.{Call};
@@ -36,8 +36,14 @@ ghost use Rattle.sgx_rules.specs.inner.Enclaves.{EnclavesAreFlat};
 pub fn answers_are_right()
     ensures { (made : Making) (j : JobView) (past : List Entry) (d d' : Driver) (m m' : Parts) (cpu : Cpu) (page : Page)
         (told told' : Option (List Call)) (answer : FaultAnswer) → Agrees made j past d m → IsPlaced d.states.counts page
-        → cpu.0 < length d.kept → IsResolved cpu page (page_state d.states page) d m told answer d' m' told'
-        → IsRight j past cpu page answer d' }
+        → cpu.0 < length d.kept → IsResolved cpu (asked_in d page) (page_state d.states (asked_in d page)) d m told answer d' m' told'
+        → IsRight j past cpu page (asked_in d page) answer d' }
+{}
+
+/// Where tables and machine stand for the same entries, a fault step for a page that has its place can be made.
+pub fn pages_can_be_asked()
+    ensures { (made : Making) (j : JobView) (past : List Entry) (d : Driver) (m : Parts) (page : Page) → Agrees made j past d m
+        → IsPlaced d.states.counts page → CanResolve d m page }
 {}
 
 /// What ends the load that a processor has still to end is right, for whatever entries tables and machine stand for: its entry is the end
@@ -56,11 +62,13 @@ pub fn own_records_come_back()
 {}
 
 /// Where the store failed nothing and gave each page's last record put, a load is never refused: it ends with the page back. The calls are
-/// those of the entries, and the kept record is the one that was given for the load. Nothing is supposed of forged records.
+/// those of the entries, the kept record is the one that was given for the load, and its start found the version of the page's last
+/// write-out, which a version array page that a forged record brought back need not have. Nothing is supposed of forged records.
 pub fn honest_loads_are_back()
     ensures { (made : Making) (j : JobView) (past : List Entry) (calls : List Call) (d d' : Driver) (m : Parts) (t : State) (cpu : Cpu)
         (page : Page) (loaded : Loaded) (can : CanFinish cpu page d m) → Agrees made j past d m → StoreCalls made.key past calls
-        → GiftsAreLast past calls → EnclavesAreFlat past → gift past calls can.frame.0 ≡ Some can.kept
+        → GiftsAreLast past calls → FindsVersion past can.frame.0 can.slot → EnclavesAreFlat past
+        → gift past calls can.frame.0 ≡ Some can.kept
         → IsFinished cpu page can.slot can.frame can.kept d (state_of m) loaded d' t → IsBack loaded }
 {}
 

@@ -26,7 +26,8 @@ use Rattle.turn_rules.specs.Script.{build_of, built, enclave_steps, enclaves_ste
 use Rattle.turn_rules.specs.Script.{step_action}
 use Rattle.turn_rules.specs.declared.steps.BuildStep.{BuildStep}
 use Rattle.turn_rules.specs.declared.steps.BuildStep.TheVariants as builds
-use Rattle.driver_rules.specs.Ages.{AgeRule}
+use Rattle.driver_rules.specs.Ages.{KeptAgeRule}
+use Rattle.driver_rules.specs.Spares.{outs_kept}
 use Rattle.driver_rules.specs.Scripts.{ScriptRule}
 use Rattle.driver_laws.proofs.StepLaws.{Builds, ByStep, NoStep, builds_or_none}
 
@@ -144,8 +145,8 @@ created_more j past a (Did (actions.Init enclave expect) answer) by n before mad
 created_more j past a _ by n before made = before made
 
 -- each enclave that was created has one of the job's numbers
-pub created_are_jobs : (j : JobView) (past : List Entry) → Along (ScriptRule j) past → Along (AgeRule j) past → (n : ℕ)
+pub created_are_jobs : (j : JobView) (past : List Entry) → Along (ScriptRule j) past → Along (KeptAgeRule j) past → (n : ℕ)
     → is_some (created past n) ≡ true → (1 ≤ n) × (n ≤ length j.enclaves)
 created_are_jobs j [] script age n made = absurd (false≢true made)
 created_are_jobs j (e ∷ past) script age n made =
-    created_more j past e.actor e.event (builds_or_none j past e script.0 age.0) n (created_are_jobs j past script.1 age.1 n) made
+    created_more j past e.actor e.event (builds_or_none j past (outs_kept j past) e script.0 age.0) n (created_are_jobs j past script.1 age.1 n) made

@@ -13,7 +13,8 @@ use Rattle.sgx_rules.specs.declared.entries.Event.TheVariants.{Bus, Did, Refused
 use Rattle.sgx_types.specs.declared.names.Cpu.{Cpu}
 use Rattle.sgx_rules.specs.Epochs.{is_track}
 use Rattle.sgx_rules.specs.Rules.{Along}
-use Rattle.driver_rules.specs.Ages.{AgeRule}
+use Rattle.driver_rules.specs.Ages.{KeptAgeRule}
+use Rattle.driver_rules.specs.Spares.{outs_kept}
 use Rattle.driver_rules.specs.Scripts.{ScriptRule}
 use Rattle.driver_laws.proofs.StepLaws.{Builds, ByStep, NoStep, builds_or_none}
 use Rattle.driver_laws.specs.inner.Tracking.{TrackingRule}
@@ -54,7 +55,7 @@ none_made old by new same = record {
 }
 
 pub run_made : (old : BookView) (cpu : Cpu) (turn : Turn) (new : BookView) → IsRun old cpu turn new → Made old (actors.Cpu cpu) new
-run_made old cpu (turns.Did n) new (one, quiet, g) = made_of old (actors.Cpu cpu) 1 new g
+run_made old cpu (turns.Did n) new (many, quiet, g) = made_of old (actors.Cpu cpu) n new g
 run_made old cpu (turns.Unseal work) new (opens, inl g) = made_of old (actors.Cpu cpu) 1 new g
 run_made old cpu (turns.Unseal work) new (opens, inr same) = none_made old (actors.Cpu cpu) new same
 run_made old cpu (turns.Again why) new (due, there, same) = none_made old (actors.Cpu cpu) new same
@@ -100,8 +101,8 @@ pub can_note : (old new : BookView) (n : NotesView) (by : Actor) (m : Made old b
 can_note old new n by m k holds is =
     let script : Along (ScriptRule old.job) (m.entries ++ old.past) =
     subst (Along (ScriptRule old.job)) m.past (subst (λ (j : JobView). Along (ScriptRule j) new.past) m.job holds.anyhow.script) in
-    let age : Along (AgeRule old.job) (m.entries ++ old.past) =
-    subst (Along (AgeRule old.job)) m.past (subst (λ (j : JobView). Along (AgeRule j) new.past) m.job holds.anyhow.age) in
+    let age : Along (KeptAgeRule old.job) (m.entries ++ old.past) =
+    subst (Along (KeptAgeRule old.job)) m.past (subst (λ (j : JobView). Along (KeptAgeRule j) new.past) m.job holds.anyhow.age) in
     let few = k.valid.few_scripts in
     let cpus = k.cpus in
     record {
@@ -160,13 +161,13 @@ build_grown old new n g holds k =
         subst (λ (a : Actor). TellsEntries old.job.start_epoch (record { actor = a; event = e.event } ∷ old.past) n)
         (sym (by 0 e (omega arith)))
         (tells_other n old.job.start_epoch old.past k.tells actors.Builder e.event tt
-        (calm (builds_or_none old.job old.past e script.0 age.0)))
+        (calm (builds_or_none old.job old.past (outs_kept old.job old.past) e script.0 age.0)))
       where
         script : Along (ScriptRule old.job) (e ∷ old.past)
         script = subst (Along (ScriptRule old.job)) past (subst (λ (j : JobView). Along (ScriptRule j) new.past) g.job holds.anyhow.script)
 
-        age : Along (AgeRule old.job) (e ∷ old.past)
-        age = subst (Along (AgeRule old.job)) past (subst (λ (j : JobView). Along (AgeRule j) new.past) g.job holds.anyhow.age)
+        age : Along (KeptAgeRule old.job) (e ∷ old.past)
+        age = subst (Along (KeptAgeRule old.job)) past (subst (λ (j : JobView). Along (KeptAgeRule j) new.past) g.job holds.anyhow.age)
 
         builder_else : true ≡ false → ⊥
         builder_else h = cc

@@ -32,6 +32,12 @@ pub enum Work {
 
     /// Two load from one page each.
     TwoLoads,
+
+    /// One loads from an enclave whose SECS has left.
+    FirstEnclave,
+
+    /// One uses three of 1,202 pages, where a version array page has left.
+    ThreePages,
 }
 
 /// Long runs.
@@ -72,6 +78,21 @@ pub const NO_ROOM: Row = Row {
         put: 114,
         given: 82,
         opened: 82,
+        elsewhere: 0,
+        fault: None,
+    },
+};
+
+/// A run with a thousand write-outs, one of them of a version array page.
+pub const ARRAYS: Row = Row {
+    name: "a version array page",
+    plan: "",
+    work: Work::ThreePages,
+    gifts: Gifts::AsGiven,
+    told: Report {
+        put: 1172,
+        given: 6,
+        opened: 6,
         elsewhere: 0,
         fault: None,
     },
@@ -119,6 +140,19 @@ pub const SHORT: &[Row] = &[
         },
     },
     Row {
+        name: "a SECS",
+        plan: "",
+        work: Work::FirstEnclave,
+        gifts: Gifts::AsGiven,
+        told: Report {
+            put: 40,
+            given: 4,
+            opened: 4,
+            elsewhere: 0,
+            fault: None,
+        },
+    },
+    Row {
         name: "a forged record",
         plan: "",
         work: Work::TwoLoads,
@@ -141,19 +175,40 @@ const SECOND_TCS: &str = "tcs 42 43 1 plain\nreg 43 1 rw 0 plain\n";
 
 const TWO_LOADS: &str = "cpu 0\neenter A 0\nload 0x2000\ncpu 1\neenter A 42\nload 0x3000\n";
 
+const FIRST_ENCLAVE: &str =
+    "epc 12\nenclave A 0x10000 0x10000\ntcs 0 1 1 plain\nreg 1 1 rw 0 plain\nreg 2 1 rw 7 plain\n\
+    enclave B 0x40000 0x40000\ntcs 0 1 1 plain\nreg 1 1 rw 0 plain\nreg 2 40 rw 0 plain\n\
+    cpu 0\neenter A 0\nload 0x2000\neexit\n";
+
+const THREE_PAGES: &str =
+    "epc 40\nenclave A 0x800000 0x800000\nreg 2 599 rw 0 plain\ntcs 0 1 1 plain\nreg 1 1 rw 0 plain\n\
+    reg 601 601 rw 0 plain\ncpu 0\neenter A 0\nstore 0x2000 1\nstore 0x258000 2\nstore 0x4b1000 3\n\
+    load 0x2000\nload 0x258000\nload 0x4b1000\neexit\n";
+
+/// A processor that enters an enclave of 1,061 pages, of which a version array page has left with the slot of its TCS page.
+pub const ARRAY_LEFT: &str =
+    "epc 40\nenclave A 0x800000 0x800000\nreg 2 599 rw 0 plain\ntcs 0 1 1 plain\nreg 1 1 rw 0 plain\n\
+    reg 601 460 rw 0 plain\ncpu 0\neenter A 0\nstore 0x2000 1\nstore 0x258000 2\nload 0x2000\nload 0x258000\neexit\n";
+
 /// The text of a row's job.
 pub fn text_of(alloc: Global, row: &Row) -> Result<String, AllocError> {
-    let mut text = String::from_str(alloc, ENCLAVE)?;
     match row.work {
         Work::FortyPages => {
+            let mut text = String::from_str(alloc, ENCLAVE)?;
             text.push_str(row.plan)?;
             push_forty_pages(&mut text)?;
+            Ok(text)
         }
-        Work::TwoLoads => {
-            text.push_str(SECOND_TCS)?;
-            text.push_str(row.plan)?;
-            text.push_str(TWO_LOADS)?;
-        }
+        Work::TwoLoads => joined(alloc, [ENCLAVE, SECOND_TCS, row.plan, TWO_LOADS]),
+        Work::FirstEnclave => String::from_str(alloc, FIRST_ENCLAVE),
+        Work::ThreePages => String::from_str(alloc, THREE_PAGES),
+    }
+}
+
+fn joined(alloc: Global, parts: [&str; 4]) -> Result<String, AllocError> {
+    let mut text = String::new(alloc);
+    for part in parts {
+        text.push_str(part)?;
     }
     Ok(text)
 }

@@ -1,52 +1,67 @@
--- A turn of the pass is what the reclaimer does next.
-use Rattle.std.proofs.Common.{◌≡◌, inl, inr, ℕ, zero, suc, ◌+◌, ◌<◌, true, false, cond, refl, sym, ◌∙◌, ap, subst}
-use Rattle.std.proofs.Common.{List, [], ◌∷◌, drop}
-use Rattle.std.proofs.Common.{length, get_or, slice_get, count_by, Option, Some, add-zero, arith}
-use Rattle.paging_laws.proofs.ColumnLaws.{content_is}
+-- A turn is what the reclaimer does next.
+use Rattle.std.proofs.Common.{◌≡◌, ◌⊎◌, inl, inr, ℕ, suc, ◌+◌, ◌<◌, ◌≤◌, Bool, true, false, cond, refl, sym, ◌∙◌, ap, subst}
+use Rattle.std.proofs.Common.{List, [], ◌∷◌, length, get_or, count_by, Option, Some, None, add-zero, arith}
 use Rattle.std.proofs.lemmas.List.Sums.{sum_by-cons}
-use Rattle.sgx_rules.specs.declared.entries.Entry.{Entry}
+use Rattle.std.specs.List.{list_all}
+use Rattle.sgx_types.specs.Making.{Making}
+use Rattle.sgx_types.specs.Pages.{is_own_page}
 use Rattle.sgx_types.specs.declared.names.Kind.TheVariants as kinds
 use Rattle.sgx_types.specs.declared.names.Page.{Page}
-use Rattle.sgx_rules.specs.Epochs.{epoch}
-use Rattle.sgx_rules.specs.Frames.{Content, content}
+use Rattle.sgx_rules.specs.declared.entries.Action.TheVariants as actions
+use Rattle.sgx_rules.specs.declared.entries.Entry.{Entry}
 use Rattle.sgx_rules.specs.Frames as frames
+use Rattle.sgx_rules.specs.Frames.{Content, content}
 use Rattle.epcm_entry.specs.declared.entry_view.EntryView.{EntryView}
 use Rattle.epcm_entry.specs.declared.entry_view.EntryView.TheVariants as views
 use Rattle.epcm_entry.specs.inner.EntryView.{is_free}
 use Rattle.epcm_entry.specs.inner.Epc.{EpcFrame, free_frame, is_free_frame}
 use Rattle.epcm_entry.specs.inner.Sights.{held}
 use Rattle.job_grammar.specs.Jobs.{JobView}
-use Rattle.paging_machine.specs.inner.Parts.{Parts, cpu_at, state_of}
+use Rattle.turn_rules.specs.Script.{frame_at}
+use Rattle.paging_laws.proofs.ColumnLaws.{content_is}
 use Rattle.paging_laws.specs.inner.Columns.{HasColumns}
-use Rattle.sgx_types.specs.Making.{Making}
-use Rattle.paging_laws.specs.inner.State.{making_of}
+use Rattle.paging_laws.specs.inner.State.{version_at}
+use Rattle.slot_keeper.specs.inner.Keeper.{AllOut}
 use Rattle.paging_machine.proofs.Columns.{get_or-default}
+use Rattle.paging_machine.specs.inner.Parts.{Parts, state_of}
+use Rattle.active_list.specs.inner.Active.{are_held}
+use Rattle.active_list.specs.inner.Holds.{is_held as is_held_by}
+use Rattle.active_list.specs.inner.Ring.{pages_of}
+use Rattle.driver_rules.specs.Ages.{ahead_by, head_of}
+use Rattle.driver_rules.specs.Dues.{Due, is_look, Makes, TriesOut}
+use Rattle.driver_rules.specs.Holds.{is_held}
+use Rattle.driver_rules.specs.inner.Reclaims as reclaims
+use Rattle.driver_rules.specs.inner.Reclaims.{ahead_gives, form_due, in_frame, leaving_due, look_at, look_due, pass_due, third_due}
+use Rattle.driver_rules.specs.inner.Reclaims.{tries_out}
 use Rattle.driver_rules.specs.Passes as passes
-use Rattle.driver_rules.specs.Passes.{Blocking, Pass, Scan, Tries, free_count, free_count_from, keepers, pass}
-use Rattle.driver_rules.specs.Places.{Leaving, place}
-use Rattle.driver_laws.specs.inner.Tracks.{IsTracked, IsUntracked, KeepsTracks}
+use Rattle.driver_rules.specs.Passes.{aside, Between, Blocking, free_count, free_count_from, keepers, Pass, pass, Scan, Tries}
+use Rattle.driver_rules.specs.Places.{active, is_young, Leaving, place}
+use Rattle.driver_rules.specs.Spares.{due_with, outs_kept}
+use Rattle.driver_rules.specs.declared.waits.Why.TheVariants as waits
+use Rattle.driver_laws.specs.inner.Stages.{HasPages, IsScanning, IsTaken}
+use Rattle.driver_tables.proofs.ListLaws.{head_marks, heads, pages_are}
 use Rattle.driver_tables.specs.declared.driver.Driver.{Driver}
-use Rattle.reclaim_worker.specs.declared.turns.Form.{Form}
-use Rattle.reclaim_worker.specs.declared.turns.Form.TheVariants as forms
-use Rattle.reclaim_worker.specs.declared.turns.Phase.{Phase}
-use Rattle.reclaim_worker.specs.declared.turns.Phase.TheVariants as phases
+use Rattle.reclaim_pass.specs.declared.stages.Aside.{Aside}
+use Rattle.reclaim_pass.specs.declared.stages.Aside.TheVariants as asides
+use Rattle.reclaim_pass.specs.declared.stages.Form.{Form}
+use Rattle.reclaim_pass.specs.declared.stages.Form.TheVariants as forms
+use Rattle.reclaim_pass.specs.declared.stages.Stage.{Stage}
+use Rattle.reclaim_pass.specs.declared.stages.Stage.TheVariants as stages
+use Rattle.reclaim_pass.specs.declared.stages.Taken.{Taken}
+use Rattle.reclaim_pass.specs.inner.Dues.{due_in}
+use Rattle.reclaim_pass.specs.inner.Keeping.{keepers_by}
+use Rattle.reclaim_pass.specs.inner.Viewed.{aside_by, form_in, is_kicked, is_kicked_stage, pages_in, pass_by, PassView, taken_at}
 use Rattle.reclaim_worker.specs.declared.turns.PassTurn.{PassTurn}
 use Rattle.reclaim_worker.specs.declared.turns.PassTurn.TheVariants as turns
-use Rattle.reclaim_worker.specs.declared.turns.Taken.{Taken}
-use Rattle.driver_rules.specs.declared.waits.Why.TheVariants as waits
-use Rattle.reclaim_worker.specs.inner.Answers.{IsTurn}
-use Rattle.driver_rules.specs.Dues.{TriesOut}
-use Rattle.driver_rules.specs.inner.Reclaims.{form_due, leaving_due, pass_due, third_due}
-use Rattle.reclaim_worker.specs.inner.Moves.{IsBlockTurn, IsTryTurn}
+use Rattle.reclaim_worker.specs.inner.Answers.{bits_of, IsStart, IsTry, IsTurn}
 use Rattle.reclaim_worker.specs.inner.Ready.{Ready}
-use Rattle.driver_laws.specs.inner.Stages.{HasPages, IsTaken}
-use Rattle.reclaim_worker.specs.inner.Standing.{AreInFrames, IsForm, is_kicked, pages_in}
-use Rattle.reclaim_worker.specs.inner.Tried.{count_from, is_kept_by}
-use Rattle.reclaim_worker.specs.inner.Turning.{IsFormTurn, IsThirdTurn, TurnSays, WithPage}
-use Rattle.reclaim_worker.proofs.KeepLaws.{bits_are, count_is}
-use Rattle.reclaim_worker.proofs.MoveDueLaws.{block_is_due, track_is_due, try_is_due}
-use Rattle.reclaim_worker.proofs.RowLaws.{fits_now}
-use Rattle.reclaim_worker.proofs.ScanLaws.{begin_is_due, scan_is_due}
+use Rattle.reclaim_worker.specs.inner.Turning.{AsideSays, DueSays, FormSays, IsAsideTurn, IsBegun, IsMadeTurn, IsScanned, IsThirdTurn}
+use Rattle.reclaim_worker.specs.inner.Turning.{IsTryTurn}
+use Rattle.reclaim_worker.specs.inner.Turning.{StageSays, ThirdSays, turn_of, TurnSays}
+use Rattle.reclaim_worker.proofs.PassLaws.{due_is, keepers_are}
+use Rattle.reclaim_worker.proofs.RowLaws.{block_told, fixed_at, free_at, start_told, track_told, try_told}
+use Rattle.reclaim_worker.proofs.SeenLaws.{columns, frames_are}
+use Rattle.reclaim_worker.proofs.StageLaws.{in_blocks, in_tries, InTries, to_leave, with_page}
 
 -- ---- free frames
 
@@ -71,135 +86,181 @@ pub free_is : (m : Parts) (past : List Entry) → HasColumns (state_of m) past �
 free_is m past h = sym (free_counted m.epc (content past) 0 (λ i d low. let e : 0 + i ≡ i =
     omega arith in rw e (sym (content_is h i) ∙ ap (λ (x : EpcFrame). held x.entry) (get_or-default m.epc i free_frame d low))))
 
--- ---- the pages that were taken
+-- ---- by how far the pass is
 
-pub drop_get : (n : ℕ) (xs : List Taken) (x : Taken) (ys : List Taken) → drop n xs ≡ x ∷ ys → slice_get xs n ≡ Some x
-drop_get zero [] x ys h = cc
-drop_get zero (z ∷ zs) x ys h = cc
-drop_get (suc n) [] x ys h = cc
-drop_get (suc n) (z ∷ zs) x ys h = drop_get n zs x ys h
+due_there : (past : List Entry) (g : Page) (f : ℕ) (to : ℕ → Due) → place past g ≡ Leaving f → leaving_due past g to ≡ to f
+due_there past g f to at = rw at refl
 
-pub frames_behind : (past : List Entry) (n : ℕ) (xs : List Taken) → AreInFrames past xs → AreInFrames past (drop n xs)
-frames_behind past zero xs h = h
-frames_behind past (suc n) [] h = h
-frames_behind past (suc n) (x ∷ xs) h = frames_behind past n xs h.1
+module _ (made : Making) (j : JobView) (past : List Entry) (v v' : PassView) (d d' : Driver) (m m' : Parts) (turn : PassTurn)
+    (r : Ready made j past v d m) where
+  abbrev Right : Due → Type 0
+  Right due = IsTurn made j past d.slots due turn
 
-pub with_page : (o : Option Taken) (one : Taken) (none : Type 0) (says : Taken → Type 0) → o ≡ Some one → WithPage o none says → says one
-with_page o one none says is k = subst (λ x. WithPage x none says) is k
+  abbrev OfPass : Bool → Pass → Type 0
+  OfPass kicked at = Right (pass_due j past kicked at)
 
--- ---- by phase
+  -- ---- looks
 
-module _ (made : Making) (j : JobView) (past : List Entry) (taken taken' : List Taken) (d d' : Driver) (m m' : Parts) (turn : PassTurn)
-    (phase' : Phase) where
-  abbrev Due : Phase → Pass → Type 0
-  Due phase p = IsTurn made past d.slots (pass_due j past (is_kicked phase) p) turn
-
-  idle_due : Ready made j past taken (phases.Idle false) d m → turn ≡ turns.Again (waits.Enough (count_by is_free_frame m.epc))
-      → Due (phases.Idle false) (pass j past)
-  idle_due r k =
-      let frames : length m.epc ≡ j.epc = ap (λ (x : Making). x.frames) r.follows.shape.making ∙ r.frames in
-      subst (Due (phases.Idle false)) (sym r.stands.0) (k ∙ ap (λ n. turns.Again (waits.Enough n)) (free_is m past r.follows.shape.columns
-      ∙ ap (λ n. free_count n past) frames))
-
-  block_due : (next : ℕ) → Ready made j past taken (phases.Block next) d m
-      → TurnSays taken (phases.Block next) d m turn taken' phase' d' m' → Due (phases.Block next) (pass j past)
-  block_due next r k = by_list (drop next taken) refl
+  look_right : 1 ≤ length (active past) → IsScanned v d turn v' d' → Right (look_due j past)
+  look_right some (inr none) =
+      absurd (empty (active past) some (sym (pages_are past d.active.pages (active past) r.agrees.shows.list) ∙ ap pages_of none.0))
     where
-      by_list : (ts : List Taken) → drop next taken ≡ ts → Due (phases.Block next) (pass j past)
-      by_list [] is = absurd (subst (HasPages past) (r.stands.same ∙ ap (λ ts. Blocking (pages_in ts) (pages_in taken)) is) r.pages.pages)
-      by_list (one ∷ rest) is =
-          let to : pass j past ≡ Blocking (one.page ∷ pages_in rest) (pages_in taken) =
-          r.stands.same ∙ ap (λ ts. Blocking (pages_in ts) (pages_in taken)) is in
-          let has = subst (HasPages past) to r.pages.pages in
-          let at = subst (AreInFrames past) is (frames_behind past next taken r.stands.frames) in
-          let says = with_page (slice_get taken next) one _ (λ x. IsBlockTurn taken next x (state_of m) turn phase' (state_of m'))
-          (drop_get next taken one rest is) k.0 in
-          subst (Due (phases.Block next)) (sym to) (block_is_due made past m
-          (state_of m') taken next one d turn phase' r.follows.shape.columns r.sound r.pages.sealing at.0 has.waiting.0 says)
-
-  -- a try of the page of the pass
-  tries : (next : ℕ) (form : Form) (block : ℕ) (one : Taken) → HasColumns (state_of m) past → making_of (state_of m) ≡ made
-      → Ready made j past taken (phases.Tries next form block) d m → place past one.page ≡ Leaving one.frame.0 → IsTaken past true one.page
-      → IsTryTurn next form block one (state_of m) d turn phase' d' (state_of m')
-      → IsTurn made past d.slots (leaving_due past one.page TriesOut) turn
-  tries next form block one h making r at w k = try_is_due made j past m
-      (state_of m') next form block one d d' turn phase' making h r.follows.shape.slots_busy r.sound r.pages.sealing
-      r.shows.tables.slots at w k
-
-  -- the last one, or its wait
-  third : (next block : ℕ) (one : Taken) → Ready made j past taken (phases.Tries next forms.Third block) d m
-      → place past one.page ≡ Leaving one.frame.0 → IsTaken past true one.page → IsTracked past one.page
-      → block + 1 ≡ epoch made.first_epoch past one.page.enclave
-      → IsThirdTurn next block one m d turn phase' d' m' (count_from (λ p. is_kept_by (cpu_at m p).mode one.page.enclave block) 0 d.cpus)
-      → IsTurn made past d.slots (third_due past one.page (keepers past one.page)) turn
-  third next block one r at w tracked told k = by_keepers (keepers past one.page) refl
+      empty : (ys : List Page) → 1 ≤ length ys → ys ≡ [] → ⊥
+      empty [] low h = omega (arith, low)
+      empty (y ∷ ys) low h = cc
+  look_right some (inl k) =
+      subst (λ o. Right (look_at j past o)) (sym head) (record {
+        look = k.look;
+        right =
+            subst (λ b. is_look b (is_young past k.page) k.look ≡ true) (r.held k.page)
+            (subst (λ b. is_look (is_held_by d.active.own k.page) b k.look ≡ true)
+            (head_marks past d.active.pages (active past) k.page r.agrees.shows.list k.head) k.right);
+        told = k.told;
+      })
     where
-      first : made.first_epoch ≡ (state_of m).first_epoch
-      first = ap (λ (x : Making). x.first_epoch) (sym r.follows.shape.making)
+      head : head_of (active past) ≡ Some k.page
+      head = sym (heads past d.active.pages (active past) r.agrees.shows.list) ∙ k.head
 
-      count : count_from (λ p. is_kept_by (cpu_at m p).mode one.page.enclave block) 0 d.cpus ≡ length (keepers past one.page)
-      count = count_is m past one.page block d.cpus r.follows.shape.columns r.sound tracked (told
-          ∙ ap (λ n. epoch n past one.page.enclave) first) r.cpus r.shows.tables.few
+  all_held_same : are_held d.active ≡ reclaims.are_held j past
+  all_held_same =
+      ap (list_all (is_held_by d.active.own)) (pages_are past d.active.pages (active past) r.agrees.shows.list) ∙ each (active past)
+    where
+      each : (ys : List Page) → list_all (is_held_by d.active.own) ys ≡ list_all (is_held j past) ys
+      each [] = refl
+      each (y ∷ ys) = rw (r.held y, each ys) refl
 
-      by_keepers : (ps : List ℕ) → keepers past one.page ≡ ps → IsTurn made past d.slots (third_due past one.page ps) turn
-      by_keepers [] is = try_is_due made j past m (state_of m') next forms.Third block one d d' turn phase' r.follows.shape.making
-          r.follows.shape.columns r.follows.shape.slots_busy r.sound r.pages.sealing r.shows.tables.slots at w
-          (k.tried (count ∙ ap length is))
-      by_keepers (p ∷ ps) is =
-          let some : count_from (λ q. is_kept_by (cpu_at m q).mode one.page.enclave block) 0 d.cpus ≡ length (p ∷ ps) =
-          count ∙ ap length is in
-          k.patient (rw some (omega arith)) ∙ ap (λ n. turns.Again (waits.Older one.page.enclave n)) some
+  begin_right : (kicked : Bool) → IsBegun v d turn v' d' → OfPass kicked (Between true)
+  begin_right kicked (inr k) = rw (sym all_held_same ∙ k.0) k.1
+  begin_right kicked (inl k) =
+      rw (sym all_held_same ∙ k.0) (look_right (some (active past) (sym all_held_same ∙ k.0)) k.1)
+    where
+      some : (ys : List Page) → list_all (is_held j past) ys ≡ false → 1 ≤ length ys
+      some [] h = cc
+      some (y ∷ ys) h = omega arith
 
-  form_is_due : (next : ℕ) (form : Form) (block : ℕ) (one : Taken) (rest : List Page) (to : passes.Form)
-      → Ready made j past taken (phases.Tries next form block) d m → place past one.page ≡ Leaving one.frame.0
-      → HasPages past (Tries one.page rest to) → KeepsTracks past (Tries one.page rest to)
-      → IsForm made.first_epoch past one.page form block to → IsFormTurn next form block one m d turn phase' d' m'
-      → IsTurn made past d.slots (form_due past one.page (is_kicked (phases.Tries next form block)) to) turn
-  form_is_due next forms.First block one rest to r at has tracks is k =
-      subst (λ f. IsTurn made past d.slots (form_due past one.page false f) turn) (sym is)
-      (tries next forms.First block one r.follows.shape.columns r.follows.shape.making r at
-      (subst (λ f. HasPages past (Tries one.page rest f)) is has).page k)
-  form_is_due next forms.Second block one rest to r at has tracks is k =
-      subst (λ f. IsTurn made past d.slots (form_due past one.page false f) turn) (sym is.0)
-      (tries next forms.Second block one r.follows.shape.columns r.follows.shape.making r at
-      (subst (λ f. HasPages past (Tries one.page rest f)) is.0 has).page k)
-  form_is_due next forms.Track block one rest to r at has tracks is k =
-      let untracked : IsUntracked past one.page = subst (λ f. KeepsTracks past (Tries one.page rest f)) is.0 tracks in
-      subst (λ f. IsTurn made past d.slots (form_due past one.page false f) turn) (sym is.0)
-      (track_is_due made past m (state_of m') next block one d turn phase' r.follows.shape.making r.follows.shape.columns r.sound
-      r.pages.sealing (fits_now made (state_of m) past r.follows) (untracked.calm one.page.enclave) at k)
-  form_is_due next forms.Kick block one rest to r at has tracks is k =
-      let tracked : IsTracked past one.page = subst (λ f. KeepsTracks past (Tries one.page rest f)) is.0 tracks in
-      let first : made.first_epoch ≡ (state_of m).first_epoch = ap (λ (x : Making). x.first_epoch) (sym r.follows.shape.making) in
-      subst (λ f. IsTurn made past d.slots (form_due past one.page false f) turn) (sym is.0)
-      (k.told ∙ ap turns.Kicks (bits_are m past one.page block d.cpus r.follows.shape.columns r.sound tracked (is.1
-      ∙ ap (λ n. epoch n past one.page.enclave) first) r.cpus r.shows.tables.few))
-  form_is_due next forms.Third block one rest to r at has tracks (inl is, told) k =
-      let tracked : IsTracked past one.page = subst (λ f. KeepsTracks past (Tries one.page rest f)) is tracks in
-      subst (λ f. IsTurn made past d.slots (form_due past one.page true f) turn) (sym is)
-      (third next block one r at (subst (λ f. HasPages past (Tries one.page rest f)) is has).page tracked told k)
-  form_is_due next forms.Third block one rest to r at has tracks (inr is, told) k =
-      let tracked : IsTracked past one.page = subst (λ f. KeepsTracks past (Tries one.page rest f)) is.0 tracks in
-      subst (λ f. IsTurn made past d.slots (form_due past one.page true f) turn) (sym is.0)
-      (third next block one r at (subst (λ f. HasPages past (Tries one.page rest f)) is.0 has).page tracked told k)
+  scan_right : (kicked : Bool) (left : ℕ) (taken : List Page) → pass j past ≡ Scan left taken → IsScanned v d turn v' d'
+      → OfPass kicked (Scan left taken)
+  scan_right kicked left taken is k =
+      let scanning : IsScanning past left taken = subst (HasPages past) is r.agrees.pages.pages in
+      let low = scanning.some in
+      let enough = scanning.enough in
+      look_right (omega (arith, low, enough)) k
 
-  tries_due : (next : ℕ) (form : Form) (block : ℕ) → Ready made j past taken (phases.Tries next form block) d m
-      → TurnSays taken (phases.Tries next form block) d m turn taken' phase' d' m' → Due (phases.Tries next form block) (pass j past)
-  tries_due next form block r k =
-      let w = r.stands.0 in
-      let at = subst (AreInFrames past) w.due r.stands.1 in
-      let says = with_page (slice_get taken next) w.one _ (λ x. IsFormTurn next form block x m d turn phase' d' m')
-      (drop_get next taken w.one w.rest w.due) k.0 in
-      subst (Due (phases.Tries next form block)) (sym w.same)
-      (form_is_due next form block w.one (pages_in w.rest) w.to r at.0 (subst (HasPages past) w.same r.pages.pages)
-      (subst (KeepsTracks past) w.same r.tracks) w.fits says)
+  -- ---- tries
 
-  pub turn_is_due : (phase : Phase) → Ready made j past taken phase d m → TurnSays taken phase d m turn taken' phase' d' m'
-      → IsTurn made past d.slots (pass_due j past (is_kicked phase) (pass j past)) turn
-  turn_is_due (phases.Idle false) r k = idle_due r k
-  turn_is_due (phases.Idle true) r k = begin_is_due j made past d.marks.scan taken taken' d d' turn phase' false r.shows r.stands.0 k
-  turn_is_due (phases.Scan left) r k = scan_is_due j made past taken taken' left
-      (pages_in taken) d d' turn phase' false r.shows r.pages.pages r.stands.same k
-  turn_is_due (phases.Block next) r k = block_due next r k
-  turn_is_due (phases.Tries next form block) r k = tries_due next form block r k
-  turn_is_due (phases.Sealing next slot) r k = absurd k
+  try_right : (one : Taken) → is_own_page one.page ≡ true → place past one.page ≡ Leaving one.frame.0 → IsTaken past true one.page
+      → IsTryTurn one v d (state_of m) turn v' d' (state_of m') → Right (tries_out past one.page)
+  try_right one own at w k =
+      subst Right (sym (due_there past one.page one.frame.0 (TriesOut one.page) at)) (rw own (by_slot k))
+    where
+      by_slot : IsTryTurn one v d (state_of m) turn v' d' (state_of m') → IsTry made past d.slots one.frame.0 turn
+          ⊎ (AllOut d.slots × (turn ≡ turns.Again waits.NoSlot))
+      by_slot (inr none) = inr none
+      by_slot (inl t) = inl (record {
+        slot = t.tried.slot;
+        ours = t.tried.ours;
+        free = t.tried.free;
+        least = t.tried.least;
+        at = t.tried.at;
+        named = (free_at made j past d m r.agrees t.tried.slot t.tried.at t.tried.ours t.tried.named).0.found;
+        version = version_at (state_of m) t.tried.at;
+        told =
+            t.told
+            ∙ try_told made j past d m r.agrees one t.tried.slot t.tried.at t.entry (state_of m') own at w t.tried.ours t.tried.free
+            t.tried.named t.tried.step;
+      })
+
+  third_right : (epoch : ℕ) (one : Taken) → is_own_page one.page ≡ true → place past one.page ≡ Leaving one.frame.0
+      → IsTaken past true one.page → keepers past one.page ≡ keepers_by m one.page.enclave epoch
+      → IsThirdTurn epoch one v d m turn v' d' m' → Right (third_due past one.page (keepers past one.page))
+  third_right epoch one own at w same k =
+      by_keepers (keepers past one.page)
+      (subst (λ (ps : List ℕ). ThirdSays (length ps) one v d (state_of m) turn v' d' (state_of m')) (sym same) k)
+    where
+      by_keepers : (ps : List ℕ) → ThirdSays (length ps) one v d (state_of m) turn v' d' (state_of m') → Right (third_due past one.page ps)
+      by_keepers [] says = try_right one own at w says
+      by_keepers (p ∷ ps) says = says
+
+  form_right : (next : ℕ) (form : Form) (t : InTries made.first_epoch j past v next form) → v.aside ≡ asides.None
+      → v.stage ≡ stages.Tries next form
+      → FormSays form t.one v d m turn v' d' m'
+      → Right (form_due past t.one.page (is_kicked_stage (stages.Tries next form)) (form_in v.kicks form))
+  form_right next forms.First t alone is k = try_right t.one (t.own alone) t.at t.has.page k
+  form_right next forms.Second t alone is k = try_right t.one (t.own alone) t.at t.has.page k
+  form_right next forms.Track t alone is k =
+      k.0.told
+      ∙ track_told made j past d m r.agrees t.one.page t.one.frame.0 k.0.entry (state_of m') (t.own alone) t.at
+      (t.tracks.calm t.one.page.enclave) k.0.step
+  form_right next (forms.Kick epoch false) t alone is k =
+      k.0.told
+      ∙ ap (λ ps. turns.Kicks (bits_of ps)) (sym (keepers_are made j past v d m r next epoch
+      (forms.Kick epoch false) t.one is refl t.found))
+  form_right next (forms.Kick epoch true) t alone is k =
+      third_right epoch t.one (t.own alone) t.at t.has.page
+      (keepers_are made j past v d m r next epoch (forms.Kick epoch true) t.one is refl t.found) k
+  form_right next (forms.Third epoch) t alone is k =
+      third_right epoch t.one (t.own alone) t.at t.has.page
+      (keepers_are made j past v d m r next epoch (forms.Third epoch) t.one is refl t.found) k
+  form_right next (forms.Kicks epoch place) t alone is k = absurd k
+  form_right next forms.Sealing t alone is k = absurd k
+
+  -- ---- the pass
+
+  pub stage_right : v.aside ≡ asides.None → (stage : Stage) → v.stage ≡ stage → StageSays stage v d m turn v' d' m'
+      → OfPass (is_kicked_stage stage) (pass j past)
+  stage_right alone (stages.Idle false) is k =
+      subst (OfPass false) (sym (r.stands.same ∙ ap (pass_by v.taken v.kicks) is))
+      (k ∙ ap (λ n. turns.Again (waits.Enough n)) (free_is m past (columns made j past d m r.agrees)
+      ∙ ap (λ n. free_count n past) (frames_are made j past d m r.agrees)))
+  stage_right alone (stages.Idle true) is k =
+      subst (OfPass false) (sym (r.stands.same ∙ ap (pass_by v.taken v.kicks) is)) (begin_right false k)
+  stage_right alone (stages.Scan left) is k =
+      let same = r.stands.same ∙ ap (pass_by v.taken v.kicks) is in
+      subst (OfPass false) (sym same) (scan_right false left (pages_in v.taken) same k)
+  stage_right alone (stages.Block next) is k =
+      let b = in_blocks made j past v d m r alone next is in
+      let says = with_page (taken_at v next) b.one (turn ≡ turns.Again waits.AllHeld)
+      (λ one. IsMadeTurn (actions.Block one.frame) v (state_of m) turn v' (state_of m') × (d' ≡ d)) b.found k in
+      subst (OfPass false) (sym b.passed)
+      (subst Right (sym (due_there past b.one.page b.one.frame.0 (λ f. Makes (actions.Block (frame_at f))) b.at))
+      (says.0.told ∙ ap (λ (e : Entry). turn_of e e.event)
+      (block_told made j past d m r.agrees b.one says.0.entry (state_of m') b.own b.at b.waits says.0.step)))
+  stage_right alone (stages.Tries next form) is k =
+      let t = in_tries made j past v d m r next form is in
+      subst (OfPass (is_kicked_stage (stages.Tries next form))) (sym t.passed)
+      (form_right next form t alone is
+      (with_page (taken_at v next) t.one (turn ≡ turns.Again waits.AllHeld) (λ one. FormSays form one v d m turn v' d' m') t.found k))
+
+  -- ---- all of it
+
+  abbrev Ahead : passes.Aside → Option Page → Type 0
+  Ahead x o = Right (ahead_gives j past (is_kicked v) (ahead_by x o))
+
+  start_right : (one : Taken) → v.aside ≡ asides.ToGo one → IsAsideTurn one v d (state_of m) turn v' (state_of m')
+      → Ahead (aside past) (due_with j past (outs_kept j past))
+  start_right one is k =
+      let t = to_leave made j past v d m one r is in
+      let at = k.started.at in
+      let right : IsStart made j past one.page one.frame.0 turn = record {
+        at = at;
+        named = (fixed_at made j past d m r.agrees one t.other t.at t.none at k.started.named).found;
+        told =
+            k.told ∙ start_told made j past d m r.agrees one t.other t.at t.none at k.entry (state_of m') k.started.named k.started.step;
+      } in
+      subst (λ x. Ahead x (due_with j past (outs_kept j past))) (sym t.going)
+      (subst Right (sym (due_there past one.page one.frame.0 (TriesOut one.page) t.at)) (rw t.other right))
+
+  due_right : v.aside ≡ asides.None → (o : Option Page) → due_in d (state_of m) v.behind ≡ o → DueSays o v d m turn v' d' m'
+      → Ahead passes.NoneAside o
+  due_right alone (Some page) is k = record { look = k.look; right = k.right; told = k.told }
+  due_right alone None is k = stage_right alone v.stage refl k
+
+  pub turn_is_due : TurnSays v d m turn v' d' m' → Ahead (aside past) (due_with j past (outs_kept j past))
+  turn_is_due k = by_aside v.aside refl k
+    where
+      by_aside : (x : Aside) → v.aside ≡ x → AsideSays x v d m turn v' d' m' → Ahead (aside past) (due_with j past (outs_kept j past))
+      by_aside (asides.ToGo one) is says = start_right one is says.0
+      by_aside (asides.Going one) is says = absurd says
+      by_aside asides.None is says =
+          subst (λ x. Ahead x (due_with j past (outs_kept j past))) (sym (r.stands.aside ∙ ap aside_by is))
+          (subst (Ahead passes.NoneAside) (due_is made j past v d m r) (due_right is (due_in d (state_of m) v.behind) refl says))

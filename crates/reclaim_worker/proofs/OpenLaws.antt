@@ -1,66 +1,91 @@
--- The page for whose bytes a pass waits has started to go out.
-use Rattle.std.proofs.Common.{◌≡◌, ℕ, true, List, Some, drop, slice_get, sym, ap, subst, ◌∙◌}
+-- The page whose write-out is open has started to go out.
+use Rattle.std.proofs.Common.{◌≡◌, ℕ, true, refl, sym, ◌∙◌, ap, subst, List, Option, Some, None, is_some}
+use Rattle.std.proofs.Common.{slice_get}
+use Rattle.std.proofs.lemmas.Option.{same_Some}
 use Rattle.std.specs.Option.{IsSomeAnd}
-use Rattle.sgx_rules.specs.declared.entries.Entry.{Entry}
-use Rattle.sgx_types.specs.declared.names.SlotAt.{SlotAt}
 use Rattle.sgx_types.specs.Making.{Making}
-use Rattle.sgx_rules.specs.Starts.{open_start}
+use Rattle.sgx_rules.specs.declared.entries.Entry.{Entry}
+use Rattle.sgx_rules.specs.inner.Starts.{bare_start, without_place}
+use Rattle.sgx_rules.specs.Starts.{open_start, Start}
 use Rattle.job_grammar.specs.Jobs.{JobView}
-use Rattle.active_list.specs.inner.Places.{IsPlaced}
-use Rattle.paging_laws.proofs.ColumnLaws.{sealing_is}
+use Rattle.paging_laws.proofs.ColumnLaws.{sealing_is, start_is}
 use Rattle.paging_machine.specs.inner.Parts.{Parts, state_of}
-use Rattle.driver_rules.specs.Passes.{pass}
 use Rattle.driver_rules.specs.Places.{Leaving, place}
 use Rattle.driver_laws.specs.inner.Sound.{is_absent, is_write_start}
-use Rattle.driver_laws.specs.inner.Stages.{HasPages, IsGoing}
+use Rattle.driver_laws.specs.inner.Stages.{HasAside, IsGoing}
 use Rattle.driver_tables.specs.declared.driver.Driver.{Driver}
-use Rattle.reclaim_worker.specs.declared.turns.Phase.{Phase}
-use Rattle.reclaim_worker.specs.declared.turns.Phase.TheVariants as phases
-use Rattle.reclaim_worker.specs.declared.turns.Taken.{Taken}
-use Rattle.reclaim_worker.proofs.DueLaws.{drop_get}
+use Rattle.reclaim_pass.specs.declared.stages.Aside.{Aside}
+use Rattle.reclaim_pass.specs.declared.stages.Aside.TheVariants as asides
+use Rattle.reclaim_pass.specs.declared.stages.Form.TheVariants as forms
+use Rattle.reclaim_pass.specs.declared.stages.Stage.{Stage}
+use Rattle.reclaim_pass.specs.declared.stages.Stage.TheVariants as stages
+use Rattle.reclaim_pass.specs.declared.stages.Taken.{Taken}
+use Rattle.reclaim_pass.specs.inner.Standing.{IsAside}
+use Rattle.reclaim_pass.specs.inner.Viewed.{aside_by, is_sealing, PassView, sealing_at, sealing_in, sealing_with}
 use Rattle.reclaim_worker.specs.inner.Ready.{Ready}
-use Rattle.reclaim_worker.specs.inner.Standing.{AreInFrames, IsWithSlot, is_sealing}
-use Rattle.reclaim_worker.specs.inner.Stored.{IsOpen, IsStarted}
+use Rattle.reclaim_worker.specs.inner.Stored.{IsOpen, IsStarted, StartsOut}
+use Rattle.reclaim_worker.proofs.RowLaws.{same_frame}
+use Rattle.reclaim_worker.proofs.SeenLaws.{columns}
+use Rattle.reclaim_worker.proofs.StageLaws.{in_tries}
 
--- what is known of it
-record IsOut (m : Parts) (d : Driver) (one : Taken) : Type 0 where
-  sealing : (state_of m).is_sealing one.frame.0 ≡ true
-  placed : IsPlaced d.states.counts one.page
+-- it goes out beside the passes, or it is one of the pass
+pub data IsSealingOf (v : PassView) (one : Taken) : Type 0 where
+  Besides : (v.aside ≡ asides.Going one) → IsSealingOf v one
+  OfPass : (next : ℕ) → (v.stage ≡ stages.Tries next forms.Sealing) → (slice_get v.taken next ≡ Some one) → IsSealingOf v one
 
-is_out : (made : Making) (j : JobView) (past : List Entry) (taken : List Taken) (next : ℕ) (slot : SlotAt) (d : Driver) (m : Parts)
-    → Ready made j past taken (phases.Sealing next slot) d m → (w : IsWithSlot past taken next slot (pass j past))
-    → AreInFrames past (drop next taken) → IsOut m d w.one
-is_out made j past taken next slot d m r w frames = record {
-  sealing =
-      sealing_is r.follows.shape.columns w.one.frame.0 ∙ r.pages.sealing w.one.frame.0 ∙ subst
-      (λ n. is_write_start (open_start past n) ≡ true) same going.write;
-  placed = r.shows.tables.placed w.one.page (ap is_absent at);
-}
+pub sealing_of : (v : PassView) (one : Taken) → sealing_in v ≡ Some one → IsSealingOf v one
+sealing_of v one is = by_aside v.aside refl is
   where
-    at : place past w.one.page ≡ Leaving w.one.frame.0
-    at = (subst (AreInFrames past) w.due frames).0
+    by_stage : (stage : Stage) → v.stage ≡ stage → sealing_at v.taken stage ≡ Some one → IsSealingOf v one
+    by_stage (stages.Tries next forms.Sealing) at found = OfPass next at found
+    by_stage stage at found = cc
 
-    going : IsGoing past w.one.page
-    going = (subst (HasPages past) w.same r.pages.pages).page
+    by_aside : (x : Aside) → v.aside ≡ x → sealing_with x (sealing_at v.taken v.stage) ≡ Some one → IsSealingOf v one
+    by_aside (asides.Going t) at found = Besides (at ∙ ap asides.Going (same_Some t one found))
+    by_aside asides.None at found = by_stage v.stage refl found
+    by_aside (asides.ToGo t) at found = by_stage v.stage refl found
 
-    same : going.frame ≡ w.one.frame.0
-    same = frames_same going.frame w.one.frame.0 (sym going.leaving ∙ at)
-      where
-        frames_same : (a b : ℕ) → Leaving a ≡ Leaving b → a ≡ b
-        frames_same a b k = cc
+pub record IsGoingOut (past : List Entry) (one : Taken) : Type 0 where
+  pub at : place past one.page ≡ Leaving one.frame.0
+  pub start : Start
+  pub opened : open_start past one.frame.0 ≡ Some start
+  pub write : is_write_start (open_start past one.frame.0) ≡ true
 
-pub can_store : (made : Making) (j : JobView) (past : List Entry) (taken : List Taken) (phase : Phase) (d : Driver) (m : Parts)
-    → Ready made j past taken phase d m → is_sealing phase ≡ true
-    → IsOpen taken phase (state_of m) × IsStarted taken phase (state_of m) d.states.counts
-can_store made j past taken (phases.Sealing next slot) d m r h =
-    let w = r.stands.0 in
-    let out = is_out made j past taken next slot d m r w r.stands.1 in
-    let at : slice_get taken next ≡ Some w.one = drop_get next taken w.one w.rest w.due in (
-      subst (λ o. IsSomeAnd o (λ one. (state_of m).is_sealing one.frame.0 ≡ true)) (sym at) out.sealing,
-      subst (λ o. IsSomeAnd o (λ one. ((state_of m).is_sealing one.frame.0 ≡ true) × IsPlaced d.states.counts one.page)) (sym at)
-          (out.sealing, out.placed),
-    )
-can_store made j past taken (phases.Idle works) d m r h = cc
-can_store made j past taken (phases.Scan left) d m r h = cc
-can_store made j past taken (phases.Block next) d m r h = cc
-can_store made j past taken (phases.Tries next form block) d m r h = cc
+going_out : (past : List Entry) (one : Taken) → place past one.page ≡ Leaving one.frame.0 → IsGoing past one.page → IsGoingOut past one
+going_out past one at going =
+    let same = same_frame past one.page going.frame one.frame.0 going.leaving at in
+    record {
+      at = at;
+      start = going.start;
+      opened = subst (λ n. open_start past n ≡ Some going.start) same going.opened;
+      write = subst (λ n. is_write_start (open_start past n) ≡ true) same going.write;
+    }
+
+module _ (made : Making) (j : JobView) (past : List Entry) (v : PassView) (d : Driver) (m : Parts) (r : Ready made j past v d m) where
+  pub goes_out : (one : Taken) → IsSealingOf v one → IsGoingOut past one
+  goes_out one (Besides is) =
+      going_out past one (subst (IsAside past) is r.stands.leaves)
+      (subst (HasAside past) (r.stands.aside ∙ ap aside_by is) r.agrees.pages.aside).1
+  goes_out one (OfPass next is found) =
+      let t = in_tries made j past v d m r next forms.Sealing is in
+      subst (IsGoingOut past) (same_Some t.one one (sym t.found ∙ found)) (going_out past t.one t.at t.has.page)
+
+  starts_out : (one : Taken) → sealing_in v ≡ Some one → StartsOut one (state_of m) d.states.counts
+  starts_out one is =
+      let out = goes_out one (sealing_of v one is) in
+      record {
+        leaving =
+            sealing_is (columns made j past d m r.agrees) one.frame.0 ∙ r.agrees.pages.sealing one.frame.0 ∙ out.write;
+        start = without_place out.start;
+        opened = start_is (columns made j past d m r.agrees) one.frame.0 ∙ ap bare_start out.opened;
+        placed = r.agrees.shows.placed one.page (ap is_absent out.at);
+      }
+
+  pub can_store : is_sealing v ≡ true → IsOpen v (state_of m) × IsStarted v (state_of m) d.states.counts
+  can_store h = by_one (sealing_in v) refl h
+    where
+      by_one : (o : Option Taken) → sealing_in v ≡ o → is_some o ≡ true
+          → IsSomeAnd o (λ one. (state_of m).is_sealing one.frame.0 ≡ true) × IsSomeAnd o (λ one. StartsOut one
+          (state_of m) d.states.counts)
+      by_one None is k = cc
+      by_one (Some one) is k = let out = starts_out one is in (out.leaving, out)

@@ -1,188 +1,212 @@
--- Each page of a pass that has still to go out keeps its place in the store.
-use Rattle.std.proofs.Common.{◌≡◌, ◌≤◌, ◌<◌, inl, inr, ℕ, zero, suc, ◌+◌, ◌-◌, Bool, true, false}
-use Rattle.std.proofs.Common.{if◌then◌else◌, refl, sym, subst, List, [], ◌∷◌, ◌++◌, Option, Some, None, length, count_by}
-use Rattle.std.proofs.Common.{min, nat_lt, slice_get, arith}
-use Rattle.std.specs.Option.{IsSomeAnd}
+-- Each page that has still to go out keeps its place in the store.
+use Rattle.std.proofs.Common.{◌≡◌, ◌≤◌, ℕ, zero, suc, ◌+◌, ◌-◌, Bool, true, false, if◌then◌else◌, refl, subst}
+use Rattle.std.proofs.Common.{List, [], ◌∷◌, ◌++◌, Option, Some, None, drop, length, min, nat_lt, slice_get, arith}
 use Rattle.std.proofs.lemmas.List.{length-append}
-use Rattle.std.proofs.lemmas.Option.{slice_get_within}
-use Rattle.epcm_entry.specs.inner.Epc.{is_free_frame}
-use Rattle.active_list.specs.inner.Places.{IsPlaced}
-use Rattle.paging_machine.specs.inner.Parts.{cpu_at}
-use Rattle.reclaim_worker.specs.inner.Moves.{IsBlockTurn}
-use Rattle.reclaim_worker.specs.inner.Tried.{count_from, is_kept_by}
-use Rattle.sgx_rules.specs.declared.entries.Action.TheVariants.{EwbStart}
+use Rattle.std.specs.Option.{option_to_list}
+use Rattle.sgx_types.specs.Pages.{is_own_page}
+use Rattle.sgx_types.specs.declared.names.Page.{Page}
+use Rattle.sgx_rules.specs.declared.entries.Action.{Action}
+use Rattle.sgx_rules.specs.declared.entries.Action.TheVariants as actions
+use Rattle.sgx_rules.specs.declared.entries.Answer.{Answer}
 use Rattle.sgx_rules.specs.declared.entries.Event.{Event}
 use Rattle.sgx_rules.specs.declared.entries.Event.TheVariants.{Did, Refused}
 use Rattle.sgx_rules.specs.declared.entries.Look.{Look}
 use Rattle.sgx_rules.specs.declared.entries.Look.TheVariants as looks
-use Rattle.sgx_types.specs.declared.names.Page.{Page}
+use Rattle.sgx_rules.specs.declared.refusals.Refusal.{Refusal}
 use Rattle.sgx_rules.specs.declared.refusals.Refusal.TheVariants as why
-use Rattle.active_list.specs.inner.States.{state_of as page_state}
-use Rattle.active_list.specs.declared.page_states.PageState.{PageState}
-use Rattle.paging_laws.specs.inner.State.{State}
-use Rattle.paging_machine.specs.inner.Parts.{Parts, state_of}
+use Rattle.sgx_types.specs.declared.names.Frame.{Frame}
 use Rattle.driver_tables.specs.declared.driver.Driver.{Driver}
-use Rattle.reclaim_worker.specs.declared.turns.Form.{Form}
-use Rattle.reclaim_worker.specs.declared.turns.Form.TheVariants as forms
-use Rattle.reclaim_worker.specs.declared.turns.Phase.{Phase}
-use Rattle.reclaim_worker.specs.declared.turns.Phase.TheVariants as phases
-use Rattle.reclaim_worker.specs.declared.turns.PassTurn.{PassTurn}
-use Rattle.reclaim_worker.specs.declared.turns.PassTurn.TheVariants as turns
-use Rattle.reclaim_worker.specs.declared.turns.Taken.{Taken}
-use Rattle.driver_rules.specs.declared.waits.Why.TheVariants as waits
-use Rattle.reclaim_worker.specs.inner.Asked.{look_in, look_told, places_by, places_with}
-use Rattle.reclaim_worker.specs.inner.Moves.{IsTryTurn, after_block, after_track, after_try}
-use Rattle.reclaim_worker.specs.inner.Rests.{IsWait}
-use Rattle.reclaim_worker.specs.inner.Scans.{IsScanned, after_look, taken_with}
-use Rattle.reclaim_worker.specs.inner.Stored.{IsStarted, after_page, next_phase, still_out, taken_in}
-use Rattle.reclaim_worker.specs.inner.Turning.{IsFormTurn, TurnSays, WithPage}
+use Rattle.reclaim_pass.specs.declared.stages.Aside.{Aside}
+use Rattle.reclaim_pass.specs.declared.stages.Aside.TheVariants as asides
+use Rattle.reclaim_pass.specs.declared.stages.Form.TheVariants as forms
+use Rattle.reclaim_pass.specs.declared.stages.Stage.{Stage}
+use Rattle.reclaim_pass.specs.declared.stages.Stage.TheVariants as stages
+use Rattle.reclaim_pass.specs.declared.stages.Taken.{Taken}
+use Rattle.reclaim_pass.specs.inner.Noted.{after_block, after_done, after_instruction, after_look, after_page, after_refused, all_kicked}
+use Rattle.reclaim_pass.specs.inner.Noted.{all_kicked_stage, aside_instructed, aside_of, behind, instructed, looked}
+use Rattle.reclaim_pass.specs.inner.Noted.{passed_by, taken_by, unless_aside, with_taken}
+use Rattle.reclaim_pass.specs.inner.Viewed.{count_aside, PassView, sealing_at, sealing_in, sealing_with, still_out, waiting_by}
+use Rattle.reclaim_worker.specs.inner.Asked.{places_with}
 
--- a turn that waits leaves the pass as it was
-abbrev Stays : PassTurn → List Taken → List Taken → Phase → Phase → Type 0
-Stays turn taken taken' phase phase' = IsWait turn → (phase' ≡ phase) × (taken' ≡ taken)
+-- how many pages of a pass have not gone out
+abbrev waiting : PassView → ℕ
+waiting v = length (waiting_by v.taken v.stage)
 
-abbrev Keeps : List Taken → Phase → List Taken → Phase → ℕ → ℕ → Type 0
-Keeps taken phase taken' phase' n n' = still_out taken phase ≤ n → still_out taken' phase' ≤ n'
+more_places : (look : Look) (n : ℕ) → n ≤ places_with look n
+more_places looks.Taken n = omega arith
+more_places looks.Held n = omega arith
+more_places looks.Young n = omega arith
+more_places looks.NoRoom n = omega arith
 
-waited : (turn : PassTurn) (why : _) (taken taken' : List Taken) (phase phase' : Phase) (n : ℕ) → turn ≡ turns.Again why
-    → Stays turn taken taken' phase phase' → Keeps taken phase taken' phase' n n
-waited turn why taken taken' phase phase' n is stays low =
-    let same = stays (subst IsWait (sym is) tt) in
-    subst (λ p. still_out taken' p ≤ n) (sym same.0) (subst (λ xs. still_out xs phase ≤ n) (sym same.1) low)
-
-no_slot : (turn : PassTurn) (taken taken' : List Taken) (phase phase' : Phase) (n : ℕ) → turn ≡ turns.NoSlot
-    → Stays turn taken taken' phase phase' → Keeps taken phase taken' phase' n n
-no_slot turn taken taken' phase phase' n is stays low =
-    let same = stays (subst IsWait (sym is) tt) in
-    subst (λ p. still_out taken' p ≤ n) (sym same.0) (subst (λ xs. still_out xs phase ≤ n) (sym same.1) low)
+places_up : (look : Look) (m n : ℕ) → m ≤ n → places_with look m ≤ places_with look n
+places_up looks.Taken m n low = omega (arith, low)
+places_up looks.Held m n low = low
+places_up looks.Young m n low = low
+places_up looks.NoRoom m n low = low
 
 -- ---- looks
 
-longer : (taken : List Taken) (look : Look) (page : Page) (state : PageState) (n : ℕ) → length taken ≤ n
-    → length (taken ++ taken_with look page state) ≤ places_with look n
-longer taken looks.Taken page state n low = omega (arith, low, length-append taken (taken_with looks.Taken page state))
-longer taken looks.Held page state n low = omega (arith, low, length-append taken (taken_with looks.Held page state))
-longer taken looks.Young page state n low = omega (arith, low, length-append taken (taken_with looks.Young page state))
-longer taken looks.NoRoom page state n low = omega (arith, low, length-append taken (taken_with looks.NoRoom page state))
+waits_looked : (taken : List Taken) (left count : ℕ) → length (waiting_by taken (after_look left count)) ≤ length taken
+waits_looked taken (suc left) count = omega arith
+waits_looked taken zero zero = omega arith
+waits_looked taken zero (suc n) = omega arith
 
-looked : (left : ℕ) (taken : List Taken) (n : ℕ) → length taken ≤ n → still_out taken (after_look left taken) ≤ n
-looked zero [] n low = low
-looked zero (t ∷ ts) n low = low
-looked (suc left) taken n low = low
-
-scanned : (taken taken' : List Taken) (left : ℕ) (old new : Driver) (turn : PassTurn) (phase phase' : Phase) (n : ℕ)
-    → IsScanned taken left old turn taken' phase' new → Stays turn taken taken' phase phase' → still_out taken phase ≤ length taken
-    → length taken ≤ n → still_out taken' phase' ≤ places_by (look_told turn) n
-scanned taken taken' left old new turn phase phase' n (inl is) stays few low =
-    rw (is.told, is.next, is.kept)
-    (looked (left - 1) (taken ++ taken_with is.look is.page (page_state old.states is.page)) (places_with is.look n)
-    (longer taken is.look is.page (page_state old.states is.page) n low))
-scanned taken taken' left old new turn phase phase' n (inr is) stays few low =
-    rw is.1 (waited turn waits.AllHeld taken taken' phase phase' n is.1 stays (omega (arith, few, low)))
-
--- ---- blocks, tries and tracks
-
-blocked : (taken : List Taken) (next : ℕ) → still_out taken (after_block next (length taken)) ≡ length taken
-blocked taken next = by_last (nat_lt (next + 1) (length taken))
+one_more : (d : Driver) (page : Page) (look : Look) (taken : List Taken)
+    → length (with_taken taken (taken_by d page look)) ≤ places_with look (length taken)
+one_more d page look taken = by_room (nat_lt (length taken) 64) look
   where
-    by_last : (b : Bool) → still_out taken (if b then phases.Block (next + 1) else phases.Tries 0 forms.First 0) ≡ length taken
-    by_last true = refl
-    by_last false = omega arith
+    by_room : (b : Bool) (l : Look)
+        → length (if b then taken ++ option_to_list (taken_by d page l) else taken) ≤ places_with l (length taken)
+    by_room false l = more_places l (length taken)
+    by_room true looks.Taken = omega (arith, length-append taken (option_to_list (taken_by d page looks.Taken)))
+    by_room true looks.Held = omega (arith, length-append taken (option_to_list (taken_by d page looks.Held)))
+    by_room true looks.Young = omega (arith, length-append taken (option_to_list (taken_by d page looks.Young)))
+    by_room true looks.NoRoom = omega (arith, length-append taken (option_to_list (taken_by d page looks.NoRoom)))
 
-tried : (taken : List Taken) (next : ℕ) (form : Form) (block : ℕ) (event : Event)
-    → still_out taken (after_try next form block event) ≡ length taken - next
-tried taken next forms.First block (Refused action (why.NotTracked epoch older)) = refl
-tried taken next forms.Second block (Refused action (why.NotTracked epoch older)) = refl
-tried taken next form block (Did (EwbStart f slot) answer) = refl
-tried taken next form block event = refl
+passed_room : (d : Driver) (page : Page) (look : Look) (v : PassView) (stage : Stage) (n : ℕ) → v.stage ≡ stage → waiting v ≤ n
+    → waiting (passed_by d page look v stage) ≤ places_with look n
+passed_room d page look v (stages.Idle works) n is low =
+    let first = waits_looked (with_taken [] (taken_by d page look)) (min d.marks.scan (length d.active.pages) - 1)
+    (length (with_taken [] (taken_by d page look))) in
+    let more = one_more d page look [] in
+    let up = places_up look 0 n (omega arith) in omega (arith, first, more, up)
+passed_room d page look v (stages.Scan left) n is low =
+    let first = waits_looked (with_taken v.taken (taken_by d page look)) (left - 1) (length (with_taken v.taken (taken_by d page look))) in
+    let more = one_more d page look v.taken in
+    let enough : length v.taken ≤ n = subst (λ x. length (waiting_by v.taken x) ≤ n) is low in
+    let up = places_up look (length v.taken) n enough in omega (arith, first, more, up)
+passed_room d page look v (stages.Block next) n is low = let more = more_places look n in omega (arith, low, more)
+passed_room d page look v (stages.Tries next form) n is low = let more = more_places look n in omega (arith, low, more)
 
-tracked : (taken : List Taken) (next block : ℕ) (event : Event) → still_out taken (after_track next block event) ≡ length taken - next
-tracked taken next block (Refused action refusal) = refl
-tracked taken next block event = refl
+aside_room : (d : Driver) (page : Page) (l : Look) (w n : ℕ) → w ≤ n → w + count_aside (aside_of (taken_by d page l)) ≤ places_with l n
+aside_room d page looks.Taken w n low = omega (arith, low)
+aside_room d page looks.Held w n low = omega (arith, low)
+aside_room d page looks.Young w n low = omega (arith, low)
+aside_room d page looks.NoRoom w n low = omega (arith, low)
 
-try_kept : (taken taken' : List Taken) (next : ℕ) (form : Form) (block : ℕ) (one : Taken) (s t : State) (old new : Driver) (turn : PassTurn)
-    (phase' : Phase) (n : ℕ) → IsTryTurn next form block one s old turn phase' new t → taken' ≡ taken
-    → Stays turn taken taken' (phases.Tries next form block) phase' → length taken - next ≤ n → still_out taken' phase' ≤ n
-try_kept taken taken' next form block one s t old new turn phase' n (inl is) same stays low =
-    rw (same, is.to, tried taken next form block is.entry.event) low
-try_kept taken taken' next form block one s t old new turn phase' n (inr is) same stays low =
-    no_slot turn taken taken' (phases.Tries next form block) phase' n is.1 stays low
-
-form_kept : (taken taken' : List Taken) (next : ℕ) (form : Form) (block : ℕ) (one : Taken) (m m' : Parts) (old new : Driver)
-    (turn : PassTurn) (phase' : Phase) (n : ℕ) → IsFormTurn next form block one m old turn phase' new m' → taken' ≡ taken
-    → Stays turn taken taken' (phases.Tries next form block) phase' → length taken - next ≤ n → still_out taken' phase' ≤ n
-form_kept taken taken' next forms.First block one m m' old new turn phase' n is same stays low =
-    try_kept taken taken' next forms.First block one (state_of m) (state_of m') old new turn phase' n is same stays low
-form_kept taken taken' next forms.Track block one m m' old new turn phase' n is same stays low =
-    rw (same, is.to, tracked taken next block is.entry.event) low
-form_kept taken taken' next forms.Second block one m m' old new turn phase' n is same stays low =
-    try_kept taken taken' next forms.Second block one (state_of m) (state_of m') old new turn phase' n is same stays low
-form_kept taken taken' next forms.Kick block one m m' old new turn phase' n is same stays low = rw (same, is.to) low
-form_kept taken taken' next forms.Third block one m m' old new turn phase' n is same stays low = by_count _ refl
+pub looked_room : (d : Driver) (page : Page) (look : Look) (v : PassView) (n : ℕ) → still_out v ≤ n
+    → still_out (looked d page look v) ≤ places_with look n
+looked_room d page look v n low = by_own (is_own_page page) v.aside
   where
-    by_count : (count : ℕ) → count_from (λ p. is_kept_by (cpu_at m p).mode one.page.enclave block) 0 old.cpus ≡ count
-        → still_out taken' phase' ≤ n
-    by_count zero none =
-        try_kept taken taken' next forms.Third block one (state_of m) (state_of m') old new turn phase' n (is.tried none) same stays low
-    by_count (suc k) some =
-        let least : 1 ≤ suc k = omega arith in
-        waited turn (waits.Older one.page.enclave (count_from (λ p. is_kept_by (cpu_at m p).mode one.page.enclave block) 0 old.cpus)) taken
-        taken' (phases.Tries next forms.Third block) phase' n (is.patient (subst (λ c. 1 ≤ c) (sym some) least)) stays low
+    first : waiting v ≤ n
+    first = omega (arith, low)
 
--- ---- all turns
+    by_own : (b : Bool) (x : Aside) → waiting (unless_aside x v (if b then passed_by d page look v v.stage else v))
+        + count_aside (if b then asides.None else aside_of (taken_by d page look)) ≤ places_with look n
+    by_own true asides.None = let more = passed_room d page look v v.stage n refl first in omega (arith, more)
+    by_own true (asides.ToGo t) = let more = more_places look n in omega (arith, first, more)
+    by_own true (asides.Going t) = let more = more_places look n in omega (arith, first, more)
+    by_own false asides.None = aside_room d page look (waiting v) n first
+    by_own false (asides.ToGo t) = aside_room d page look (waiting v) n first
+    by_own false (asides.Going t) = aside_room d page look (waiting v) n first
 
-pub places_kept : (taken taken' : List Taken) (phase phase' : Phase) (old new : Driver) (m m' : Parts) (turn : PassTurn) (n : ℕ)
-    → TurnSays taken phase old m turn taken' phase' new m' → Stays turn taken taken' phase phase' → still_out taken phase ≤ n
-    → still_out taken' phase' ≤ places_by (look_in phase turn) n
-places_kept taken taken' (phases.Idle false) phase' old new m m' turn n says stays low =
-    waited turn (waits.Enough (count_by is_free_frame m.epc)) taken taken' (phases.Idle false) phase' n says stays low
-places_kept taken taken' (phases.Idle true) phase' old new m m' turn n (inl is) stays low =
-    scanned taken taken' (min old.marks.scan (length old.active.pages)) old new turn (phases.Idle true) phase' n
-    is.first stays (omega arith)
-    low
-places_kept taken taken' (phases.Idle true) phase' old new m m' turn n (inr is) stays low =
-    rw is.1 (waited turn waits.AllHeld taken taken' (phases.Idle true) phase' n is.1 stays low)
-places_kept taken taken' (phases.Scan left) phase' old new m m' turn n says stays low =
-    scanned taken taken' left old new turn (phases.Scan left) phase' n says stays (omega arith) low
-places_kept taken taken' (phases.Block next) phase' old new m m' turn n says stays low = by_page (slice_get taken next) says.0
+-- ---- instructions
+
+drop_less : (n : ℕ) (xs : List Taken) → length (drop (n + 1) xs) ≤ length (drop n xs)
+drop_less zero [] = omega arith
+drop_less zero (x ∷ xs) = omega arith
+drop_less (suc n) [] = let e : suc n + 1 ≡ suc (n + 1) = omega arith in rw e (omega arith)
+drop_less (suc n) (x ∷ xs) = let e : suc n + 1 ≡ suc (n + 1) = omega arith in rw e (drop_less n xs)
+
+waits_block : (taken : List Taken) (o : Option ℕ) → length (waiting_by taken (after_block o)) ≤ length taken
+waits_block taken None = omega arith
+waits_block taken (Some next) = omega arith
+
+waits_page : (taken : List Taken) (next : ℕ) → length (waiting_by taken (after_page (behind next (length taken)))) ≤ length
+    (drop next taken)
+waits_page taken next = by_test (nat_lt (next + 1) (length taken))
   where
-    by_page : (o : Option Taken)
-        → WithPage o (turn ≡ turns.Again waits.AllHeld) (λ one. IsBlockTurn taken next one (state_of m) turn phase' (state_of m'))
-        → still_out taken' phase' ≤ n
-    by_page None is = waited turn waits.AllHeld taken taken' (phases.Block next) phase' n is stays low
-    by_page (Some one) is = rw (says.1, is.to, blocked taken next) low
-places_kept taken taken' (phases.Tries next form block) phase' old new m m' turn n says stays low = by_page (slice_get taken next) says.0
+    by_test : (b : Bool) → length (waiting_by taken (after_page (if b then Some (next + 1) else None))) ≤ length (drop next taken)
+    by_test true = drop_less next taken
+    by_test false = omega arith
+
+waits_done : (taken : List Taken) (stage : Stage) (action : Action)
+    → length (waiting_by taken (after_done stage (length taken) action)) ≤ length (waiting_by taken stage)
+waits_done taken (stages.Block next) (actions.Block f) = waits_block taken (behind next (length taken))
+waits_done taken (stages.Tries next form) (actions.EwbStart f slot) = omega arith
+waits_done taken (stages.Tries next form) (actions.Track enclave) = omega arith
+waits_done taken (stages.Tries next form) (actions.Ewb f) = waits_page taken next
+waits_done taken stage action = omega arith
+
+waits_refused : (taken : List Taken) (stage : Stage) (action : Action) (r : Refusal)
+    → length (waiting_by taken (after_refused stage action r)) ≤ length (waiting_by taken stage)
+waits_refused taken (stages.Tries next form) (actions.EwbStart f slot) (why.NotTracked epoch older) = omega arith
+waits_refused taken (stages.Tries next form) (actions.EwbStart f slot) (why.SlotOccupied version) = omega arith
+waits_refused taken stage action r = omega arith
+
+waits_instruction : (taken : List Taken) (stage : Stage) (event : Event)
+    → length (waiting_by taken (after_instruction stage (length taken) event)) ≤ length (waiting_by taken stage)
+waits_instruction taken stage (Did action answer) = waits_done taken stage action
+waits_instruction taken stage (Refused action refusal) = waits_refused taken stage action refusal
+waits_instruction taken stage event = omega arith
+
+none_aside : (event : Event) → count_aside (aside_instructed event asides.None) ≤ 0
+none_aside (Did (actions.EwbStart f slot) answer) = omega arith
+none_aside (Did (actions.Ewb f) answer) = omega arith
+none_aside event = omega arith
+
+to_aside : (event : Event) (t : Taken) → count_aside (aside_instructed event (asides.ToGo t)) ≤ 1
+to_aside (Did (actions.EwbStart f slot) answer) t = omega arith
+to_aside (Did (actions.Ewb f) answer) t = omega arith
+to_aside event t = omega arith
+
+going_aside : (event : Event) (t : Taken) → count_aside (aside_instructed event (asides.Going t)) ≤ 1
+going_aside (Did (actions.EwbStart f slot) answer) t = omega arith
+going_aside (Did (actions.Ewb f) answer) t = omega arith
+going_aside event t = omega arith
+
+pub instructed_room : (event : Event) (v : PassView) (n : ℕ) → still_out v ≤ n → still_out (instructed event v) ≤ n
+instructed_room event v n low = by_aside v.aside low
   where
-    by_page : (o : Option Taken)
-        → WithPage o (turn ≡ turns.Again waits.AllHeld) (λ one. IsFormTurn next form block one m old turn phase' new m')
-        → still_out taken' phase' ≤ n
-    by_page None is = waited turn waits.AllHeld taken taken' (phases.Tries next form block) phase' n is stays low
-    by_page (Some one) is = form_kept taken taken' next form block one m m' old new turn phase' n is says.1 stays low
-places_kept taken taken' (phases.Sealing next slot) phase' old new m m' turn n says stays low = absurd says
+    by_aside : (x : Aside) → waiting v + count_aside x ≤ n
+        → waiting (unless_aside x v (record v { stage = after_instruction v.stage (length v.taken) event }))
+        + count_aside (aside_instructed event x) ≤ n
+    by_aside asides.None k =
+        let less = waits_instruction v.taken v.stage event in
+        let none = none_aside event in omega (arith, k, less, none)
+    by_aside (asides.ToGo t) k = let most = to_aside event t in omega (arith, k, most)
+    by_aside (asides.Going t) k = let most = going_aside event t in omega (arith, k, most)
+
+-- ---- kicks
+
+pub kicked_room : (count : ℕ) (v : PassView) (n : ℕ) → still_out v ≤ n → still_out (all_kicked count v) ≤ n
+kicked_room count v n low = by_stage v.stage low
+  where
+    by_stage : (stage : Stage) → length (waiting_by v.taken stage) + count_aside v.aside ≤ n
+        → length (waiting_by v.taken (all_kicked_stage count stage)) + count_aside v.aside ≤ n
+    by_stage (stages.Tries next form) k = k
+    by_stage (stages.Idle works) k = k
+    by_stage (stages.Scan left) k = k
+    by_stage (stages.Block next) k = k
 
 -- ---- the end of a write-out
 
--- a pass that goes on has fewer pages to put out, and one that has ended has none
-page_out : (taken : List Taken) (next : ℕ) (phase : Phase) (n : ℕ) → next < length taken → phase ≡ after_page next (length taken)
-    → length taken - next ≤ n + 1 → still_out (taken_in phase taken) phase ≤ n
-page_out taken next phase n low is room = rw is (by_last (nat_lt (next + 1) (length taken)))
-  where
-    by_last : (b : Bool)
-        → (let to : Phase = if b then phases.Tries (next + 1) forms.First 0 else phases.Idle true in still_out (taken_in to taken) to ≤ n)
-    by_last true = omega (arith, room, low)
-    by_last false = omega arith
+drop_one : (n : ℕ) (xs : List Taken) (x : Taken) → slice_get xs n ≡ Some x → length (drop (n + 1) xs) + 1 ≤ length (drop n xs)
+drop_one zero [] x h = cc
+drop_one zero (y ∷ ys) x h = omega arith
+drop_one (suc n) [] x h = cc
+drop_one (suc n) (y ∷ ys) x h = let e : suc n + 1 ≡ suc (n + 1) = omega arith in rw e (drop_one n ys x h)
 
-pub place_used : (taken taken' : List Taken) (phase phase' : Phase) (s : State) (counts : List ℕ) (n n' : ℕ)
-    → IsStarted taken phase s counts → phase' ≡ next_phase (length taken) phase → taken' ≡ taken_in phase' taken → n' + 1 ≡ n
-    → still_out taken phase ≤ n → still_out taken' phase' ≤ n'
-place_used taken taken' (phases.Sealing next slot) phase' s counts n n' started to same used low =
-    rw same (page_out taken next phase' n' (within (slice_get taken next) refl started) to (omega (arith, used, low)))
+-- it uses the place of its page
+pub ended_room : (f : Frame) (answer : Answer) (one : Taken) (v : PassView) (n n' : ℕ) → sealing_in v ≡ Some one → n' + 1 ≡ n
+    → still_out v ≤ n → still_out (instructed (Did (actions.Ewb f) answer) v) ≤ n'
+ended_room f answer one v n n' is used low = by_aside v.aside is low
   where
-    within : (o : Option Taken) → slice_get taken next ≡ o
-        → IsSomeAnd o (λ (one : Taken). (s.is_sealing one.frame.0 ≡ true) × IsPlaced counts one.page) → next < length taken
-    within None is k = absurd k
-    within (Some one) is k = slice_get_within taken next one is
-place_used taken taken' (phases.Idle works) phase' s counts n n' started to same used low = absurd started
-place_used taken taken' (phases.Scan left) phase' s counts n n' started to same used low = absurd started
-place_used taken taken' (phases.Block next) phase' s counts n n' started to same used low = absurd started
-place_used taken taken' (phases.Tries next form block) phase' s counts n n' started to same used low = absurd started
+    by_stage : (stage : Stage) → sealing_at v.taken stage ≡ Some one → length (waiting_by v.taken stage) ≤ n
+        → length (waiting_by v.taken (after_done stage (length v.taken) (actions.Ewb f))) ≤ n'
+    by_stage (stages.Tries next forms.Sealing) found k = by_test (nat_lt (next + 1) (length v.taken))
+      where
+        less : length (drop (next + 1) v.taken) + 1 ≤ length (drop next v.taken)
+        less = drop_one next v.taken one found
+
+        by_test : (b : Bool) → length (waiting_by v.taken (after_page (if b then Some (next + 1) else None))) ≤ n'
+        by_test true = omega (arith, less, k, used)
+        by_test false = omega arith
+    by_stage stage found k = cc
+
+    by_aside : (x : Aside) → sealing_with x (sealing_at v.taken v.stage) ≡ Some one → waiting v + count_aside x ≤ n
+        → waiting (unless_aside x v (record v { stage = after_done v.stage (length v.taken) (actions.Ewb f) }))
+        + 0 ≤ n'
+    by_aside asides.None found k = let less = by_stage v.stage found (omega (arith, k)) in omega (arith, less)
+    by_aside (asides.ToGo t) found k = omega (arith, k, used)
+    by_aside (asides.Going t) found k = omega (arith, k, used)

@@ -1,75 +1,93 @@
--- Behind a turn the tables say what the longer list says.
-use Rattle.std.proofs.Common.{◌≡◌, ◌⊎◌, inl, inr, ℕ, zero, suc, ◌==◌, true, false, refl, sym, ◌∙◌, ap, subst, List}
-use Rattle.std.proofs.Common.{[], ◌∷◌, drop, length}
-use Rattle.std.proofs.Common.{map, slice_get, Some, None, arith}
-use Rattle.sgx_rules.specs.declared.entries.Action.TheVariants.{Block, EwbStart, Track}
-use Rattle.sgx_rules.specs.declared.entries.Answer.TheVariants as answers
-use Rattle.sgx_rules.specs.declared.entries.Entry.{Entry}
-use Rattle.sgx_rules.specs.declared.entries.Event.{Event}
-use Rattle.sgx_rules.specs.declared.entries.Event.TheVariants.{Did, Refused, Age, Kick}
-use Rattle.sgx_rules.specs.declared.entries.Look.{Look}
-use Rattle.sgx_rules.specs.declared.entries.Look.TheVariants as looks
+-- Behind a turn tables and holds say what the longer list says.
+use Rattle.std.proofs.Common.{◌≡◌, inl, inr, ℕ, zero, suc, ◌+◌, ◌<◌, ◌&&◌, nat_le, nat_lt, not, Bool, true, false, if◌then◌else◌, refl}
+use Rattle.std.proofs.Common.{sym, ◌∙◌}
+use Rattle.std.proofs.Common.{ap, subst, List, [], ◌∷◌, length, map, Option, Some, None, arith}
+use Rattle.std.proofs.lemmas.Bool.{eq-eqb, false≢true, ltb-true}
+use Rattle.std.proofs.lemmas.Option.{same_Some}
+use Rattle.sgx_types.proofs.CountLaws.{any_below-some}
+use Rattle.sgx_types.proofs.Truths.{both_true}
+use Rattle.sgx_types.specs.Making.{Making}
+use Rattle.sgx_types.specs.Pages.{is_own_page, is_secs_page, is_va_page, secs_page, va_page}
+use Rattle.sgx_types.specs.declared.names.Actor.TheVariants as actors
 use Rattle.sgx_types.specs.declared.names.Page.{Page}
 use Rattle.sgx_types.specs.declared.names.SlotAt.{SlotAt}
+use Rattle.sgx_types.specs.declared.names.VaSlot.{VaSlot}
+use Rattle.sgx_rules.proofs.Contents.{IsHeld}
+use Rattle.sgx_rules.specs.declared.entries.Action.TheVariants as actions
+use Rattle.sgx_rules.specs.declared.entries.Action.TheVariants.{Block, Eld, Ewb, EwbStart, Track}
+use Rattle.sgx_rules.specs.declared.entries.Answer.{Answer}
+use Rattle.sgx_rules.specs.declared.entries.Answer.TheVariants.{Moved}
+use Rattle.sgx_rules.specs.declared.entries.Entry.{Entry}
+use Rattle.sgx_rules.specs.declared.entries.Event.{Event}
+use Rattle.sgx_rules.specs.declared.entries.Event.TheVariants.{Age, Did, Kick, Refused}
+use Rattle.sgx_rules.specs.declared.entries.Look.{Look}
+use Rattle.sgx_rules.specs.declared.entries.Look.TheVariants as looks
 use Rattle.sgx_rules.specs.declared.refusals.Refusal.{Refusal}
 use Rattle.sgx_rules.specs.declared.refusals.Refusal.TheVariants as why
-use Rattle.sgx_types.specs.declared.names.Frame.{Frame}
-use Rattle.sgx_rules.specs.declared.entries.Answer.{Answer}
-use Rattle.std.specs.List.{list_any}
-use Rattle.driver_rules.specs.declared.waits.Why.{Why}
-use Rattle.sgx_rules.specs.Eviction.{is_drained}
-use Rattle.sgx_rules.specs.Starts.{open_start}
+use Rattle.sgx_rules.specs.Frames.{content, page_there, vas_made}
+use Rattle.sgx_rules.specs.Starts.{open_start, slot_found}
 use Rattle.job_grammar.specs.Jobs.{JobView}
-use Rattle.turn_rules.specs.Script.{frame_at}
-use Rattle.active_list.specs.inner.Holds.{is_held as is_held_by}
+use Rattle.slot_keeper.specs.inner.Keeper.{count_out, is_ours, is_out, Takes}
+use Rattle.paging_laws.proofs.RowLaws.{IsEntryOf, step_entry}
 use Rattle.paging_machine.specs.inner.Parts.{Parts, state_of}
-use Rattle.sgx_types.specs.Making.{Making}
-use Rattle.slot_keeper.specs.inner.Keeper.{Keeper, Takes}
-use Rattle.driver_rules.specs.Ages.{head_of}
-use Rattle.driver_rules.specs.Holds.{is_held, is_held_below}
-use Rattle.driver_rules.specs.Passes as passes
-use Rattle.driver_rules.specs.Passes.{Blocking, Tries, pass}
-use Rattle.driver_rules.specs.Places.{Here, Leaving, active, place}
-use Rattle.driver_laws.specs.inner.Kinds.{is_quiet}
-use Rattle.driver_laws.specs.inner.Agrees.{ShowsSlots, loaded_by}
-use Rattle.driver_rules.specs.Turns.{last_of}
+use Rattle.active_list.specs.inner.Holds.{is_held as is_held_by}
 use Rattle.active_list.specs.inner.Keeping.{kept_at, page_kept}
-use Rattle.driver_laws.specs.inner.Sound.{IsSound}
-use Rattle.driver_laws.specs.inner.Stages.{HasPages, IsTaken}
-use Rattle.driver_laws.specs.inner.Tracks.{KeepsTracks}
-use Rattle.driver_laws.proofs.AgreeLaws.{is_slotless, shows_quiet}
-use Rattle.driver_laws.proofs.SoundLaws.{head_here}
-use Rattle.driver_tables.specs.declared.driver.Driver.{Driver}
-use Rattle.driver_tables.specs.inner.Moves.{IsLooked}
-use Rattle.driver_tables.specs.inner.Tables.{ShowsTables, listed}
-use Rattle.driver_tables.proofs.ShowLaws.{shows_looked, shows_quiet_entry, shows_started, shows_still}
-use Rattle.driver_tables.proofs.ListLaws.{heads}
+use Rattle.driver_rules.specs.Ages.{ahead_by, head_of, IsAhead}
+use Rattle.driver_rules.specs.Ages as ages
+use Rattle.driver_rules.specs.Holds.{is_held, is_held_below}
+use Rattle.driver_rules.specs.declared.waits.Why.TheVariants as reasons
+use Rattle.driver_rules.specs.inner.Slotted.{fixed_slot}
+use Rattle.driver_rules.specs.inner.Stops.{last_event}
+use Rattle.driver_rules.specs.Places.{active, Here, Leaving, place}
+use Rattle.driver_rules.specs.Spares.{array_at, due_by, due_with, is_alone, is_full, is_spare, least_from, Outs, outs_kept, spare}
+use Rattle.driver_laws.proofs.KeepLaws.{stays_shown}
 use Rattle.driver_laws.proofs.MarkLaws.{is_markless, listed-quiet}
+use Rattle.driver_laws.proofs.AgreeLaws.{ours_within}
+use Rattle.driver_laws.proofs.RowLaws.{own_held}
+use Rattle.driver_laws.proofs.SoundLaws.{head_here, own_none}
+use Rattle.driver_laws.proofs.StillLaws.{holds_here}
+use Rattle.driver_laws.proofs.MoveLaws.{place-quiet}
+use Rattle.driver_laws.specs.inner.Agrees.{drivers, first_kept, ShowsSlots}
+use Rattle.driver_laws.specs.inner.Counted.{CountMoves, is_own_held, is_own_there}
+use Rattle.driver_laws.specs.inner.Keeps.{LeavesFull, TakesIf}
+use Rattle.driver_laws.specs.inner.Kinds.{is_quiet}
 use Rattle.driver_laws.specs.inner.Sound.{is_absent}
-use Rattle.reclaim_worker.specs.declared.turns.Form.{Form}
-use Rattle.reclaim_worker.specs.declared.turns.Form.TheVariants as forms
-use Rattle.reclaim_worker.specs.declared.turns.Phase.{Phase}
-use Rattle.reclaim_worker.specs.declared.turns.Phase.TheVariants as phases
+use Rattle.driver_laws.specs.inner.Stages.{IsTaken}
+use Rattle.driver_tables.proofs.ListLaws.{heads}
+use Rattle.driver_tables.proofs.ShowLaws.{is_slotless, shows_looked, shows_looked_aside, shows_occupied, shows_quiet_entry, shows_started}
+use Rattle.driver_tables.proofs.ShowLaws.{shows_still, takes_none}
+use Rattle.driver_tables.proofs.TargetLaws.{fixed_aside, fixed_within}
+use Rattle.driver_tables.specs.declared.driver.Driver.{Driver}
+use Rattle.driver_tables.specs.inner.Moves.{IsLooked, IsLookedAside}
+use Rattle.driver_tables.specs.inner.Tables.{listed, ShowsTables}
+use Rattle.reclaim_pass.specs.declared.stages.Aside.{Aside}
+use Rattle.reclaim_pass.specs.declared.stages.Aside.TheVariants as asides
+use Rattle.reclaim_pass.specs.declared.stages.Form.{Form}
+use Rattle.reclaim_pass.specs.declared.stages.Form.TheVariants as forms
+use Rattle.reclaim_pass.specs.declared.stages.Stage.{Stage}
+use Rattle.reclaim_pass.specs.declared.stages.Stage.TheVariants as stages
+use Rattle.reclaim_pass.specs.declared.stages.Taken.{Taken}
+use Rattle.reclaim_pass.specs.inner.Dues.{due_in}
+use Rattle.reclaim_pass.specs.inner.Viewed.{PassView, taken_at}
 use Rattle.reclaim_worker.specs.declared.turns.PassTurn.{PassTurn}
 use Rattle.reclaim_worker.specs.declared.turns.PassTurn.TheVariants as turns
-use Rattle.reclaim_worker.specs.declared.turns.Taken.{Taken}
 use Rattle.reclaim_worker.specs.inner.After.{cpu_of, kicked_past}
-use Rattle.reclaim_worker.specs.inner.Answers.{IsTurn, by_reclaimer}
-use Rattle.reclaim_worker.specs.inner.Moves.{IsBlockTurn, IsTryTurn, turn_of, turn_of_track}
+use Rattle.reclaim_worker.specs.inner.Answers.{by_reclaimer}
+use Rattle.reclaim_worker.specs.inner.Kept.{Keeps, TurnKeeps}
 use Rattle.reclaim_worker.specs.inner.Ready.{Ready}
-use Rattle.reclaim_worker.specs.inner.Rests.{DriverSays, IsWait}
-use Rattle.reclaim_worker.specs.inner.Scans.{IsScan, IsScanned}
-use Rattle.reclaim_worker.specs.inner.Shown.{ShowsAfter}
-use Rattle.reclaim_worker.specs.inner.Standing.{AreInFrames, IsForm, pages_in}
+use Rattle.reclaim_worker.specs.inner.Rests.{IsWait}
+use Rattle.reclaim_worker.specs.inner.Shown.{ShowsAfter, ShowsEntry}
 use Rattle.reclaim_worker.specs.inner.Tables.{Shows}
-use Rattle.reclaim_worker.specs.inner.Tried.{IsSame, SlotsAfter}
-use Rattle.driver_rules.specs.inner.Reclaims.{is_refused}
-use Rattle.reclaim_worker.specs.inner.Turning.{IsFormTurn, IsThirdTurn, TurnSays}
-use Rattle.reclaim_worker.proofs.DueLaws.{drop_get, frames_behind, with_page}
-use Rattle.reclaim_worker.proofs.MoveDueLaws.{block_is_due, block_of, due_there, refused_entry, same_frame, spent_entry}
-use Rattle.reclaim_worker.proofs.MoveDueLaws.{started_entry}
-use Rattle.reclaim_worker.proofs.MoveDueLaws.{track_entry, try_entry}
-use Rattle.reclaim_worker.proofs.RowLaws.{fits_now}
+use Rattle.reclaim_worker.specs.inner.Tried.{IsTried, keeps_slot, SlotsAfter}
+use Rattle.reclaim_worker.specs.inner.Turning.{AsideSays, DueSays, FormSays, IsAsideTurn, IsDueLook, IsMadeTurn, IsScanned, IsTryTurn}
+use Rattle.reclaim_worker.specs.inner.Turning.{StageSays}
+use Rattle.reclaim_worker.specs.inner.Turning.{ThirdSays, turn_of, TurnSays, WithPage}
+use Rattle.reclaim_worker.proofs.PassLaws.{due_aside, due_is, out_is}
+use Rattle.reclaim_worker.proofs.KeptLaws.{there_page, turn_keeps}
+use Rattle.reclaim_worker.proofs.RowLaws.{fixed_at, free_at, in_frame}
+use Rattle.reclaim_worker.proofs.SeenLaws.{IsHereAt}
+use Rattle.reclaim_worker.proofs.StageLaws.{in_tries, InTries, IsToLeave, to_leave, with_page}
+use Rattle.reclaim_worker.proofs.StandLaws.{keeps_of}
 
 -- ---- holds
 
@@ -82,204 +100,413 @@ held_below j past ev g (suc p) = rw (held_below j past ev g p) refl
 held_stays : (j : JobView) (past : List Entry) (ev : Event) (g : Page) → is_held j (by_reclaimer ev ∷ past) g ≡ is_held j past g
 held_stays j past ev g = rw (held_below j past ev g (length j.scripts)) refl
 
-pub with_held : (j : JobView) (past : List Entry) (d d' : Driver) (ev : Event) → d'.active.own ≡ d.active.own → Shows j d past
-    → ShowsTables j d' (by_reclaimer ev ∷ past) → Shows j d' (by_reclaimer ev ∷ past)
-with_held j past d d' ev own s t = record {
+pub with_held : (j : JobView) (past : List Entry) (d d' : Driver) (ev : Event) → d'.active.own ≡ d.active.own
+    → ((g : Page) → is_held_by d.active.own g ≡ is_held j past g)
+    → ShowsTables (drivers j) j d' (by_reclaimer ev ∷ past) → Shows j d' (by_reclaimer ev ∷ past)
+with_held j past d d' ev own held t = record {
   tables = t;
-  held = λ g. ap (λ o. is_held_by o g) own ∙ s.held g ∙ sym (held_stays j past ev g);
+  held = λ g. ap (λ o. is_held_by o g) own ∙ held g ∙ sym (held_stays j past ev g);
 }
 
 -- ---- entries that change no table
 
-quiet : (j : JobView) (past : List Entry) (d d' : Driver) (ev : Event) → is_quiet ev ≡ true → is_slotless ev ≡ true → is_markless ev ≡ true
-    → d' ≡ d → Shows j d past → Shows j d' (by_reclaimer ev ∷ past)
-quiet j past d d' ev q sl m same s =
-    subst (λ x. Shows j x (by_reclaimer ev ∷ past)) (sym same)
-    (with_held j past d d ev refl s (shows_quiet_entry j d past ev q sl m s.tables))
+counts_quiet : (past : List Entry) (ev : Event) (n : ℕ) → is_slotless ev ≡ true → CountMoves past ev n n
+counts_quiet past (Did (EwbStart f at) answer) n h = cc
+counts_quiet past (Did (Eld f) (Moved page version tag)) n h = cc
+counts_quiet past (Refused (EwbStart f at) (why.SlotOccupied version)) n h = cc
+counts_quiet past _ n h = refl
+
+quiet : (j : JobView) (past : List Entry) (d : Driver) (ev : Event) → is_quiet ev ≡ true → is_slotless ev ≡ true → is_markless ev ≡ true
+    → Shows j d past → ShowsEntry j past (by_reclaimer ev) d d
+quiet j past d ev q sl mark s = record {
+  shows = with_held j past d d ev refl s.held (shows_quiet_entry (drivers j) j d past ev q sl mark s.tables);
+  counts = counts_quiet past ev (count_out d.slots) sl;
+}
 
 kicks_shown : (j : JobView) (d : Driver) (ps : List ℕ) (h : List Entry) → Shows j d h → Shows j d (kicked_past ps h)
 kicks_shown j d [] h s = s
-kicks_shown j d (p ∷ ps) h s = kicks_shown j d ps (by_reclaimer (Kick (cpu_of p)) ∷ h)
-    (quiet j h d d (Kick (cpu_of p)) refl refl refl refl s)
+kicks_shown j d (p ∷ ps) h s =
+    kicks_shown j d ps (by_reclaimer (Kick (cpu_of p)) ∷ h) (quiet j h d (Kick (cpu_of p)) refl refl refl s).shows
 
--- ---- slots
+shows_of : (j : JobView) (past : List Entry) (e : Entry) (ev : Event) (d d' : Driver) → ShowsEntry j past e d d'
+    → ShowsAfter j past d (turn_of e ev) d'
+shows_of j past e (Did (actions.EwbStart f slot) answer) d d' k = k
+shows_of j past e (Refused action (why.NotTracked epoch older)) d d' k = k
+shows_of j past e (Refused action (why.SlotOccupied version)) d d' k = k
+shows_of j past e (Refused action refusal) d d' k = k
+shows_of j past e ev d d' k = k
 
-slots_same : (j : JobView) (old new : Keeper) (h : List Entry) → IsSame old new → ShowsSlots j old h → ShowsSlots j new h
-slots_same j old new h same s = record {
-  frames = λ n. ap (λ fs. list_any (λ (f : Frame). f.0 == n) fs) same.frames ∙ s.frames n;
-  made = λ k. ap length same.frames ∙ s.made k;
-  out = λ slot k. s.out slot (sym (same.out slot) ∙ k);
-  used = λ g slot k. same.out slot ∙ s.used g slot k;
-  empty = λ slot k. s.empty slot (sym (same.out slot) ∙ k);
-}
+-- ---- a version array page that is due
 
--- the reclaimer begins and ends no load
-copies_stay : (j : JobView) (old new : Driver) (past : List Entry) (ev : Event) → ShowsTables j old past → new.kept ≡ old.kept
-    → (p : ℕ) → page_kept (kept_at new.kept p) ≡ loaded_by (last_of (by_reclaimer ev ∷ past) p)
-copies_stay j old new past ev t kept p = ap (λ (k : _). page_kept (kept_at k p)) kept ∙ t.copies p
-
--- a try that was refused gave its slot back
-refused_shown : (j : JobView) (past : List Entry) (d d' : Driver) (f : Frame) (slot : SlotAt) (r : Refusal) → IsSame d.slots d'.slots
-    → d' ≡ record d { slots = d'.slots } → Shows j d past → Shows j d' (by_reclaimer (Refused (EwbStart f slot) r) ∷ past)
-refused_shown j past d d' f slot r same only s =
-    with_held j past d d' (Refused (EwbStart f slot) r) (ap (λ (x : Driver). x.active.own) only) s
-    (shows_still j d d' past (by_reclaimer (Refused (EwbStart f slot) r)) s.tables (λ q. refl) (ap (λ (x : Driver). x.states) only)
-    (record {
-      active = ap (λ (x : Driver). x.active.counts) only;
-      rooms = ap (λ (x : Driver). length x.kept) only;
-      marks = ap (λ (x : Driver). x.marks) only;
-      cpus = ap (λ (x : Driver). x.cpus) only;
-    }) (record {
-      list = ap (λ (x : Driver). map listed x.active.pages) only ∙ s.tables.list
-          ∙ sym (listed-quiet past (by_reclaimer (Refused (EwbStart f slot) r)) refl);
-      slots = slots_same j d.slots d'.slots (by_reclaimer (Refused (EwbStart f slot) r) ∷ past) same
-          (shows_quiet j d.slots past (by_reclaimer (Refused (EwbStart f slot) r)) refl s.tables.slots);
-      copies = copies_stay j d d' past (Refused (EwbStart f slot) r) s.tables (ap (λ (x : Driver). x.kept) only);
-    }))
-
-started_shown : (j : JobView) (past : List Entry) (d d' : Driver) (one : Taken) (slot : SlotAt) (answer : Answer) → IsSound past
-    → place past one.page ≡ Leaving one.frame.0
-    → open_start past one.frame.0 ≡ None → Takes d.slots slot d'.slots → d' ≡ record d { slots = d'.slots } → Shows j d past
-    → Shows j d' (by_reclaimer (Did (EwbStart one.frame slot) answer) ∷ past)
-started_shown j past d d' one slot answer sound at none takes only s =
-    with_held j past d d' (Did (EwbStart one.frame slot) answer) (ap (λ (x : Driver). x.active.own) only) s
-    (shows_started j d d' past one.frame slot answer one.page at none sound takes only s.tables)
-
--- ---- looks
-
-own_looked : (page : Page) (d d' : Driver) (look : Look) → IsLooked d page look d' → d'.active.own ≡ d.active.own
-own_looked page d d' looks.Taken k = k.list.own
-own_looked page d d' looks.Young k = ap (λ (x : Driver). x.active.own) k
-own_looked page d d' looks.Held k = ap (λ (x : Driver). x.active.own) k
-own_looked page d d' looks.NoRoom k = ap (λ (x : Driver). x.active.own) k
-
-look_shown : (j : JobView) (past : List Entry) (taken taken' : List Taken) (left : ℕ) (d d' : Driver) (turn : PassTurn) (phase : Phase)
-    → IsSound past → Shows j d past
-    → (k : IsScan taken left d turn taken' phase d') → Shows j d' (by_reclaimer (Age k.page k.look) ∷ past)
-look_shown j past taken taken' left d d' turn phase sound s k =
-    with_held j past d d' (Age k.page k.look) (own_looked k.page d d' k.look k.tables) s
-    (shows_looked j d d' past k.page head sound s.tables k.look k.tables (s.tables.placed k.page (ap is_absent here.1)))
+-- the least that passes passes
+pub least_passes : (test : ℕ → Bool) (n count va : ℕ) → least_from test n count ≡ Some va → test va ≡ true
+least_passes test n zero va is = cc
+least_passes test n (suc count) va is = by_test (least_passes test (n + 1) count va) (test n) refl is
   where
-    head : head_of (active past) ≡ Some k.page
-    head = sym (heads past d.active.pages (active past) s.tables.list) ∙ k.head
+    by_test : (least_from test (n + 1) count ≡ Some va → test va ≡ true) → (b : Bool) → test n ≡ b
+        → (if b then Some n else least_from test (n + 1) count) ≡ Some va → test va ≡ true
+    by_test further true passes h = subst (λ k. test k ≡ true) (same_Some n va h) passes
+    by_test further false passes h = further h
 
-    here : (f : ℕ) × (place past k.page ≡ Here f)
-    here = head_here (active past) (place past) k.page sound.list head
+-- each of its slots is out
+due_full : (j : JobView) (past : List Entry) (out : Outs) (o : Option Event) (g : Page) → due_by j past out o ≡ Some g → is_va_page g ≡ true
+    → is_full out g.number ≡ true
+due_full j past out o g is array = by_event o is
+  where
+    by_least : (l : Option ℕ) → least_from (is_spare j past out) 0 (vas_made past) ≡ l → array_at l ≡ Some g → is_full out g.number ≡ true
+    by_least None least h = cc
+    by_least (Some va) least h =
+        let passes = least_passes (is_spare j past out) 0 (vas_made past) va least in
+        subst (λ n. is_full out n ≡ true) (ap (λ (p : Page). p.number) (same_Some (va_page va) g h))
+        (both_true _ (is_full out va) (both_true _ _ (both_true _ _ passes).0).0).1
 
--- ---- by phase
+    by_spare : spare j past out ≡ Some g → is_full out g.number ≡ true
+    by_spare h = by_least (least_from (is_spare j past out) 0 (vas_made past)) refl h
 
-module _ (made : Making) (j : JobView) (past : List Entry) (taken taken' : List Taken) (d d' : Driver) (m m' : Parts) (turn : PassTurn)
-    (phase' : Phase)
-    (same : Phase) (waits : IsWait turn → (d' ≡ d) × ((phase' ≡ same) × (taken' ≡ taken))) where
+    by_alone : (page : Page) (b : Bool) → (is_own_page page && is_alone j past page.enclave) ≡ b
+        → (if b then Some (secs_page page.enclave) else spare j past out) ≡ Some g → is_full out g.number ≡ true
+    by_alone page false at h = by_spare h
+    by_alone page true at h =
+        absurd (false≢true (sym (own_none page (both_true (is_own_page page) (is_alone j past page.enclave) at).0).1
+        ∙ ap is_va_page (same_Some (secs_page page.enclave) g h) ∙ array))
+
+    by_secs : (b : Bool) → (if b then spare j past out else None) ≡ Some g → is_full out g.number ≡ true
+    by_secs true h = by_spare h
+    by_secs false h = cc
+
+    by_event : (o : Option Event) → due_by j past out o ≡ Some g → is_full out g.number ≡ true
+    by_event (Some (Did (Ewb f) (Moved page version tag))) h = by_alone page (is_own_page page && is_alone j past page.enclave) refl h
+    by_event (Some (Age page looks.NoRoom)) h = by_secs (is_secs_page page) h
+    by_event _ h = cc
+
+full_out : (out : Outs) (va index : ℕ) → is_full out va ≡ true → index < 512 → out (record { va = va; index = index }) ≡ true
+unfolding is_full
+full_out out va index full low = by_test (out (record { va = va; index = index })) refl
+  where
+    by_test : (b : Bool) → out (record { va = va; index = index }) ≡ b → b ≡ true
+    by_test true is = refl
+    by_test false is =
+        absurd (false≢true (sym (ap not (any_below-some (λ i. not (out (record { va = va; index = i }))) 512 index low (ap not is)))
+        ∙ full))
+
+module _ (made : Making) (j : JobView) (past : List Entry) (v v' : PassView) (d d' : Driver) (m m' : Parts) (turn : PassTurn)
+    (r : Ready made j past v d m) where
+  now : Shows j d past
+  now = record { tables = r.agrees.shows; held = r.held }
+
   abbrev After : PassTurn → Type 0
-  After tn = ShowsAfter j past (pass j past) tn d'
+  After x = ShowsAfter j past d x d'
 
-  rests : (why : Why) → Shows j d past → turn ≡ turns.Again why → After turn
-  rests why s told = subst After (sym told) (subst (λ x. Shows j x past) (sym (waits (subst IsWait (sym told) tt)).0) s)
+  abbrev Entry' : Event → Type 0
+  Entry' ev = ShowsEntry j past (by_reclaimer ev) d d'
 
-  full : Shows j d past → turn ≡ turns.NoSlot → After turn
-  full s told = subst After (sym told) (subst (λ x. Shows j x past) (sym (waits (subst IsWait (sym told) tt)).0) s)
+  -- by the event of a turn
+  entered : (ev : Event) → turn ≡ turn_of (by_reclaimer ev) ev → Entry' ev → After turn
+  entered ev told k = subst After (sym told) (shows_of j past (by_reclaimer ev) ev d d' k)
 
-  scan_shown : (left : ℕ) → IsSound past → Shows j d past → IsScanned taken left d turn taken' phase' d' → After turn
-  scan_shown left sound s (inr none) = rests _ s none.1
-  scan_shown left sound s (inl k) = subst After (sym k.told) (look_shown j past taken taken' left d d' turn phase' sound s k)
+  unchanged : (ev : Event) → d' ≡ d → is_quiet ev ≡ true → is_slotless ev ≡ true → is_markless ev ≡ true → Entry' ev
+  unchanged ev same q sl mark = subst (ShowsEntry j past (by_reclaimer ev) d) (sym same) (quiet j past d ev q sl mark now)
 
-  block_shown : (next : ℕ) → Ready made j past taken (phases.Block next) d m
-      → TurnSays taken (phases.Block next) d m turn taken' phase' d' m' → d' ≡ d → After turn
-  block_shown next r k still = by_list (drop next taken) refl
+  -- ---- looks
+
+  look_shown : IsScanned v d turn v' d' → (IsWait turn → d' ≡ d) → After turn
+  look_shown (inr none) waits = subst After (sym none.1) (waits (subst IsWait (sym none.1) tt))
+  look_shown (inl k) waits = entered (Age k.page k.look) k.told (record {
+    shows = with_held j past d d' (Age k.page k.look) (own k.look k.tables) r.held
+        (shows_looked (drivers j) j d d' past k.page head r.agrees.sound r.agrees.shows k.look k.tables
+        (r.agrees.shows.placed k.page (ap is_absent here.1)));
+    counts = counts k.look k.tables;
+  })
     where
-      by_list : (ts : List Taken) → drop next taken ≡ ts → After turn
-      by_list [] is = absurd (subst (HasPages past) (r.stands.same ∙ ap (λ ts. Blocking (pages_in ts) (pages_in taken)) is) r.pages.pages)
-      by_list (one ∷ rest) is =
-          let to : pass j past ≡ Blocking (one.page ∷ pages_in rest) (pages_in taken) =
-          r.stands.same ∙ ap (λ ts. Blocking (pages_in ts) (pages_in taken)) is in
-          let has = subst (HasPages past) to r.pages.pages in
-          let at = subst (AreInFrames past) is (frames_behind past next taken r.stands.frames) in
-          let says = with_page (slice_get taken next) one _ (λ x. IsBlockTurn taken next x (state_of m) turn phase' (state_of m'))
-          (drop_get next taken one rest is) k.0 in
-          let told = subst (λ x. IsTurn made past d.slots x turn) (due_there past one.page one.frame.0 block_of at.0)
-          (block_is_due made past m (state_of m') taken next one d turn phase' r.follows.shape.columns r.sound r.pages.sealing at.0
-          has.waiting.0 says) in
-          subst After (sym told) (quiet j past d d' (Did (Block (frame_at one.frame.0)) answers.Plain) refl refl refl still r.shows)
+      head : head_of (active past) ≡ Some k.page
+      head = sym (heads past d.active.pages (active past) r.agrees.shows.list) ∙ k.head
 
-  -- a try
-  try_shown : (next : ℕ) (form : Form) (block : ℕ) (one : Taken) → Ready made j past taken (phases.Tries next form block) d m
-      → IsTaken past true one.page → place past one.page ≡ Leaving one.frame.0
-      → IsTryTurn next form block one (state_of m) d turn phase' d' (state_of m') → After turn
-  try_shown next form block one r w at (inr none) = full r.shows none.1
-  try_shown next form block one r w at (inl k) =
-      by_entry (try_entry j past m (state_of m') one d d' k.entry r.follows.shape.columns r.follows.shape.slots_busy r.sound
-      r.pages.sealing r.shows.tables.slots at w
-      k.tried)
+      here : (f : ℕ) × (place past k.page ≡ Here f)
+      here = head_here (active past) (place past) k.page r.agrees.sound.list head
+
+      own : (look : Look) → IsLooked d k.page look d' → d'.active.own ≡ d.active.own
+      own looks.Taken t = t.list.own
+      own looks.Young t = ap (λ (x : Driver). x.active.own) t
+      own looks.Held t = ap (λ (x : Driver). x.active.own) t
+      own looks.NoRoom t = ap (λ (x : Driver). x.active.own) t
+
+      counts : (look : Look) → IsLooked d k.page look d' → count_out d'.slots ≡ count_out d.slots
+      counts looks.Taken t = ap (λ (x : Driver). count_out x.slots) t.others
+      counts looks.Young t = ap (λ (x : Driver). count_out x.slots) t
+      counts looks.Held t = ap (λ (x : Driver). count_out x.slots) t
+      counts looks.NoRoom t = ap (λ (x : Driver). count_out x.slots) t
+
+  due_shown : (page : Page) → due_with j past (outs_kept j past) ≡ Some page → TurnKeeps made.first_epoch j past turn
+      → IsDueLook page v d turn v' d' → After turn
+  due_shown page is kept k = entered (Age page k.look) k.told (record {
+    shows = with_held j past d d' (Age page k.look) (own k.look k.tables) r.held
+        (shows_looked_aside (drivers j) j d d' past page (due_aside made j past v d m r page is) r.agrees.sound r.agrees.shows k.look
+        (subst (TurnKeeps made.first_epoch j past) k.told kept).can (full k.look) k.tables);
+    counts = counts k.look k.tables;
+  })
     where
-      told : (x : Entry) → k.entry ≡ x → turn ≡ turn_of x x.event
-      told x e = k.told ∙ ap (λ (y : Entry). turn_of y y.event) e
+      own : (look : Look) → IsLookedAside d page look d' → d'.active.own ≡ d.active.own
+      own looks.Taken t = ap (λ (x : Driver). x.active.own) t
+      own looks.Young t = ap (λ (x : Driver). x.active.own) t
+      own looks.Held t = ap (λ (x : Driver). x.active.own) t
+      own looks.NoRoom t = ap (λ (x : Driver). x.active.own) t
 
-      slots : (x : Entry) → k.entry ≡ x → SlotsAfter d.slots k.tried.slot (is_refused x.event) d'.slots
-      slots x e = subst (λ (y : Entry). SlotsAfter d.slots k.tried.slot (is_refused y.event) d'.slots) e k.tried.slots
+      counts : (look : Look) → IsLookedAside d page look d' → count_out d'.slots ≡ count_out d.slots
+      counts looks.Taken t = ap (λ (x : Driver). count_out x.slots) t
+      counts looks.Young t = ap (λ (x : Driver). count_out x.slots) t
+      counts looks.Held t = ap (λ (x : Driver). count_out x.slots) t
+      counts looks.NoRoom t = ap (λ (x : Driver). count_out x.slots) t
+
+      -- a version array page leaves with each of its slots out
+      full_now : is_va_page page ≡ true → (s : VaSlot) → s.va ≡ page.number → is_ours d.slots s ≡ true → is_out d.slots s ≡ true
+      full_now array s its ours =
+          out_is made j past v d m r s ours
+          ∙ full_out (outs_kept j past) s.va s.index
+          (subst (λ n. is_full (outs_kept j past) n ≡ true) (sym its)
+          (due_full j past (outs_kept j past) (last_event past actors.Reclaimer) page is array))
+          (ltb-true s.index 512 (both_true (nat_le (first_kept j s.va) s.index) (nat_lt s.index 512)
+          (both_true (nat_lt s.va (vas_made past)) (nat_le (first_kept j s.va) s.index && nat_lt s.index 512)
+          (sym (r.agrees.shows.slots.ours s) ∙ ours)).1).1)
+
+      full : (look : Look) → LeavesFull d.slots (Age page look)
+      full looks.Taken = full_now
+      full looks.Young = tt
+      full looks.Held = tt
+      full looks.NoRoom = tt
+
+  -- ---- blocks and tracks
+
+  block_shown : (one : Taken) → IsMadeTurn (actions.Block one.frame) v (state_of m) turn v' (state_of m') → d' ≡ d → After turn
+  block_shown one k same = by_entry (step_entry (state_of m) (state_of m') actors.Reclaimer (Block one.frame) k.entry k.step)
+    where
+      by_entry : IsEntryOf actors.Reclaimer (Block one.frame) k.entry → After turn
+      by_entry (inl (answer, is)) =
+          entered (Did (Block one.frame) answer) (k.told ∙ ap (λ (x : Entry). turn_of x x.event) is)
+          (unchanged (Did (Block one.frame) answer) same refl refl refl)
+      by_entry (inr (refusal, is)) =
+          entered (Refused (Block one.frame) refusal) (k.told ∙ ap (λ (x : Entry). turn_of x x.event) is)
+          (unchanged (Refused (Block one.frame) refusal) same refl refl refl)
+
+  track_shown : (enclave : ℕ) → IsMadeTurn (actions.Track enclave) v (state_of m) turn v' (state_of m') → d' ≡ d → After turn
+  track_shown enclave k same = by_entry (step_entry (state_of m) (state_of m') actors.Reclaimer (Track enclave) k.entry k.step)
+    where
+      by_entry : IsEntryOf actors.Reclaimer (Track enclave) k.entry → After turn
+      by_entry (inl (answer, is)) =
+          entered (Did (Track enclave) answer) (k.told ∙ ap (λ (x : Entry). turn_of x x.event) is)
+          (unchanged (Did (Track enclave) answer) same refl refl refl)
+      by_entry (inr (refusal, is)) =
+          entered (Refused (Track enclave) refusal) (k.told ∙ ap (λ (x : Entry). turn_of x x.event) is)
+          (unchanged (Refused (Track enclave) refusal) same refl refl refl)
+
+  -- ---- tries
+
+  kept_event : (ev : Event) → TurnKeeps made.first_epoch j past turn → turn ≡ turn_of (by_reclaimer ev) ev
+      → Keeps made.first_epoch j past ev
+  kept_event ev kept told =
+      keeps_of made.first_epoch j past (by_reclaimer ev) ev (subst (TurnKeeps made.first_epoch j past) told kept)
+
+  try_shown : (one : Taken) → is_own_page one.page ≡ true → place past one.page ≡ Leaving one.frame.0 → IsTaken past true one.page
+      → TurnKeeps made.first_epoch j past turn → (IsWait turn → d' ≡ d)
+      → IsTryTurn one v d (state_of m) turn v' d' (state_of m') → After turn
+  try_shown one own at w kept waits (inr none) = subst After (sym none.1) (waits (subst IsWait (sym none.1) tt))
+  try_shown one own at w kept waits (inl k) =
+      by_entry (step_entry (state_of m) (state_of m') actors.Reclaimer (EwbStart one.frame k.tried.at) k.entry k.tried.step)
+    where
+      t : IsTried (state_of m) d one.frame k.entry d' (state_of m')
+      t = k.tried
+
+      its : IsHereAt past t.slot t.at
+      its = (free_at made j past d m r.agrees t.slot t.at t.ours t.named).0
+
+      found : slot_found (content past) t.at ≡ Some t.slot
+      found = its.found
+
+      -- the keeper's slots are each one of 512
+      within : nat_lt t.at.index 512 ≡ true
+      within = ap (λ n. nat_lt n 512) its.index ∙ ours_within (drivers j) j d.slots past t.slot r.agrees.shows.slots t.ours
 
       none : open_start past one.frame.0 ≡ None
-      none = subst (λ n. open_start past n ≡ None) (same_frame past one.page w.frame one.frame.0 w.leaving at) w.start
+      none = (in_frame past true one.page one.frame.0 at w).1
 
-      by_entry : ((is_drained past one.frame.0 ≡ false) × (k.entry ≡ refused_entry (state_of m) past one k.tried.slot))
-          ⊎ ((k.entry ≡ spent_entry one k.tried.slot) ⊎ (k.entry ≡ started_entry (state_of m) one k.tried.slot)) → After turn
-      by_entry (inl e) =
-          subst After (sym (told (refused_entry (state_of m) past one k.tried.slot) e.1))
-          (refused_shown j past d d' one.frame k.tried.slot _ (slots (refused_entry (state_of m) past one k.tried.slot) e.1) k.tried.others
-          r.shows)
-      by_entry (inr (inl e)) =
-          subst After (sym (told (spent_entry one k.tried.slot) e))
-          (refused_shown j past d d' one.frame k.tried.slot _ (slots (spent_entry one k.tried.slot) e) k.tried.others r.shows)
-      by_entry (inr (inr e)) =
-          subst After (sym (told (started_entry (state_of m) one k.tried.slot) e))
-          (started_shown j past d d' one k.tried.slot _ r.sound at none
-          (slots (started_entry (state_of m) one k.tried.slot) e) k.tried.others r.shows)
+      held : IsHeld (content past one.frame.0) one.page
+      held = own_held (content past one.frame.0) one.page own
+          (holds_here past one.page (Leaving one.frame.0) one.frame.0 r.agrees.sound at (eq-eqb one.frame.0 one.frame.0 refl))
 
-  third_shown : (next block : ℕ) (one : Taken) (n : ℕ) → Ready made j past taken (phases.Tries next forms.Third block) d m
-      → IsTaken past true one.page → place past one.page ≡ Leaving one.frame.0
-      → IsThirdTurn next block one m d turn phase' d' m' n → After turn
-  third_shown next block one zero r w at k = try_shown next forms.Third block one r w at (k.tried refl)
-  third_shown next block one (suc n) r w at k = rests _ r.shows (k.patient (omega arith))
+      mine : is_own_there (content past one.frame.0) ≡ true
+      mine = ap is_own_held (ap page_there held.holds) ∙ own
 
-  form_shown : (next : ℕ) (form : Form) (block : ℕ) (one : Taken) (rest : List Page) (to : passes.Form)
-      → Ready made j past taken (phases.Tries next form block) d m → place past one.page ≡ Leaving one.frame.0
-      → HasPages past (Tries one.page rest to) → KeepsTracks past (Tries one.page rest to)
-      → IsForm made.first_epoch past one.page form block to → DriverSays (phases.Tries next form block) d d'
-      → IsFormTurn next form block one m d turn phase' d' m' → After turn
-  form_shown next forms.First block one rest to r at has tracks fits still k =
-      try_shown next forms.First block one r (subst (λ f. HasPages past (Tries one.page rest f)) fits has).page at k
-  form_shown next forms.Second block one rest to r at has tracks fits still k =
-      try_shown next forms.Second block one r (subst (λ f. HasPages past (Tries one.page rest f)) fits.0 has).page at k
-  form_shown next forms.Track block one rest to r at has tracks fits still k =
-      by_entry (track_entry past m (state_of m') one k.entry r.follows.shape.columns r.sound r.pages.sealing
-      (fits_now made (state_of m) past r.follows)
-      ((subst (λ f. KeepsTracks past (Tries one.page rest f)) fits.0 tracks).calm one.page.enclave) at k.step)
+      slots : (ev : Event) → k.entry ≡ by_reclaimer ev → SlotsAfter d.slots t.slot (keeps_slot ev) d'.slots
+      slots ev is = subst (λ (x : Entry). SlotsAfter d.slots t.slot (keeps_slot x.event) d'.slots) is t.slots
+
+      same_own : d'.active.own ≡ d.active.own
+      same_own = ap (λ (x : Driver). x.active.own) t.others
+
+      takes_it : Takes d.slots t.slot d'.slots → TakesIf d.slots t.slot d'.slots
+      takes_it takes = (λ ours. takes, λ other. absurd (false≢true (sym other ∙ t.ours)))
+
+      -- the slot was given back
+      given : (ev : Event) → is_quiet ev ≡ true → is_markless ev ≡ true
+          → ShowsSlots (drivers j) j d'.slots (by_reclaimer ev ∷ past) → ShowsTables (drivers j) j d' (by_reclaimer ev ∷ past)
+      given ev q mark shown =
+          shows_still (drivers j) j d d' past (by_reclaimer ev) r.agrees.shows (λ g. place-quiet past (by_reclaimer ev) g q)
+          (ap (λ (x : Driver). x.states) t.others)
+          (record {
+            active = ap (λ (x : Driver). x.active.counts) t.others;
+            rooms = ap (λ (x : Driver). length x.kept) t.others;
+            marks = ap (λ (x : Driver). x.marks) t.others;
+            cpus = ap (λ (x : Driver). x.cpus) t.others;
+            enclaves = ap (λ (x : Driver). x.enclaves) t.others;
+            arrays = ap (λ (x : Driver). x.va_pages) t.others;
+          }) (record {
+            list =
+                ap (λ (x : Driver). map listed x.active.pages) t.others ∙ r.agrees.shows.list
+                ∙ sym (listed-quiet past (by_reclaimer ev) mark);
+            slots = shown;
+            copies = λ p. ap (λ (x : Driver). page_kept (kept_at x.kept p)) t.others ∙ r.agrees.shows.copies p;
+          })
+
+      refused : (refusal : Refusal) → SlotsAfter d.slots t.slot (keeps_slot (Refused (EwbStart one.frame t.at) refusal)) d'.slots
+          → Entry' (Refused (EwbStart one.frame t.at) refusal)
+      refused (why.SlotOccupied version) takes = record {
+        shows = with_held j past d d' (Refused (EwbStart one.frame t.at) (why.SlotOccupied version)) same_own r.held
+            (shows_occupied (drivers j) j d d' past one.frame t.at version r.agrees.sound r.agrees.stand
+            (t.slot, found, takes_it takes) t.others r.agrees.shows);
+        counts = takes.counted;
+      }
+      refused refusal same = record {
+        shows = with_held j past d d' (Refused (EwbStart one.frame t.at) refusal) same_own r.held
+            (given (Refused (EwbStart one.frame t.at) refusal) refl refl
+            (stays_shown (drivers j) j d.slots d'.slots past (by_reclaimer (Refused (EwbStart one.frame t.at) refusal)) r.agrees.sound tt tt
+            r.agrees.stand tt tt same r.agrees.shows.slots));
+        counts = same.counted;
+      }
+
+      by_entry : IsEntryOf actors.Reclaimer (EwbStart one.frame t.at) k.entry → After turn
+      by_entry (inl (answer, is)) =
+          let ev : Event = Did (EwbStart one.frame t.at) answer in
+          let told : turn ≡ turn_of (by_reclaimer ev) ev = k.told ∙ ap (λ (x : Entry). turn_of x x.event) is in
+          let takes = slots ev is in
+          entered ev told (record {
+            shows = with_held j past d d' ev same_own r.held
+                (shows_started (drivers j) j d d' past one.frame t.at answer (kept_event ev kept told).can none within r.agrees.sound
+                (t.slot, found, takes_it takes) t.others r.agrees.shows);
+            counts = takes.counted ∙ ap (λ b. count_out d.slots + (if b then 1 else 0)) (sym mine);
+          })
+      by_entry (inr (refusal, is)) =
+          entered (Refused (EwbStart one.frame t.at) refusal) (k.told ∙ ap (λ (x : Entry). turn_of x x.event) is)
+          (refused refusal (slots (Refused (EwbStart one.frame t.at) refusal) is))
+
+  third_shown : (n : ℕ) (one : Taken) → is_own_page one.page ≡ true → place past one.page ≡ Leaving one.frame.0
+      → IsTaken past true one.page → TurnKeeps made.first_epoch j past turn → (IsWait turn → d' ≡ d)
+      → ThirdSays n one v d (state_of m) turn v' d' (state_of m') → After turn
+  third_shown zero one own at w kept waits k = try_shown one own at w kept waits k
+  third_shown (suc n) one own at w kept waits k = subst After (sym k) (waits (subst IsWait (sym k) tt))
+
+  form_shown : (next : ℕ) (form : Form) (t : InTries made.first_epoch j past v next form) → v.aside ≡ asides.None
+      → TurnKeeps made.first_epoch j past turn
+      → (IsWait turn → d' ≡ d) → FormSays form t.one v d m turn v' d' m' → After turn
+  form_shown next forms.First t alone kept waits k = try_shown t.one (t.own alone) t.at t.has.page kept waits k
+  form_shown next forms.Second t alone kept waits k = try_shown t.one (t.own alone) t.at t.has.page kept waits k
+  form_shown next forms.Track t alone kept waits k = track_shown t.one.page.enclave k.0 k.1
+  form_shown next (forms.Kick epoch false) t alone kept waits k =
+      subst After (sym k.0.told) (λ ps due. kicks_shown j d' ps past (subst (λ x. Shows j x past) (sym k.1.0) now))
+  form_shown next (forms.Kick epoch true) t alone kept waits k = third_shown _ t.one (t.own alone) t.at t.has.page kept waits k
+  form_shown next (forms.Third epoch) t alone kept waits k = third_shown _ t.one (t.own alone) t.at t.has.page kept waits k
+  form_shown next (forms.Kicks epoch place) t alone kept waits k = absurd k
+  form_shown next forms.Sealing t alone kept waits k = absurd k
+
+  stage_shown : v.aside ≡ asides.None → (stage : Stage) → v.stage ≡ stage → TurnKeeps made.first_epoch j past turn → (IsWait turn → d' ≡ d)
+      → StageSays stage v d m turn v' d' m' → After turn
+  stage_shown alone (stages.Idle false) is kept waits k = subst After (sym k) (waits (subst IsWait (sym k) tt))
+  stage_shown alone (stages.Idle true) is kept waits (inl k) = look_shown k.1 waits
+  stage_shown alone (stages.Idle true) is kept waits (inr k) = subst After (sym k.1) (waits (subst IsWait (sym k.1) tt))
+  stage_shown alone (stages.Scan left) is kept waits k = look_shown k waits
+  stage_shown alone (stages.Block next) is kept waits k = by_page (taken_at v next) k
     where
-      by_entry : (k.entry ≡ by_reclaimer (Refused (Track one.page.enclave) why.EpochSpent))
-          ⊎ (k.entry ≡ by_reclaimer (Did (Track one.page.enclave) answers.Plain)) → After turn
-      by_entry (inl e) = subst After (sym (k.told ∙ ap (λ (y : Entry). turn_of_track y y.event) e))
-          (quiet j past d d' (Refused (Track one.page.enclave) why.EpochSpent) refl refl refl still r.shows)
-      by_entry (inr e) = subst After (sym (k.told ∙ ap (λ (y : Entry). turn_of_track y y.event) e))
-          (quiet j past d d' (Did (Track one.page.enclave) answers.Plain) refl refl refl still r.shows)
-  form_shown next forms.Kick block one rest to r at has tracks fits still k =
-      subst After (sym k.told) (λ ps due. kicks_shown j d' ps past (subst (λ x. Shows j x past) (sym still) r.shows))
-  form_shown next forms.Third block one rest to r at has tracks (inl fits, told) still k =
-      third_shown next block one _ r (subst (λ f. HasPages past (Tries one.page rest f)) fits has).page at k
-  form_shown next forms.Third block one rest to r at has tracks (inr fits, told) still k =
-      third_shown next block one _ r (subst (λ f. HasPages past (Tries one.page rest f)) fits.0 has).page at k
+      by_page : (o : Option Taken) → WithPage o (turn ≡ turns.Again reasons.AllHeld)
+          (λ one. IsMadeTurn (actions.Block one.frame) v (state_of m) turn v' (state_of m') × (d' ≡ d)) → After turn
+      by_page None told = subst After (sym told) (waits (subst IsWait (sym told) tt))
+      by_page (Some one) says = block_shown one says.0 says.1
+  stage_shown alone (stages.Tries next form) is kept waits k =
+      let t = in_tries made j past v d m r next form is in
+      form_shown next form t alone kept waits
+      (with_page (taken_at v next) t.one (turn ≡ turns.Again reasons.AllHeld) (λ one. FormSays form one v d m turn v' d' m') t.found k)
 
-  pub turn_shown : (phase : Phase) → Ready made j past taken phase d m → DriverSays phase d d'
-      → TurnSays taken phase d m turn taken' phase' d' m' → After turn
-  turn_shown (phases.Idle false) r still k = rests _ r.shows k
-  turn_shown (phases.Idle true) r still (inr k) = rests _ r.shows k.1
-  turn_shown (phases.Idle true) r still (inl k) = scan_shown _ r.sound r.shows k.first
-  turn_shown (phases.Scan left) r still k = scan_shown left r.sound r.shows k
-  turn_shown (phases.Block next) r still k = block_shown next r k still
-  turn_shown (phases.Tries next form block) r still k =
-      let w = r.stands.0 in
-      let at = subst (AreInFrames past) w.due r.stands.1 in
-      form_shown next form block w.one (pages_in w.rest) w.to r at.0 (subst (HasPages past) w.same r.pages.pages)
-      (subst (KeepsTracks past) w.same r.tracks) w.fits still
-      (with_page (slice_get taken next) w.one _ (λ x. IsFormTurn next form block x m d turn phase' d' m')
-      (drop_get next taken w.one w.rest w.due) k.0)
-  turn_shown (phases.Sealing next slot) r still k = absurd k
+  -- ---- beside the passes
+
+  start_shown : (one : Taken) → v.aside ≡ asides.ToGo one → TurnKeeps made.first_epoch j past turn
+      → IsAsideTurn one v d (state_of m) turn v' (state_of m') → d' ≡ d → After turn
+  start_shown one is kept k same =
+      by_entry (step_entry (state_of m) (state_of m') actors.Reclaimer (EwbStart one.frame k.started.at) k.entry k.started.step)
+    where
+      at : SlotAt
+      at = k.started.at
+
+      t : IsToLeave past one
+      t = to_leave made j past v d m one r is
+
+      its : IsHereAt past (fixed_slot j one.page) at
+      its = fixed_at made j past d m r.agrees one t.other t.at t.none at k.started.named
+
+      found : slot_found (content past) at ≡ Some (fixed_slot j one.page)
+      found = its.found
+
+      within : nat_lt at.index 512 ≡ true
+      within =
+          ap (λ n. nat_lt n 512) its.index
+          ∙ fixed_within (drivers j) j d past one.page r.agrees.shows (r.agrees.shows.placed one.page (ap is_absent t.at)) t.other
+
+      not_mine : is_own_there (content past one.frame.0) ≡ false
+      not_mine =
+          ap is_own_held (there_page (page_there (content past one.frame.0)) one.page
+          (holds_here past one.page (Leaving one.frame.0) one.frame.0 r.agrees.sound t.at (eq-eqb one.frame.0 one.frame.0 refl)))
+          ∙ t.other
+
+      not_ours : is_ours d.slots (fixed_slot j one.page) ≡ false
+      not_ours = fixed_aside j d past one.page r.agrees.shows (r.agrees.shows.placed one.page (ap is_absent t.at)) t.other
+
+      done : (answer : Answer) → Keeps made.first_epoch j past (Did (EwbStart one.frame at) answer)
+          → ShowsEntry j past (by_reclaimer (Did (EwbStart one.frame at) answer)) d d
+      done answer keeps = record {
+        shows = with_held j past d d (Did (EwbStart one.frame at) answer) refl r.held
+            (shows_started (drivers j) j d d past one.frame at answer keeps.can t.none within r.agrees.sound
+            (fixed_slot j one.page, found, takes_none d.slots (fixed_slot j one.page) not_ours) refl r.agrees.shows);
+        counts = let none : count_out d.slots ≡ count_out d.slots + 0 = omega arith in
+            none ∙ ap (λ b. count_out d.slots + (if b then 1 else 0)) (sym not_mine);
+      }
+
+      refused : (refusal : Refusal) → IsAhead j past (ages.TriesNext one.page) (Refused (EwbStart one.frame at) refusal)
+          → ShowsEntry j past (by_reclaimer (Refused (EwbStart one.frame at) refusal)) d d
+      refused why.VersionSpent age = quiet j past d (Refused (EwbStart one.frame at) why.VersionSpent) refl refl refl now
+      refused refusal age = absurd age
+
+      by_entry : IsEntryOf actors.Reclaimer (EwbStart one.frame at) k.entry → After turn
+      by_entry (inl (answer, eq)) =
+          let ev : Event = Did (EwbStart one.frame at) answer in
+          let told : turn ≡ turn_of (by_reclaimer ev) ev = k.told ∙ ap (λ (x : Entry). turn_of x x.event) eq in
+          entered ev told (subst (ShowsEntry j past (by_reclaimer ev) d) (sym same) (done answer (kept_event ev kept told)))
+      by_entry (inr (refusal, eq)) =
+          let ev : Event = Refused (EwbStart one.frame at) refusal in
+          let told : turn ≡ turn_of (by_reclaimer ev) ev = k.told ∙ ap (λ (x : Entry). turn_of x x.event) eq in
+          entered ev told (subst (ShowsEntry j past (by_reclaimer ev) d) (sym same)
+          (refused refusal
+          (subst (λ x. IsAhead j past x ev) (ap (λ x. ahead_by x (due_with j past (outs_kept j past))) t.going)
+          (kept_event ev kept told).age)))
+
+  -- ---- all of it
+
+  due_or_pass : v.aside ≡ asides.None → TurnKeeps made.first_epoch j past turn → (IsWait turn → d' ≡ d) → (o : Option Page)
+      → due_in d (state_of m) v.behind ≡ o → DueSays o v d m turn v' d' m' → After turn
+  due_or_pass alone kept waits (Some page) is k = due_shown page (sym (due_is made j past v d m r) ∙ is) kept k
+  due_or_pass alone kept waits None is k = stage_shown alone v.stage refl kept waits k
+
+  pub turn_shown : TurnSays v d m turn v' d' m' → (IsWait turn → d' ≡ d) → After turn
+  turn_shown k waits = by_aside v.aside refl k
+    where
+      kept : TurnKeeps made.first_epoch j past turn
+      kept = turn_keeps made j past v v' d d' m m' turn r k
+
+      by_aside : (x : Aside) → v.aside ≡ x → AsideSays x v d m turn v' d' m' → After turn
+      by_aside (asides.ToGo one) is says = start_shown one is kept says.0 says.1
+      by_aside (asides.Going one) is says = absurd says
+      by_aside asides.None is says = due_or_pass is kept waits (due_in d (state_of m) v.behind) refl says

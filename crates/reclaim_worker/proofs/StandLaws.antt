@@ -1,258 +1,216 @@
--- Behind the entry of a turn the pass stands for the longer list.
-use Rattle.std.proofs.Common.{◌≡◌, ◌⊎◌, inl, inr, ℕ, ◌+◌, ◌-◌, true, false, refl, sym, ◌∙◌, ap, subst, List, []}
-use Rattle.std.proofs.Common.{◌∷◌, ◌++◌, drop}
-use Rattle.std.proofs.Common.{length, min, slice_get, arith}
-use Rattle.sgx_rules.specs.declared.entries.Action.TheVariants.{Block, Track}
-use Rattle.sgx_rules.specs.declared.entries.Answer.TheVariants as answers
-use Rattle.sgx_rules.specs.declared.entries.Entry.{Entry}
-use Rattle.sgx_rules.specs.declared.entries.Event.TheVariants.{Did, Refused, Age}
-use Rattle.sgx_rules.specs.Epochs.{epoch, epoch_in, epoch_of}
-use Rattle.sgx_rules.specs.Frames.{content}
-use Rattle.job_grammar.specs.Jobs.{JobView}
-use Rattle.job_grammar.specs.declared.jobs.Marks.{Marks}
-use Rattle.driver_rules.specs.declared.waits.Why.{Why}
-use Rattle.turn_rules.specs.Script.{frame_at}
-use Rattle.paging_machine.specs.inner.Parts.{Parts, cpu_at, state_of}
+-- Behind a turn the pass stands for the longer list.
+use Rattle.std.proofs.Common.{◌≡◌, ℕ, zero, suc, true, false, if◌then◌else◌, refl, sym, ◌∙◌, ap, subst, List, [], ◌∷◌, drop, length}
+use Rattle.std.proofs.Common.{Some, None, slice_get}
+use Rattle.std.proofs.lemmas.Option.{same_Some}
 use Rattle.sgx_types.specs.Making.{Making}
-use Rattle.driver_rules.specs.Passes as passes
-use Rattle.driver_rules.specs.Passes.{Between, Blocking, Pass, Scan, Tries, keepers, pass, scan_on, taken_by}
-use Rattle.driver_laws.specs.inner.Kinds.{IsFoundAt}
-use Rattle.driver_laws.specs.inner.Tracks.{IsTracked, KeepsTracks}
-use Rattle.std.proofs.lemmas.Bool.{eq-eqb}
-use Rattle.sgx_types.specs.declared.names.SlotAt.{SlotAt}
+use Rattle.sgx_types.specs.declared.names.Actor.TheVariants as actors
+use Rattle.sgx_types.specs.declared.names.Page.{Page}
+use Rattle.sgx_rules.specs.declared.entries.Entry.{Entry}
+use Rattle.sgx_rules.specs.declared.entries.Event.{Event}
+use Rattle.sgx_rules.specs.declared.entries.Event.TheVariants.{Did, Kick, Refused}
+use Rattle.sgx_rules.specs.declared.entries.Action.TheVariants as actions
 use Rattle.sgx_rules.specs.declared.refusals.Refusal.TheVariants as why
-use Rattle.sgx_rules.specs.Eviction.{is_drained, kept_back}
-use Rattle.sgx_rules.proofs.Contents.{page_enclave}
-use Rattle.reclaim_worker.specs.declared.turns.Form.{Form}
-use Rattle.reclaim_worker.specs.declared.turns.Form.TheVariants as forms
-use Rattle.driver_rules.specs.Places.{Leaving, active, place}
+use Rattle.sgx_rules.specs.Epochs.{epoch}
+use Rattle.job_grammar.specs.Jobs.{JobView}
+use Rattle.paging_machine.specs.inner.Parts.{Parts, state_of}
+use Rattle.driver_rules.specs.Ages.{ahead_by}
 use Rattle.driver_rules.specs.Dues.{Due, KicksAll}
-use Rattle.reclaim_worker.specs.inner.After.{StandsAfter, kicked_past}
+use Rattle.driver_rules.specs.declared.waits.Why.{Why}
+use Rattle.driver_rules.specs.inner.Reclaims.{ahead_gives, going_due, pass_due}
+use Rattle.driver_rules.specs.inner.Stops.{last_event}
+use Rattle.driver_rules.specs.Passes as passes
+use Rattle.driver_rules.specs.Passes.{aside, decided, free_count, is_aside, keepers, kicks_on, Pass, pass, pass_by, Third, ToKick, Tries}
+use Rattle.driver_rules.specs.Spares.{due_with, outs_kept}
 use Rattle.driver_tables.specs.declared.driver.Driver.{Driver}
-use Rattle.driver_tables.proofs.ListLaws.{lengths}
-use Rattle.reclaim_worker.specs.declared.turns.Phase.{Phase}
-use Rattle.reclaim_worker.specs.declared.turns.Phase.TheVariants as phases
+use Rattle.reclaim_pass.specs.declared.stages.Aside.TheVariants as asides
+use Rattle.reclaim_pass.specs.declared.stages.Behind.TheVariants as last
+use Rattle.reclaim_pass.specs.declared.stages.Form.TheVariants as forms
+use Rattle.reclaim_pass.specs.declared.stages.Stage.TheVariants as stages
+use Rattle.reclaim_pass.specs.declared.stages.Taken.{Taken}
+use Rattle.reclaim_pass.specs.inner.Dues.{due_in}
+use Rattle.reclaim_pass.specs.inner.Keeping.{keepers_by}
+use Rattle.reclaim_pass.specs.inner.Noted.{all_kicked, all_kicked_stage}
+use Rattle.reclaim_pass.specs.inner.Standing.{AreInFrames, behind_of, IsAside, IsForm, StandsAt}
+use Rattle.reclaim_pass.specs.inner.Viewed.{aside_by, is_amid, is_amid_stage, pages_in, PassView, tries_of, waiting_by}
 use Rattle.reclaim_worker.specs.declared.turns.PassTurn.{PassTurn}
 use Rattle.reclaim_worker.specs.declared.turns.PassTurn.TheVariants as turns
-use Rattle.reclaim_worker.specs.declared.turns.Taken.{Taken}
-use Rattle.reclaim_worker.specs.inner.Answers.{IsTurn, by_reclaimer}
-use Rattle.reclaim_worker.specs.inner.Moves.{IsBlockTurn, IsTryTurn, after_block, after_track, after_try, turn_of, turn_of_track}
-use Rattle.reclaim_worker.specs.inner.Tried.{count_from, is_kept_by}
+use Rattle.reclaim_worker.specs.inner.After.{cpu_of, kicked_past, StandsAfter, StandsBehind}
+use Rattle.reclaim_worker.specs.inner.Answers.{bits_of, by_reclaimer}
+use Rattle.reclaim_worker.specs.inner.Kept.{Keeps, TurnKeeps}
 use Rattle.reclaim_worker.specs.inner.Ready.{Ready}
-use Rattle.reclaim_worker.specs.inner.Scans.{IsScanned}
-use Rattle.driver_laws.specs.inner.Stages.{HasPages, IsTaken}
-use Rattle.reclaim_worker.specs.inner.Standing.{AreInFrames, IsForm, StandsFor, pages_in}
-use Rattle.reclaim_worker.specs.inner.Turning.{IsFormTurn, IsThirdTurn, TurnSays}
-use Rattle.reclaim_worker.proofs.AfterLaws.{kicks_after, again_after, block_after, look_after, refused_after, started_after}
-use Rattle.reclaim_worker.proofs.AfterLaws.{track_after}
-use Rattle.reclaim_worker.proofs.DueLaws.{drop_get, frames_behind, with_page}
-use Rattle.reclaim_worker.proofs.MoveDueLaws.{block_of, block_is_due, due_there, refused_entry, spent_entry, started_entry}
-use Rattle.reclaim_worker.proofs.MoveDueLaws.{track_entry}
-use Rattle.reclaim_worker.proofs.MoveDueLaws.{try_entry}
-use Rattle.reclaim_worker.proofs.RowLaws.{fits_now, found_ours}
-use Rattle.reclaim_worker.proofs.KeepLaws.{count_is}
-use Rattle.reclaim_worker.proofs.KeptLaws.{never}
-use Rattle.driver_laws.proofs.StillLaws.{holds_here}
+use Rattle.reclaim_worker.specs.inner.Rests.{IsWait}
+use Rattle.reclaim_worker.specs.inner.Turning.{turn_of, TurnSays}
+use Rattle.reclaim_worker.proofs.PassLaws.{due_is, goes, keepers_are}
+use Rattle.reclaim_worker.proofs.KeptLaws.{turn_keeps}
+use Rattle.reclaim_worker.proofs.MoveLaws.{Entered, KickedAll, Moves, turn_moves, Waited}
+use Rattle.reclaim_worker.proofs.StageLaws.{in_tries, InTries}
 
-module _ (made : Making) (j : JobView) (past : List Entry) (taken taken' : List Taken) (d d' : Driver) (m m' : Parts) (turn : PassTurn)
-    (phase' : Phase) where
-  abbrev After : Pass → PassTurn → List Taken → Phase → Type 0
-  After p tn tk ph = StandsAfter made.first_epoch j past p tn tk ph
+-- ---- turns with an entry
 
-  moved : (p : Pass) (tn : PassTurn) (tk : List Taken) (ph : Phase) → pass j past ≡ p → turn ≡ tn → taken' ≡ tk → phase' ≡ ph
-      → After p tn tk ph → After (pass j past) turn taken' phase'
-  moved p tn tk ph is told same to h =
-      subst (λ x. After x turn taken' phase') (sym is) (subst (λ x. After p x taken' phase') (sym told)
-      (subst (λ x. After p tn x phase') (sym same) (subst (λ x. After p tn tk x) (sym to) h)))
+pub keeps_of : (first : ℕ) (j : JobView) (past : List Entry) (e : Entry) (ev : Event) → TurnKeeps first j past (turn_of e ev)
+    → Keeps first j past e.event
+keeps_of first j past e (Did (actions.EwbStart f slot) answer) k = k
+keeps_of first j past e (Refused action (why.NotTracked epoch older)) k = k
+keeps_of first j past e (Refused action (why.SlotOccupied version)) k = k
+keeps_of first j past e (Refused action refusal) k = k
+keeps_of first j past e ev k = k
 
-  waited : (why : Why) → turn ≡ turns.Again why → After (pass j past) turn taken' phase'
-  waited why told = subst (λ x. After (pass j past) x taken' phase') (sym told) tt
+stands_of : (first : ℕ) (j : JobView) (past : List Entry) (e : Entry) (ev : Event) (v : PassView) → StandsBehind first j past e v
+    → StandsAfter first j past (turn_of e ev) v
+stands_of first j past e (Did (actions.EwbStart f slot) answer) v k = k
+stands_of first j past e (Refused action (why.NotTracked epoch older)) v k = k
+stands_of first j past e (Refused action (why.SlotOccupied version)) v k = k
+stands_of first j past e (Refused action refusal) v k = k
+stands_of first j past e ev v k = k
 
-  -- a look within a scan
-  scan_stands : (left : ℕ) → Ready made j past taken (phases.Scan left) d m → IsScanned taken left d turn taken' phase' d'
-      → After (pass j past) turn taken' phase'
-  scan_stands left r (inr none) = waited _ none.1
-  scan_stands left r (inl k) = moved (Scan left (pages_in taken)) (turns.One (by_reclaimer (Age k.page k.look))) taken' phase'
-      r.stands.same k.told refl refl
-      (look_after made.first_epoch j past taken taken' left d d' turn phase' r.shows r.sound r.stands.frames k)
+-- ---- kicks
 
-  -- the first one
-  begin_stands : Ready made j past taken (phases.Idle true) d m → IsScanned taken
-      (min d.marks.scan (length d.active.pages)) d turn taken' phase' d' → After (pass j past) turn taken' phase'
-  begin_stands r (inr none) = waited _ none.1
-  begin_stands r (inl k) =
-      let same : min d.marks.scan (length d.active.pages) ≡ min j.marks.scan (length (active past)) =
-      ap (λ (x : Marks). min x.scan (length d.active.pages)) r.shows.tables.marks
-      ∙ ap (λ n. min j.marks.scan n) (lengths past d.active.pages (active past) r.shows.tables.list) in
-      moved (Between true) (turns.One (by_reclaimer (Age k.page k.look))) taken' phase' r.stands.0 k.told refl refl
-      (subst (λ n. StandsFor made.first_epoch (by_reclaimer (Age k.page k.look) ∷ past) taken' phase'
-      (scan_on (n - 1) (taken_by k.look k.page))) same
-      (subst (λ ts. StandsFor made.first_epoch (by_reclaimer (Age k.page k.look) ∷ past) taken' phase'
-      (scan_on (min d.marks.scan (length d.active.pages) - 1) (pages_in ts ++ taken_by k.look k.page))) r.stands.1
-      (look_after made.first_epoch j past taken taken' (min d.marks.scan (length d.active.pages)) d d' turn phase' r.shows r.sound
-      (subst (AreInFrames past) (sym r.stands.1) tt) k)))
+abbrev kick : ℕ → Entry
+kick p = by_reclaimer (Kick (cpu_of p))
 
-  block_stands : (next : ℕ) → Ready made j past taken (phases.Block next) d m
-      → TurnSays taken (phases.Block next) d m turn taken' phase' d' m' → After (pass j past) turn taken' phase'
-  block_stands next r k = by_list (drop next taken) refl
+kicks_still : (ps : List ℕ) (h : List Entry) (ts : List Taken) → AreInFrames h ts → AreInFrames (kicked_past ps h) ts
+kicks_still [] h ts k = k
+kicks_still (p ∷ ps) h ts k = kicks_still ps (kick p ∷ h) ts (one_more ts k)
+  where
+    one_more : (ts : List Taken) → AreInFrames h ts → AreInFrames (kick p ∷ h) ts
+    one_more [] k = tt
+    one_more (t ∷ ts) k = (k.0, one_more ts k.1)
+
+kicks_track : (first : ℕ) (ps : List ℕ) (h : List Entry) (e : ℕ) → epoch first (kicked_past ps h) e ≡ epoch first h e
+kicks_track first [] h e = refl
+kicks_track first (p ∷ ps) h e = kicks_track first ps (kick p ∷ h) e
+
+kicks_aside : (ps : List ℕ) (h : List Entry) → aside (kicked_past ps h) ≡ aside h
+kicks_aside [] h = refl
+kicks_aside (p ∷ ps) h = kicks_aside ps (kick p ∷ h)
+
+kicks_last : (p : ℕ) (ps : List ℕ) (h : List Entry) → behind_of (last_event (kicked_past ps (kick p ∷ h)) actors.Reclaimer) ≡ last.Nothing
+kicks_last p [] h = refl
+kicks_last p (q ∷ ps) h = kicks_last q ps (kick p ∷ h)
+
+-- one kick of a pass, where no page goes out beside it
+kick_goes : (j : JobView) (p : ℕ) (h : List Entry) (g : Page) (rest : List Page) (form : passes.Form) → aside h ≡ passes.NoneAside
+    → pass j h ≡ Tries g rest form → pass j (kick p ∷ h) ≡ Tries g rest (passes.kicked (keepers h g) form)
+kick_goes j p h g rest form none is =
+    ap (λ x. decided j (free_count j.epc (kick p ∷ h)) (if is_aside x (Kick (cpu_of p)) then pass j h else pass_by j h (Kick (cpu_of p))
+    (pass j h)))
+    none
+    ∙ ap (λ x. decided j (free_count j.epc (kick p ∷ h)) (pass_by j h (Kick (cpu_of p)) x)) is
+
+-- with these left
+kicks_left : (j : JobView) (ps : List ℕ) (h : List Entry) (g : Page) (rest : List Page) → aside h ≡ passes.NoneAside
+    → pass j h ≡ Tries g rest (kicks_on ps) → pass j (kicked_past ps h) ≡ Tries g rest Third
+kicks_left j [] h g rest none k = k
+kicks_left j (p ∷ ps) h g rest none k =
+    kicks_left j ps (kick p ∷ h) g rest none (kick_goes j p h g rest (passes.Kicks (p ∷ ps)) none k)
+
+abbrev to_kick : Due → List ℕ
+to_kick (KicksAll ps) = ps
+to_kick _ = []
+
+module _ (made : Making) (j : JobView) (past : List Entry) (v v' : PassView) (d d' : Driver) (m m' : Parts) (turn : PassTurn)
+    (r : Ready made j past v d m) where
+  kicks_stand : (next epoch : ℕ) (t : InTries made.first_epoch j past v next (forms.Kick epoch false)) → v.aside ≡ asides.None
+      → v.stage ≡ stages.Tries next (forms.Kick epoch false) → (ps : List ℕ) → keepers past t.one.page ≡ ps
+      → StandsAt made.first_epoch j (kicked_past ps past) (all_kicked (length ps) v)
+  kicks_stand next epoch t alone is [] none =
+      subst (λ x. StandsAt made.first_epoch j past (record v { stage = all_kicked_stage 0 x })) (sym is) (record {
+        same = t.passed ∙ ap (λ ts. tries_of ts ToKick) (sym t.is);
+        frames = subst (λ x. AreInFrames past (waiting_by v.taken x)) is r.stands.frames;
+        stage = subst (IsForm made.first_epoch past (forms.Kick epoch true)) (sym t.is) t.told;
+        aside = r.stands.aside;
+        leaves = r.stands.leaves;
+        behind = r.stands.behind;
+        out = r.stands.out;
+      })
+  kicks_stand next epoch t alone is (p ∷ ps) some =
+      subst (λ x. StandsAt made.first_epoch j (kicked_past (p ∷ ps) past) (record v {
+        stage =
+            all_kicked_stage (length (p ∷ ps)) x;
+        behind = last.Nothing;
+      }))
+      (sym is) (record {
+        same =
+            kicks_left j ps (kick p ∷ past) t.one.page (pages_in t.rest) none
+            (kick_goes j p past t.one.page (pages_in t.rest) ToKick none t.passed
+            ∙ ap (λ qs. Tries t.one.page (pages_in t.rest) (kicks_on (drop 1 qs))) some)
+            ∙ ap (λ ts. tries_of ts Third) (sym t.is);
+        frames =
+            kicks_still (p ∷ ps) past (drop next v.taken) (subst (λ x. AreInFrames past (waiting_by v.taken x)) is r.stands.frames);
+        stage = subst (IsForm made.first_epoch (kicked_past (p ∷ ps) past) (forms.Third epoch)) (sym t.is)
+            (t.told ∙ sym (kicks_track made.first_epoch (p ∷ ps) past t.one.page.enclave));
+        aside = kicks_aside (p ∷ ps) past ∙ r.stands.aside;
+        leaves = subst (IsAside (kicked_past (p ∷ ps) past)) (sym alone) tt;
+        behind = sym (kicks_last p ps past);
+        out = tt;
+      })
     where
-      by_list : (ts : List Taken) → drop next taken ≡ ts → After (pass j past) turn taken' phase'
-      by_list [] is = absurd (subst (HasPages past) (r.stands.same ∙ ap (λ ts. Blocking (pages_in ts) (pages_in taken)) is) r.pages.pages)
-      by_list (one ∷ rest) is =
-          let to : pass j past ≡ Blocking (one.page ∷ pages_in rest) (pages_in taken) =
-          r.stands.same ∙ ap (λ ts. Blocking (pages_in ts) (pages_in taken)) is in
-          let has = subst (HasPages past) to r.pages.pages in
-          let at = subst (AreInFrames past) is (frames_behind past next taken r.stands.frames) in
-          let says = with_page (slice_get taken next) one _ (λ x. IsBlockTurn taken next x (state_of m) turn phase' (state_of m'))
-          (drop_get next taken one rest is) k.0 in
-          let told = subst (λ x. IsTurn made past d.slots x turn) (due_there past one.page one.frame.0 block_of at.0)
-          (block_is_due made past m (state_of m') taken next one d turn phase' r.follows.shape.columns r.sound r.pages.sealing at.0
-          has.waiting.0 says) in
-          moved (Blocking (one.page ∷ pages_in rest) (pages_in taken))
-          (turns.One (by_reclaimer (Did (Block (frame_at one.frame.0)) answers.Plain))) taken
-          (after_block next (length taken)) to told k.1 says.to
-          (block_after made.first_epoch past taken next one rest is r.stands.frames)
+      none : aside past ≡ passes.NoneAside
+      none = r.stands.aside ∙ ap aside_by alone
 
-  -- a try, where its refusal for want of a track is dealt with
-  try_stands : (next : ℕ) (form : Form) (block : ℕ) (one : Taken) (rest : List Taken) (to : passes.Form)
-      → Ready made j past taken (phases.Tries next form block) d m → drop next taken ≡ one ∷ rest → AreInFrames past (drop next taken)
-      → pass j past ≡ Tries one.page (pages_in rest) to → IsTaken past true one.page → place past one.page ≡ Leaving one.frame.0
-      → taken' ≡ taken
-      → ((slot : SlotAt) → is_drained past one.frame.0 ≡ false → After (Tries one.page (pages_in rest) to)
-      (turns.One (refused_entry (state_of m) past one slot)) taken
-      (after_try next form block (refused_entry (state_of m) past one slot).event))
-      → ((slot : SlotAt) → IsFoundAt past slot → After (Tries one.page (pages_in rest) to)
-      (turns.Seal (started_entry (state_of m) one slot)) taken
-      (after_try next form block (started_entry (state_of m) one slot).event))
-      → IsTryTurn next form block one (state_of m) d turn phase' d' (state_of m') → After (pass j past) turn taken' phase'
-  try_stands next form block one rest to r is frames passed waits at same again starts (inr none) =
-      subst (λ x. After (pass j past) x taken' phase') (sym none.1) tt
-  try_stands next form block one rest to r is frames passed waits at same again starts (inl k) =
-      by_entry (try_entry j past m (state_of m') one d d' k.entry r.follows.shape.columns r.follows.shape.slots_busy r.sound
-      r.pages.sealing r.shows.tables.slots at
-      waits k.tried)
+  abbrev After : PassTurn → PassView → Type 0
+  After x w = StandsAfter made.first_epoch j past x w × (is_amid w ≡ false)
+
+  waited : (why : Why) → turn ≡ turns.Again why → (IsWait turn → v' ≡ v) → After turn v'
+  waited why told waits =
+      subst (λ x. After x v') (sym told)
+      (subst (After (turns.Again why)) (sym (waits (subst IsWait (sym told) tt))) (r.stands, r.whole))
+
+  kicked_all : (next epoch : ℕ) (one : Taken) → v.aside ≡ asides.None → due_in d (state_of m) v.behind ≡ None
+      → v.stage ≡ stages.Tries next (forms.Kick epoch false) → slice_get v.taken next ≡ Some one
+      → turn ≡ turns.Kicks (bits_of (keepers_by m one.page.enclave epoch))
+      → v' ≡ all_kicked (length (keepers_by m one.page.enclave epoch)) v → After turn v'
+  kicked_all next epoch one alone none is found told to =
+      subst (λ x. After x v') (sym told)
+      (subst (After (turns.Kicks (bits_of (keepers_by m one.page.enclave epoch))))
+      (sym (to ∙ ap (λ qs. all_kicked (length qs) v) (sym same))) (stood, amid))
     where
-      told : (x : Entry) → k.entry ≡ x → turn ≡ turn_of x x.event
-      told x e = k.told ∙ ap (λ (y : Entry). turn_of y y.event) e
+      t : InTries made.first_epoch j past v next (forms.Kick epoch false)
+      t = in_tries made j past v d m r next (forms.Kick epoch false) is
 
-      by_entry : ((is_drained past one.frame.0 ≡ false) × (k.entry ≡ refused_entry (state_of m) past one k.tried.slot))
-          ⊎ ((k.entry ≡ spent_entry one k.tried.slot) ⊎ (k.entry ≡ started_entry (state_of m) one k.tried.slot))
-          → After (pass j past) turn taken' phase'
-      by_entry (inl e) = moved (Tries one.page (pages_in rest) to) (turns.One (refused_entry (state_of m) past one k.tried.slot)) taken
-          (after_try next form block (refused_entry (state_of m) past one k.tried.slot).event) passed
-          (told (refused_entry (state_of m) past one k.tried.slot) e.1) same (k.to
-          ∙ ap (λ (y : Entry). after_try next form block y.event) e.1) (again k.tried.slot e.0)
-      by_entry (inr (inl e)) = subst (λ x. After (pass j past) x taken' phase') (sym (told (spent_entry one k.tried.slot) e)) tt
-      by_entry (inr (inr e)) = moved (Tries one.page (pages_in rest) to) (turns.Seal (started_entry (state_of m) one k.tried.slot)) taken
-          (after_try next form block (started_entry (state_of m) one k.tried.slot).event) passed
-          (told (started_entry (state_of m) one k.tried.slot) e) same (k.to ∙ ap (λ (y : Entry). after_try next form block y.event) e)
-          (starts k.tried.slot (found_ours j past d.slots k.tried.slot r.shows.tables.slots k.tried.ours))
+      its : t.one ≡ one
+      its = same_Some t.one one (sym t.found ∙ found)
 
-  -- the epoch that a refusal tells
-  epoch_told : (form : Form) (next block : ℕ) (one : Taken) → Ready made j past taken (phases.Tries next form block) d m
-      → place past one.page ≡ Leaving one.frame.0 → epoch_in (state_of m).first_epoch past one.frame.0 ≡ epoch made.first_epoch past
-      one.page.enclave
-  epoch_told form next block one r at =
-      let first : (state_of m).first_epoch ≡ made.first_epoch = ap (λ (x : Making). x.first_epoch) r.follows.shape.making in
-      let holds = holds_here past one.page (Leaving one.frame.0) one.frame.0 r.sound at (eq-eqb one.frame.0 one.frame.0 refl) in
-      ap (epoch_of (epoch (state_of m).first_epoch past)) (page_enclave (content past one.frame.0) one.page holds)
-      ∙ ap (λ n. epoch n past one.page.enclave) first
+      same : keepers past t.one.page ≡ keepers_by m one.page.enclave epoch
+      same =
+          keepers_are made j past v d m r next epoch (forms.Kick epoch false) t.one is refl t.found
+          ∙ ap (λ (x : Taken). keepers_by m x.page.enclave epoch) its
 
-  -- the last try
-  third_stands : (next block : ℕ) (one : Taken) (rest : List Taken) (to : passes.Form)
-      → Ready made j past taken (phases.Tries next forms.Third block) d m → drop next taken ≡ one ∷ rest
-      → AreInFrames past (drop next taken) → pass j past ≡ Tries one.page (pages_in rest) to
-      → place past one.page ≡ Leaving one.frame.0 → IsTaken past true one.page → IsTracked past one.page
-      → block + 1 ≡ epoch made.first_epoch past one.page.enclave → taken' ≡ taken
-      → ((slot : SlotAt) → IsFoundAt past slot → After (Tries one.page (pages_in rest) to)
-      (turns.Seal (started_entry (state_of m) one slot)) taken (phases.Sealing next slot))
-      → IsThirdTurn next block one m d turn phase' d' m' (count_from (λ p. is_kept_by (cpu_at m p).mode one.page.enclave block) 0 d.cpus)
-      → After (pass j past) turn taken' phase'
-  third_stands next block one rest to r is frames passed at w tracked told same starts k = by_keepers (keepers past one.page) refl
+      -- whom the turn is to kick
+      due : going_due j past (outs_kept j past) false ≡ KicksAll (keepers past t.one.page)
+      due =
+          ap (λ x. ahead_gives j past false (ahead_by x (due_with j past (outs_kept j past)))) (r.stands.aside ∙ ap aside_by alone)
+          ∙ ap (λ o. ahead_gives j past false (ahead_by passes.NoneAside o)) (sym (due_is made j past v d m r) ∙ none)
+          ∙ ap (pass_due j past false) t.passed
+
+      stood : (ps : List ℕ) → going_due j past (outs_kept j past) false ≡ KicksAll ps
+          → StandsAt made.first_epoch j (kicked_past ps past) (all_kicked (length (keepers past t.one.page)) v)
+      stood ps kicks =
+          subst (λ qs. StandsAt made.first_epoch j (kicked_past qs past) (all_kicked (length (keepers past t.one.page)) v))
+          (ap to_kick (sym due ∙ kicks)) (kicks_stand next epoch t alone is (keepers past t.one.page) refl)
+
+      amid : is_amid (all_kicked (length (keepers past t.one.page)) v) ≡ false
+      amid = ap (λ x. is_amid_stage (all_kicked_stage (length (keepers past t.one.page)) x)) is
+          ∙ by_count (length (keepers past t.one.page))
+        where
+          by_count : (n : ℕ) → is_amid_stage (all_kicked_stage n (stages.Tries next (forms.Kick epoch false))) ≡ false
+          by_count zero = refl
+          by_count (suc n) = refl
+
+  pub turn_stands : TurnSays v d m turn v' d' m' → (IsWait turn → v' ≡ v) → After turn v'
+  turn_stands k waits = by_move (turn_moves v v' d d' m m' turn k)
     where
-      first : made.first_epoch ≡ (state_of m).first_epoch
-      first = ap (λ (x : Making). x.first_epoch) (sym r.follows.shape.making)
+      kept : TurnKeeps made.first_epoch j past turn
+      kept = turn_keeps made j past v v' d d' m m' turn r k
 
-      count : count_from (λ p. is_kept_by (cpu_at m p).mode one.page.enclave block) 0 d.cpus ≡ length (keepers past one.page)
-      count = count_is m past one.page block d.cpus r.follows.shape.columns r.sound tracked (told
-          ∙ ap (λ n. epoch n past one.page.enclave) first) r.cpus r.shows.tables.few
-
-      by_keepers : (ps : List ℕ) → keepers past one.page ≡ ps → After (pass j past) turn taken' phase'
-      by_keepers [] none = try_stands next forms.Third block one rest to r is frames passed w at same
-          (λ slot nd. absurd (never made j past d.slots turn one.page one.frame.0 r.sound tracked none at nd)) starts
-          (k.tried (count ∙ ap length none))
-      by_keepers (p ∷ ps) some = waited _ (k.patient (rw (count ∙ ap length some) (omega arith)))
-
-  -- whom a turn of kicks is to kick
-  abbrev to_kick : Due → List ℕ
-  to_kick (KicksAll ps) = ps
-  to_kick _ = []
-
-  form_stands : (next : ℕ) (form : Form) (block : ℕ) (one : Taken) (rest : List Taken) (to : passes.Form)
-      → Ready made j past taken (phases.Tries next form block) d m → drop next taken ≡ one ∷ rest → AreInFrames past (drop next taken)
-      → pass j past ≡ Tries one.page (pages_in rest) to
-      → place past one.page ≡ Leaving one.frame.0 → HasPages past (Tries one.page (pages_in rest) to)
-      → KeepsTracks past (Tries one.page (pages_in rest) to) → IsForm made.first_epoch past one.page form block to → taken' ≡ taken
-      → IsFormTurn next form block one m d turn phase' d' m' → After (pass j past) turn taken' phase'
-  form_stands next forms.First block one rest to r is frames passed at has tracks fits same k =
-      try_stands next forms.First block one rest passes.First r is frames (passed ∙ ap (Tries one.page (pages_in rest)) fits)
-      (subst (λ f. HasPages past (Tries one.page (pages_in rest) f)) fits has).page at same
-      (λ slot nd. refused_after made.first_epoch j past taken next one rest is frames slot
-      (epoch_in (state_of m).first_epoch past one.frame.0) (kept_back past one.frame.0) (epoch_told forms.First next block one r at))
-      (λ slot found. started_after made.first_epoch j past taken next one rest is frames passes.First slot
-      (answers.Version (state_of m).next_version) found) k
-  form_stands next forms.Second block one rest to r is frames passed at has tracks fits same k =
-      try_stands next forms.Second block one rest passes.Second r is frames (passed ∙ ap (Tries one.page (pages_in rest)) fits.0)
-      (subst (λ f. HasPages past (Tries one.page (pages_in rest) f)) fits.0 has).page at same
-      (λ slot nd. again_after made.first_epoch j past taken next one rest is frames slot block
-      (epoch_in (state_of m).first_epoch past one.frame.0) (kept_back past one.frame.0) fits.1)
-      (λ slot found. started_after made.first_epoch j past taken next one rest is frames passes.Second slot
-      (answers.Version (state_of m).next_version) found) k
-  form_stands next forms.Track block one rest to r is frames passed at has tracks fits same k =
-      by_entry (track_entry past m (state_of m') one k.entry r.follows.shape.columns r.sound r.pages.sealing
-      (fits_now made (state_of m) past r.follows)
-      ((subst (λ f. KeepsTracks past (Tries one.page (pages_in rest) f)) fits.0 tracks).calm one.page.enclave) at k.step)
-    where
-      by_entry : (k.entry ≡ by_reclaimer (Refused (Track one.page.enclave) why.EpochSpent))
-          ⊎ (k.entry ≡ by_reclaimer (Did (Track one.page.enclave) answers.Plain)) → After (pass j past) turn taken' phase'
-      by_entry (inl e) = subst (λ x. After (pass j past) x taken' phase') (sym (k.told ∙ ap (λ (y : Entry). turn_of_track y y.event) e)) tt
-      by_entry (inr e) = moved (Tries one.page (pages_in rest) passes.ToTrack)
-          (turns.One (by_reclaimer (Did (Track one.page.enclave) answers.Plain))) taken (phases.Tries next forms.Second block) (passed
-          ∙ ap (Tries one.page (pages_in rest)) fits.0)
-          (k.told ∙ ap (λ (y : Entry). turn_of_track y y.event) e) same (k.to ∙ ap (λ (y : Entry). after_track next block y.event) e)
-          (track_after made.first_epoch j past taken next one rest is frames block fits.1)
-  form_stands next forms.Kick block one rest to r is frames passed at has tracks fits same k =
-      moved (Tries one.page (pages_in rest) passes.ToKick) (turns.Kicks _) taken (phases.Tries next forms.Third block) (passed
-      ∙ ap (Tries one.page (pages_in rest)) fits.0) k.told same k.to
-      (λ ps due. subst (λ qs. StandsFor made.first_epoch (kicked_past qs past) taken (phases.Tries next forms.Third block)
-      (pass j (kicked_past qs past))) (ap to_kick due)
-      (kicks_after made.first_epoch j past taken next one rest is frames (keepers past one.page) block refl fits.1 (passed
-      ∙ ap (Tries one.page (pages_in rest)) fits.0)))
-  form_stands next forms.Third block one rest to r is frames passed at has tracks (inl fits, told) same k =
-      third_stands next block one rest passes.Third r is frames (passed ∙ ap (Tries one.page (pages_in rest)) fits) at
-      (subst (λ f. HasPages past (Tries one.page (pages_in rest) f)) fits has).page
-      (subst (λ f. KeepsTracks past (Tries one.page (pages_in rest) f)) fits tracks) told same
-      (λ slot found. started_after made.first_epoch j past taken next one rest is frames passes.Third slot
-      (answers.Version (state_of m).next_version) found) k
-  form_stands next forms.Third block one rest to r is frames passed at has tracks (inr fits, told) same k =
-      third_stands next block one rest passes.ToKick r is frames (passed ∙ ap (Tries one.page (pages_in rest)) fits.0) at
-      (subst (λ f. HasPages past (Tries one.page (pages_in rest) f)) fits.0 has).page
-      (subst (λ f. KeepsTracks past (Tries one.page (pages_in rest) f)) fits.0 tracks) told same
-      (λ slot found. started_after made.first_epoch j past taken next one rest is frames passes.ToKick slot
-      (answers.Version (state_of m).next_version) found) k
-
-  pub turn_stands : (phase : Phase) → Ready made j past taken phase d m → TurnSays taken phase d m turn taken' phase' d' m'
-      → After (pass j past) turn taken' phase'
-  turn_stands (phases.Idle false) r k = waited _ k
-  turn_stands (phases.Idle true) r (inr k) = waited _ k.1
-  turn_stands (phases.Idle true) r (inl k) = begin_stands r k.first
-  turn_stands (phases.Scan left) r k = scan_stands left r k
-  turn_stands (phases.Block next) r k = block_stands next r k
-  turn_stands (phases.Tries next form block) r k =
-      let w = r.stands.0 in
-      let at = subst (AreInFrames past) w.due r.stands.1 in
-      form_stands next form block w.one w.rest w.to r w.due r.stands.1 w.same at.0 (subst (HasPages past) w.same r.pages.pages)
-      (subst (KeepsTracks past) w.same r.tracks) w.fits k.1
-      (with_page (slice_get taken next) w.one _ (λ x. IsFormTurn next form block x m d turn phase' d' m')
-      (drop_get next taken w.one w.rest w.due) k.0)
-  turn_stands (phases.Sealing next slot) r k = absurd k
+      by_move : Moves d m v turn v' → After turn v'
+      by_move (Waited why told) = waited why told waits
+      by_move (KickedAll next epoch one alone none is found told to) = kicked_all next epoch one alone none is found told to
+      by_move (Entered event told to amid room) =
+          let keeps = keeps_of made.first_epoch j past (by_reclaimer event) event (subst (TurnKeeps made.first_epoch j past) told kept) in
+          subst (λ x. After x v') (sym told) (
+            stands_of made.first_epoch j past (by_reclaimer event) event v'
+                (subst (StandsBehind made.first_epoch j past (by_reclaimer event)) (sym to)
+                (goes made j past v d m r event keeps)),
+            amid r.whole,
+          )

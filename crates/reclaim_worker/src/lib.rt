@@ -1,4 +1,4 @@
-// One pass of the reclaimer over a machine, a driver's tables and a store.
+// The reclaimer's turns over a machine, a driver's tables and a store.
 #![tactic(auto)]
 
 pub mod laws;
@@ -6,5 +6,5 @@ pub mod looks;
 pub mod passes;
 mod seats;
 pub mod stores;
-pub mod tries;
+mod tries;
 pub mod turns;

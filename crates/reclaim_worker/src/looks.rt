@@ -1,13 +1,12 @@
-//! A look at the head of the list.
+//! Looks at pages.
 
-ghost use Rattle.std.specs.Prelude.{◌≡◌, true, IfOk, OnErr, Some};
+ghost use Rattle.std.specs.Prelude.{◌≡◌, IfOk, OnErr, true, false};
 ghost use Rattle.std.specs.Result.{IsOkAnd};
 ghost use Rattle.io_edges.specs.inner.Faults.{HasCause};
 ghost use Rattle.active_list.specs.inner.Places.{IsPlaced};
-ghost use Rattle.active_list.specs.inner.Listing.{head_of, is_young};
+ghost use Rattle.active_list.specs.inner.Listing.{is_young};
 ghost use Rattle.active_list.specs.inner.Holds.{is_held};
 ghost use Rattle.driver_rules.specs.Dues.{is_look};
-ghost use Rattle.driver_tables.specs.inner.Moves.{IsLooked};
 ghost use Rattle.reclaim_worker.specs.inner.Asked.{IsNoRoom, places_with};
 ghost use Rattle.reclaim_worker.specs.inner.Looked.{told_look};
 
@@ -17,33 +16,9 @@ use sgx_rules::entries::Look;
 use sgx_types::names::{Memory, Page};
 use std::alloc::Global;
 
-/// Looks at the page at the head of the list: a held one and else a young one goes to the tail, and so does one for which
-/// the store makes no room; another one is taken off the list. Every look ends its mark.
-pub fn look<S: Backing>(
-    alloc: Global,
-    driver: &mut Driver,
-    store: &mut S,
-    page: Page,
-) -> Result<Look, Memory>
-    requires head { head_of driver.old.active.pages ≡ Some page }
-    requires placed { IsPlaced driver.old.active.counts page }
-    requires counts { driver.old.states.counts ≡ driver.old.active.counts }
-    ensures look { IfOk result (λ look. is_look (is_held driver.old.active.own page) (is_young driver.old.active.pages page) look ≡ true) }
-    ensures tables { IfOk result (λ look. IsLooked driver.old page look driver.new) }
-    ensures told { IfOk result (λ look. S.told store.new ≡ told_look page look (S.told store.old)) }
-    ensures places { IfOk result (λ look. S.spare store.new ≡ places_with look (S.spare store.old)) }
-    ensures plans { S.plans store.new ≡ S.plans store.old }
-    ensures cause { HasCause (S.faults store.old) (S.faults store.new) (IsOkAnd result IsNoRoom) }
-    ensures memory { OnErr result (driver.new ≡ driver.old) }
-    ensures untold { OnErr result (store.new ≡ store.old) }
-{
-    let look = seen(alloc, driver, store, page)?;
-    driver.look(page, look);
-    Ok(look)
-}
-
-// What is seen of a page.
-fn seen<S: Backing>(
+/// What is seen of the page at the head of the list: whether it is held, or else young; and else whether the store makes room for its
+/// record, so that putting it later asks for no memory.
+pub fn seen<S: Backing>(
     alloc: Global,
     driver: &Driver,
     store: &mut S,
@@ -63,6 +38,18 @@ fn seen<S: Backing>(
     if driver.active.young(page) {
         return Ok(Look::Young);
     }
+    room(alloc, store, page)
+}
+
+/// Whether the store makes room for a page's record.
+pub fn room<S: Backing>(alloc: Global, store: &mut S, page: Page) -> Result<Look, Memory>
+    ensures look { IfOk result (λ look. is_look false false look ≡ true) }
+    ensures told { IfOk result (λ look. S.told store.new ≡ told_look page look (S.told store.old)) }
+    ensures places { IfOk result (λ look. S.spare store.new ≡ places_with look (S.spare store.old)) }
+    ensures plans { S.plans store.new ≡ S.plans store.old }
+    ensures cause { HasCause (S.faults store.old) (S.faults store.new) (IsOkAnd result IsNoRoom) }
+    ensures untold { OnErr result (store.new ≡ store.old) }
+{
     match store.room(alloc, page) {
         Ok(()) => Ok(Look::Taken),
         Err(StoreFault::Failed) => Ok(Look::NoRoom),

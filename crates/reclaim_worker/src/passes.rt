@@ -1,4 +1,4 @@
-//! A pass of the reclaimer, one turn at a time.
+//! The reclaimer, one turn at a time.
 //!
 //! 1. Look at the head of the list, one page a turn. A held page, and else a young one, goes to the tail. For any other the store makes
 //!    room, so that putting its record later asks for no memory, and the page is taken off the list.
@@ -10,426 +10,362 @@
 //!    missed.
 //! 7. The third try waits until all of them have left. It starts the write-out, and the page's bytes are sealed outside the lock.
 //! 8. The end of the write-out gives the record, and then it is put. A record that was put before could be of a page that stays.
+//!
+//! Behind a page that has gone out its SECS may be due, or a version array page. It comes before the next step of the pass, and goes out
+//! at once: no processor holds a translation of it, so it needs no block and no track.
 
-ghost use Rattle.std.specs.Prelude.{◌≡◌, ◌≢◌, ◌+◌, ◌++◌, ◌≤◌, ◌<◌, ◌∷◌, ℕ, [], false, List, length};
-ghost use Rattle.std.specs.Prelude.{IfOk, OnErr, vec_len, vec_capacity};
+ghost use Rattle.std.specs.Prelude.{◌≡◌, None, IfOk, OnErr};
 ghost use Rattle.std.specs.Result.{IsOkAnd};
 ghost use Rattle.io_edges.specs.inner.Faults.{HasCause};
-ghost use Rattle.reclaim_worker.specs.declared.turns.Taken.{Taken};
-ghost use Rattle.paging_machine.specs.inner.Parts.{state_of};
-ghost use Rattle.reclaim_worker.specs.inner.Moves.{IsBlockTurn, IsTrackTurn, IsTryTurn, after_block, after_track, after_try};
-ghost use Rattle.reclaim_worker.specs.inner.Moves.{turn_of};
-ghost use Rattle.reclaim_worker.specs.inner.Moves.{turn_of_track};
-ghost use Rattle.reclaim_worker.specs.declared.turns.Form.TheVariants as forms;
-ghost use Rattle.reclaim_worker.specs.declared.turns.Phase.TheVariants as phases;
-ghost use Rattle.job_grammar.specs.Jobs.{JobView};
+ghost use Rattle.sgx_rules.specs.declared.entries.Action.TheVariants as actions;
 ghost use Rattle.sgx_rules.specs.declared.entries.Entry.{Entry};
-ghost use Rattle.driver_rules.specs.Passes.{pass, pass_after, free_count};
+ghost use Rattle.active_list.specs.inner.Places.{IsPlaced};
+ghost use Rattle.paging_machine.specs.inner.Parts.{state_of};
 ghost use Rattle.paging_laws.specs.inner.State.{State};
-ghost use Rattle.reclaim_worker.specs.inner.Asked.{NoRoomIn, look_in, look_told, places_by, told_by};
 ghost use Rattle.driver_steps.specs.inner.Carried.{Carries};
+ghost use Rattle.reclaim_pass.specs.inner.Noted.{instructed};
+ghost use Rattle.reclaim_worker.specs.inner.Answers.{by_reclaimer};
+ghost use Rattle.reclaim_worker.specs.inner.Asked.{NoRoomIn, look_of, look_told, places_by, told_by};
 ghost use Rattle.reclaim_worker.specs.inner.Going.{TurnGoes};
-ghost use Rattle.reclaim_worker.specs.inner.Rests.{DriverSays, IsWait};
-ghost use Rattle.reclaim_worker.specs.inner.Standing.{StandsFor, noted_phase, is_sealing};
-ghost use Rattle.reclaim_worker.specs.inner.Turning.{IsFormTurn, TurnSays};
-ghost use Rattle.reclaim_worker.specs.inner.Scans.{IsBegun, IsScanned, after_look, taken_with};
+ghost use Rattle.reclaim_worker.specs.inner.Ready.{CanStep, HasFreeSlots};
+ghost use Rattle.reclaim_worker.specs.inner.Rests.{IsWait};
+ghost use Rattle.reclaim_worker.specs.inner.Tried.{StartsAside};
+ghost use Rattle.reclaim_worker.specs.declared.turns.PassTurn.TheVariants as turns;
+ghost use Rattle.reclaim_worker.specs.inner.Turning.{FormSays, IsAsideTurn, IsDueLook, IsKickTurn, IsMadeTurn, IsResting, IsScanned};
+ghost use Rattle.reclaim_worker.specs.inner.Turning.{IsThirdTurn, IsTryTurn, StageSays, TurnSays, turn_of};
+ghost use Rattle.sgx_rules.specs.declared.entries.Event.TheVariants.{Age};
 
-use crate::looks::look;
+use crate::looks::{room, seen};
 use crate::seats::{keepers, number_of_keepers};
-use crate::tries::try_out;
-use crate::turns::{Form, PassTurn, Phase, Taken};
-use active_list::page_states::PageState;
+use crate::tries::{start_aside, try_out};
+use crate::turns::PassTurn;
 use backing_store::backing::Backing;
-use driver_rules::marks::works_with;
 use driver_rules::waits::Why;
-use driver_steps::steps::step;
+use driver_steps::steps::step as instruct;
 use driver_tables::driver::Driver;
-use driver_tables::moves::frame_in;
 use paging_machine::machine::Machine;
+use reclaim_pass::dues::due;
+use reclaim_pass::pass::Pass;
+use reclaim_pass::stages::{Aside, Form, Stage, Taken};
 use sgx_rules::entries::{Action, Entry, Event, Look};
 use sgx_rules::refusals::Refusal;
 use sgx_types::names::{Actor, Memory, Page};
 use std::alloc::Global;
 
-// A pass takes no more pages than it looks at, and a job lets it look at no more than 64.
-const MOST: usize = 64;
-
-/// How far the reclaimer is, and the pages that the pass took.
-#[derive(Drop)]
-pub struct Pass {
-    pub taken: Vec<Taken>,
-    pub phase: Phase,
-}
-
-impl Pass {
-    /// Before the first pass.
-    pub fn new(alloc: Global) -> Result<Pass, Memory>
-        ensures taken { IfOk result (λ pass. pass.taken.items ≡ []) }
-        ensures phase { IfOk result (λ pass. pass.phase ≡ phases.Idle false) }
-    {
-        Ok(Pass {
-            taken: Vec::with_capacity(alloc, MOST)?,
-            phase: Phase::Idle { works: false },
-        })
-    }
-
-    /// One turn of the pass, which is what the reclaimer does next: a look, a block, a try, a track or kicks, or the reason why
-    /// nothing changes. That this is what is due is a law, `turns_are_right`.
-    pub fn step<S: Backing>(
-        &mut self,
-        alloc: Global,
-        driver: &mut Driver,
-        machine: &mut Machine,
-        store: &mut S,
-    ) -> Result<PassTurn, Memory>
-        requires counts { driver.old.states.counts ≡ driver.old.active.counts }
-        requires few { driver.old.cpus ≤ 16 }
-        requires cpus { driver.old.cpus ≤ length machine.old.cpus }
-        requires started { is_sealing self.old.phase ≡ false }
-        ensures says { IfOk result (λ turn. TurnSays self.old.taken.items self.old.phase driver.old machine.old turn self.new.taken.items
-            self.new.phase driver.new machine.new) }
-        ensures driver { IfOk result (λ turn. DriverSays self.old.phase driver.old driver.new) }
-        ensures told { IfOk result (λ turn. S.told store.new ≡ told_by (look_in self.old.phase turn) (S.told store.old)) }
-        ensures places { IfOk result (λ turn. S.spare store.new ≡ places_by (look_in self.old.phase turn) (S.spare store.old)) }
-        ensures plans { S.plans store.new ≡ S.plans store.old }
-        ensures cause { HasCause (S.faults store.old) (S.faults store.new)
-            (IsOkAnd result (λ turn. NoRoomIn (look_in self.old.phase turn))) }
-        ensures memory { OnErr result ((driver.new ≡ driver.old) × (store.new ≡ store.old)) }
-        ensures machine { OnErr result (machine.new ≡ machine.old) }
-        ensures refused { OnErr result ((self.new.phase ≡ self.old.phase) × (self.new.taken.items ≡ self.old.taken.items)) }
-        ensures waits { IfOk result (λ turn. IsWait turn → (driver.new ≡ driver.old)
-            × ((self.new.phase ≡ self.old.phase) × (self.new.taken.items ≡ self.old.taken.items))) }
-        ensures rests { IfOk result (λ turn. IsWait turn → store.new ≡ store.old) }
-        ensures goes { IfOk result (λ turn. TurnGoes (state_of machine.old) turn (state_of machine.new)) }
-    {
-        match self.phase {
-            Phase::Idle { works: false } => {
-                let free = machine.free_count();
-                Ok(PassTurn::Again(Why::Enough { free }))
-            }
-            Phase::Idle { works: true } => self.begin(alloc, driver, machine, store),
-            Phase::Scan { left } => self.scan(alloc, left, driver, machine, store),
-            Phase::Block { next } => {
-                let Some(one) = self.taken.get(next).copied() else {
-                    return Ok(PassTurn::Again(Why::AllHeld));
-                };
-                Ok(self.block(alloc, next, one, machine))
-            }
-            Phase::Tries { next, form, block } => {
-                let Some(one) = self.taken.get(next).copied() else {
-                    return Ok(PassTurn::Again(Why::AllHeld));
-                };
-                Ok(self.form(alloc, next, form, block, one, driver, machine))
-            }
-            Phase::Sealing { .. } => unreachable!(),
-        }
-    }
-
-    /// Decides after an entry of any actor whether the reclaimer works, by how many frames are free then. Within a pass nothing
-    /// is decided.
-    pub fn note(&mut self, driver: &Driver, free: u32)
-        ensures phase { self.new.phase ≡ noted_phase driver.now.marks free self.old.phase }
-        ensures taken { self.new.taken ≡ self.old.taken }
-        ensures stands { (first : ℕ) (j : JobView) (past : List Entry) (e : Entry) → driver.now.marks ≡ j.marks
-            → free ≡ free_count j.epc (e ∷ past) → StandsFor first (e ∷ past) self.old.taken.items self.old.phase
-            (pass_after j past e.actor e.event (pass j past))
-            → StandsFor first (e ∷ past) self.new.taken.items self.new.phase (pass j (e ∷ past)) }
-    {
-        if let Phase::Idle { works } = self.phase {
-            let works = works_with(driver.marks, free, works);
-            self.phase = Phase::Idle { works };
-        }
-    }
-
-    // A turn within the tries of a page.
-    fn form(
-        &mut self,
-        alloc: Global,
-        next: usize,
-        form: Form,
-        block: u64,
-        one: Taken,
-        driver: &mut Driver,
-        machine: &mut Machine,
-    ) -> PassTurn
-        requires few { driver.old.cpus ≤ 16 }
-        requires cpus { driver.old.cpus ≤ length machine.old.cpus }
-        ensures form { IsFormTurn next form block one machine.old driver.old result self.new.phase driver.new machine.new }
-        ensures taken { self.new.taken ≡ self.old.taken }
-        ensures driver { DriverSays (phases.Tries next form block) driver.old driver.new }
-        ensures waits { IsWait result → (driver.new ≡ driver.old) × (self.new.phase ≡ self.old.phase) }
-        ensures goes { TurnGoes (state_of machine.old) result (state_of machine.new) }
-    {
-        match form {
-            Form::First => self.try_page(alloc, next, Form::First, block, one, driver, machine),
-            Form::Track => self.track(alloc, next, block, one, machine),
-            Form::Second => self.try_page(alloc, next, Form::Second, block, one, driver, machine),
-            Form::Kick => {
-                let bits = keepers(machine, driver.cpus, one.page.enclave, block);
-                self.phase = Phase::Tries {
-                    next,
-                    form: Form::Third,
-                    block,
-                };
-                PassTurn::Kicks(bits)
-            }
-            Form::Third => {
-                let enclave = one.page.enclave;
-                let count = number_of_keepers(machine, driver.cpus, enclave, block);
-                if count > 0 {
-                    return PassTurn::Again(Why::Older { enclave, count });
-                }
-                self.try_page(alloc, next, Form::Third, block, one, driver, machine)
-            }
-        }
-    }
-
-    // The first look of a pass.
-    fn begin<S: Backing>(
-        &mut self,
-        alloc: Global,
-        driver: &mut Driver,
-        machine: &Machine,
-        store: &mut S,
-    ) -> Result<PassTurn, Memory>
-        requires counts { driver.old.states.counts ≡ driver.old.active.counts }
-        ensures begun { IfOk result (λ turn. IsBegun self.old.taken.items driver.old.marks.scan driver.old turn self.new.taken.items
-            self.new.phase driver.new) }
-        ensures told { IfOk result (λ turn. S.told store.new ≡ told_by (look_told turn) (S.told store.old)) }
-        ensures places { IfOk result (λ turn. S.spare store.new ≡ places_by (look_told turn) (S.spare store.old)) }
-        ensures plans { S.plans store.new ≡ S.plans store.old }
-        ensures cause { HasCause (S.faults store.old) (S.faults store.new)
-            (IsOkAnd result (λ turn. NoRoomIn (look_told turn))) }
-        ensures memory { OnErr result ((driver.new ≡ driver.old) × (store.new ≡ store.old)) }
-        ensures refused { OnErr result ((self.new.phase ≡ self.old.phase) × (self.new.taken.items ≡ self.old.taken.items)) }
-        ensures waits { IfOk result (λ turn. IsWait turn → (driver.new ≡ driver.old)
-            × ((self.new.phase ≡ self.old.phase) × (self.new.taken.items ≡ self.old.taken.items))) }
-        ensures rests { IfOk result (λ turn. IsWait turn → store.new ≡ store.old) }
-        ensures goes { IfOk result (λ turn. TurnGoes (state_of machine.now) turn (state_of machine.now)) }
-    {
-        if driver.all_held() {
-            return Ok(PassTurn::Again(Why::AllHeld));
-        }
-        let left = driver.marks.scan.min(driver.active.len());
-        self.scan(alloc, left, driver, machine, store)
-    }
-
-    // The block of a page.
-    fn block(&mut self, alloc: Global, next: usize, one: Taken, machine: &mut Machine) -> PassTurn
-        requires { next < length self.old.taken.items }
-        ensures block { IsBlockTurn self.old.taken.items next one (state_of machine.old) result self.new.phase (state_of machine.new) }
-        ensures taken { self.new.taken ≡ self.old.taken }
-        ensures waits { IsWait result → ⊥ }
-        ensures goes { TurnGoes (state_of machine.old) result (state_of machine.new) }
-        ensures cpus { length machine.new.cpus ≡ length machine.old.cpus }
-    {
-        let entry = step(
-            alloc,
-            machine,
-            Actor::Reclaimer,
-            Action::Block { frame: one.frame },
-        );
-        self.phase = after_block(next, self.taken.len());
-        PassTurn::One(entry)
-    }
-
-    // The track between the first two tries of a page.
-    fn track(
-        &mut self,
-        alloc: Global,
-        next: usize,
-        block: u64,
-        one: Taken,
-        machine: &mut Machine,
-    ) -> PassTurn
-        ensures track { IsTrackTurn next block one.page.enclave (state_of machine.old) result self.new.phase (state_of machine.new) }
-        ensures taken { self.new.taken ≡ self.old.taken }
-        ensures waits { IsWait result → ⊥ }
-        ensures goes { TurnGoes (state_of machine.old) result (state_of machine.new) }
-        ensures cpus { length machine.new.cpus ≡ length machine.old.cpus }
-    {
-        let enclave = one.page.enclave;
-        let entry = step(alloc, machine, Actor::Reclaimer, Action::Track { enclave });
-        self.phase = after_track(next, block, &entry);
-        turn_of_track(entry)
-    }
-
-    // A try to write a page out.
-    fn try_page(
-        &mut self,
-        alloc: Global,
-        next: usize,
-        form: Form,
-        block: u64,
-        one: Taken,
-        driver: &mut Driver,
-        machine: &mut Machine,
-    ) -> PassTurn
-        ensures tried { IsTryTurn next form block one (state_of machine.old) driver.old result self.new.phase driver.new
-            (state_of machine.new) }
-        ensures taken { self.new.taken ≡ self.old.taken }
-        ensures waits { IsWait result → (driver.new ≡ driver.old) × (self.new.phase ≡ self.old.phase) }
-        ensures goes { TurnGoes (state_of machine.old) result (state_of machine.new) }
-        ensures cpus { length machine.new.cpus ≡ length machine.old.cpus }
-    {
-        let Some(entry) = try_out(alloc, driver, machine, one.frame) else {
-            return PassTurn::NoSlot;
-        };
-        self.phase = after_try(next, form, block, &entry);
-        turn_of(entry)
-    }
-
-    // One look, with so many left.
-    fn scan<S: Backing>(
-        &mut self,
-        alloc: Global,
-        left: u32,
-        driver: &mut Driver,
-        machine: &Machine,
-        store: &mut S,
-    ) -> Result<PassTurn, Memory>
-        requires counts { driver.old.states.counts ≡ driver.old.active.counts }
-        ensures scanned { IfOk result (λ turn. IsScanned self.old.taken.items left driver.old turn self.new.taken.items self.new.phase
-            driver.new) }
-        ensures told { IfOk result (λ turn. S.told store.new ≡ told_by (look_told turn) (S.told store.old)) }
-        ensures places { IfOk result (λ turn. S.spare store.new ≡ places_by (look_told turn) (S.spare store.old)) }
-        ensures plans { S.plans store.new ≡ S.plans store.old }
-        ensures cause { HasCause (S.faults store.old) (S.faults store.new)
-            (IsOkAnd result (λ turn. NoRoomIn (look_told turn))) }
-        ensures memory { OnErr result ((driver.new ≡ driver.old) × (store.new ≡ store.old)) }
-        ensures refused { OnErr result ((self.new.phase ≡ self.old.phase) × (self.new.taken.items ≡ self.old.taken.items)) }
-        ensures waits { IfOk result (λ turn. IsWait turn → (driver.new ≡ driver.old)
-            × ((self.new.phase ≡ self.old.phase) × (self.new.taken.items ≡ self.old.taken.items))) }
-        ensures rests { IfOk result (λ turn. IsWait turn → store.new ≡ store.old) }
-        ensures goes { IfOk result (λ turn. TurnGoes (state_of machine.now) turn (state_of machine.now)) }
-    {
-        let Some(page) = driver.active.head() else {
-            return Ok(PassTurn::Again(Why::AllHeld));
-        };
-        self.taken.reserve(1)?;
-        let state = driver.states.state(page);
-        let look = look(alloc, driver, store, page)?;
-        keep(&mut self.taken, look, page, state);
-        self.phase = after_look(left.saturating_sub(1), self.taken.len());
-        let entry = Entry {
-            actor: Actor::Reclaimer,
-            event: Event::Age { page, look },
-        };
-        machine.note(&entry);
-        Ok(PassTurn::One(entry))
-    }
-}
-
-// Keeps a page that was taken, with its frame.
-fn keep(taken: &mut Vec<Taken>, look: Look, page: Page, state: PageState)
-    requires { vec_len taken.old + 1 ≤ vec_capacity taken.old }
-    ensures { taken.new.items ≡ taken.old.items ++ taken_with look page state }
+/// One turn of the reclaimer, which is what it does next where no write-out of it is open: a look, a block, a try, a track or kicks, or the
+/// reason why nothing changes. That this is what is due is a law, `turns_are_right`.
+pub fn step<S: Backing>(
+    alloc: Global,
+    pass: &mut Pass,
+    driver: &mut Driver,
+    machine: &mut Machine,
+    store: &mut S,
+) -> Result<PassTurn, Memory>
+    requires can { CanStep pass.old driver.old machine.old }
+    ensures says { IfOk result (λ turn. TurnSays pass.old driver.old machine.old turn pass.new driver.new machine.new) }
+    ensures told { IfOk result (λ turn. S.told store.new ≡ told_by (look_told turn) (S.told store.old)) }
+    ensures places { IfOk result (λ turn. S.spare store.new ≡ places_by (look_told turn) (S.spare store.old)) }
+    ensures plans { S.plans store.new ≡ S.plans store.old }
+    ensures cause { HasCause (S.faults store.old) (S.faults store.new) (IsOkAnd result (λ turn. NoRoomIn (look_told turn))) }
+    ensures memory { OnErr result ((driver.new ≡ driver.old) × (store.new ≡ store.old)) }
+    ensures machine { OnErr result (machine.new ≡ machine.old) }
+    ensures refused { OnErr result (pass.new ≡ pass.old) }
+    ensures waits { IfOk result (λ turn. IsWait turn → (driver.new ≡ driver.old) × (pass.new ≡ pass.old)) }
+    ensures rests { IfOk result (λ turn. IsWait turn → store.new ≡ store.old) }
+    ensures goes { IfOk result (λ turn. TurnGoes (state_of machine.old) turn (state_of machine.new)) }
 {
-    if let Look::Taken = look {
-        let frame = frame_in(state);
-        taken.push_reserved(Taken { page, frame });
+    match pass.aside() {
+        Aside::ToGo(one) => return Ok(go_aside(alloc, pass, driver, machine, one)),
+        Aside::Going(_) => unreachable!(),
+        Aside::None => {}
+    }
+    match due(driver, machine, pass.behind()) {
+        Some(page) => look_aside(alloc, pass, driver, machine, store, page),
+        None => go_on(alloc, pass, driver, machine, store),
     }
 }
 
-// How far the pass is behind a look, with so many looks left and so many pages taken.
-fn after_look(left: u32, taken: usize) -> Phase
-    ensures { (pages : List Taken) → length pages ≡ taken → result ≡ after_look left pages }
+// ---- beside the passes
+
+// The page that was taken goes out.
+fn go_aside(
+    alloc: Global,
+    pass: &mut Pass,
+    driver: &Driver,
+    machine: &mut Machine,
+    one: Taken,
+) -> PassTurn
+    requires can { StartsAside driver.now one }
+    ensures turn { IsAsideTurn one pass.old driver.now (state_of machine.old) result pass.new (state_of machine.new) }
+    ensures asks { look_told result ≡ None }
+    ensures waits { IsWait result → ⊥ }
+    ensures goes { TurnGoes (state_of machine.old) result (state_of machine.new) }
 {
-    if left > 0 {
-        return Phase::Scan { left };
-    }
-    if taken > 0 {
-        return Phase::Block { next: 0 };
-    }
-    Phase::Idle { works: true }
+    let entry = start_aside(alloc, driver, machine, one);
+    made(pass, entry)
 }
 
-// How far the pass is behind a block of one of so many pages.
-fn after_block(next: usize, count: usize) -> Phase
-    requires { next < count }
-    ensures { result ≡ after_block next count }
+// The look at a page that is due.
+fn look_aside<S: Backing>(
+    alloc: Global,
+    pass: &mut Pass,
+    driver: &mut Driver,
+    machine: &Machine,
+    store: &mut S,
+    page: Page,
+) -> Result<PassTurn, Memory>
+    requires placed { IsPlaced driver.old.states.counts page }
+    ensures turn { IfOk result (λ turn. IsDueLook page pass.old driver.old turn pass.new driver.new) }
+    ensures told { IfOk result (λ turn. S.told store.new ≡ told_by (look_told turn) (S.told store.old)) }
+    ensures places { IfOk result (λ turn. S.spare store.new ≡ places_by (look_told turn) (S.spare store.old)) }
+    ensures plans { S.plans store.new ≡ S.plans store.old }
+    ensures cause { HasCause (S.faults store.old) (S.faults store.new) (IsOkAnd result (λ turn. NoRoomIn (look_told turn))) }
+    ensures memory { OnErr result ((driver.new ≡ driver.old) × (store.new ≡ store.old)) }
+    ensures refused { OnErr result (pass.new ≡ pass.old) }
+    ensures waits { IfOk result (λ turn. IsWait turn → ⊥) }
+    ensures goes { IfOk result (λ turn. TurnGoes (state_of machine.now) turn (state_of machine.now)) }
 {
-    if next + 1 < count {
-        return Phase::Block { next: next + 1 };
-    }
-    Phase::Tries {
-        next: 0,
-        form: Form::First,
-        block: 0,
-    }
+    let look = room(alloc, store, page)?;
+    pass.look(driver, page, look);
+    driver.look_aside(page, look);
+    Ok(tell_look(machine, page, look))
 }
 
-// How far it is behind a track.
-fn after_track(next: usize, block: u64, entry: &Entry) -> Phase
-    ensures { result ≡ after_track next block entry.now.event }
+fn tell_look(machine: &Machine, page: Page, look: Look) -> PassTurn
+    ensures told { result ≡ turns.One (by_reclaimer (Age page look)) }
+    ensures goes { TurnGoes (state_of machine.now) result (state_of machine.now) }
 {
-    let form = match entry.event {
-        Event::Refused { .. } => Form::Track,
-        _ => Form::Second,
+    let entry = Entry {
+        actor: Actor::Reclaimer,
+        event: Event::Age { page, look },
     };
-    Phase::Tries { next, form, block }
+    machine.note(&entry);
+    PassTurn::One(entry)
 }
 
-fn turn_of_track(entry: Entry) -> PassTurn
-    ensures turn { result ≡ turn_of_track entry entry.event }
+// ---- a pass
+
+// What the pass gives.
+fn go_on<S: Backing>(
+    alloc: Global,
+    pass: &mut Pass,
+    driver: &mut Driver,
+    machine: &mut Machine,
+    store: &mut S,
+) -> Result<PassTurn, Memory>
+    requires can { CanStep pass.old driver.old machine.old }
+    ensures says { IfOk result (λ turn. StageSays pass.old.stage pass.old driver.old machine.old turn pass.new driver.new machine.new) }
+    ensures told { IfOk result (λ turn. S.told store.new ≡ told_by (look_told turn) (S.told store.old)) }
+    ensures places { IfOk result (λ turn. S.spare store.new ≡ places_by (look_told turn) (S.spare store.old)) }
+    ensures plans { S.plans store.new ≡ S.plans store.old }
+    ensures cause { HasCause (S.faults store.old) (S.faults store.new) (IsOkAnd result (λ turn. NoRoomIn (look_told turn))) }
+    ensures memory { OnErr result ((driver.new ≡ driver.old) × (store.new ≡ store.old)) }
+    ensures machine { OnErr result (machine.new ≡ machine.old) }
+    ensures refused { OnErr result (pass.new ≡ pass.old) }
+    ensures waits { IfOk result (λ turn. IsWait turn → (driver.new ≡ driver.old) × (pass.new ≡ pass.old)) }
+    ensures rests { IfOk result (λ turn. IsWait turn → store.new ≡ store.old) }
+    ensures goes { IfOk result (λ turn. TurnGoes (state_of machine.old) turn (state_of machine.new)) }
+{
+    match pass.stage() {
+        Stage::Idle { works: false } => {
+            let free = machine.free_count();
+            Ok(PassTurn::Again(Why::Enough { free }))
+        }
+        Stage::Idle { works: true } => {
+            if driver.all_held() {
+                return Ok(PassTurn::Again(Why::AllHeld));
+            }
+            scan(alloc, pass, driver, machine, store)
+        }
+        Stage::Scan { .. } => scan(alloc, pass, driver, machine, store),
+        Stage::Block { next } => match pass.page(next) {
+            Some(one) => Ok(block(alloc, pass, machine, one)),
+            None => Ok(PassTurn::Again(Why::AllHeld)),
+        },
+        Stage::Tries { next, form } => match pass.page(next) {
+            Some(one) => Ok(try_form(alloc, pass, form, one, driver, machine)),
+            None => Ok(PassTurn::Again(Why::AllHeld)),
+        },
+    }
+}
+
+// One look at the head of the list.
+fn scan<S: Backing>(
+    alloc: Global,
+    pass: &mut Pass,
+    driver: &mut Driver,
+    machine: &Machine,
+    store: &mut S,
+) -> Result<PassTurn, Memory>
+    requires counts { driver.old.states.counts ≡ driver.old.active.counts }
+    ensures scanned { IfOk result (λ turn. IsScanned pass.old driver.old turn pass.new driver.new) }
+    ensures told { IfOk result (λ turn. S.told store.new ≡ told_by (look_told turn) (S.told store.old)) }
+    ensures places { IfOk result (λ turn. S.spare store.new ≡ places_by (look_told turn) (S.spare store.old)) }
+    ensures plans { S.plans store.new ≡ S.plans store.old }
+    ensures cause { HasCause (S.faults store.old) (S.faults store.new) (IsOkAnd result (λ turn. NoRoomIn (look_told turn))) }
+    ensures memory { OnErr result ((driver.new ≡ driver.old) × (store.new ≡ store.old)) }
+    ensures refused { OnErr result (pass.new ≡ pass.old) }
+    ensures waits { IfOk result (λ turn. IsWait turn → (driver.new ≡ driver.old) × (pass.new ≡ pass.old)) }
+    ensures rests { IfOk result (λ turn. IsWait turn → store.new ≡ store.old) }
+    ensures goes { IfOk result (λ turn. TurnGoes (state_of machine.now) turn (state_of machine.now)) }
+{
+    let Some(page) = driver.active.head() else {
+        return Ok(PassTurn::Again(Why::AllHeld));
+    };
+    let look = seen(alloc, driver, store, page)?;
+    pass.look(driver, page, look);
+    driver.look(page, look);
+    Ok(tell_look(machine, page, look))
+}
+
+// The block of a page.
+fn block(alloc: Global, pass: &mut Pass, machine: &mut Machine, one: Taken) -> PassTurn
+    ensures turn { IsMadeTurn (actions.Block one.frame) pass.old (state_of machine.old) result pass.new (state_of machine.new) }
+    ensures asks { look_told result ≡ None }
     ensures waits { IsWait result → ⊥ }
-    ensures goes { (s t : State) → Carries s entry t → TurnGoes s result t }
+    ensures goes { TurnGoes (state_of machine.old) result (state_of machine.new) }
 {
-    match entry.event {
-        Event::Refused { .. } => PassTurn::Spent(entry),
-        _ => PassTurn::One(entry),
+    let entry = instruct(
+        alloc,
+        machine,
+        Actor::Reclaimer,
+        Action::Block { frame: one.frame },
+    );
+    made(pass, entry)
+}
+
+// A turn within the tries of a page.
+fn try_form(
+    alloc: Global,
+    pass: &mut Pass,
+    form: Form,
+    one: Taken,
+    driver: &mut Driver,
+    machine: &mut Machine,
+) -> PassTurn
+    requires slots { HasFreeSlots driver.old }
+    requires rests { IsResting form }
+    ensures form { FormSays form one pass.old driver.old machine.old result pass.new driver.new machine.new }
+    ensures asks { look_told result ≡ None }
+    ensures waits { IsWait result → (driver.new ≡ driver.old) × (pass.new ≡ pass.old) }
+    ensures goes { TurnGoes (state_of machine.old) result (state_of machine.new) }
+{
+    match form {
+        Form::First | Form::Second => try_page(alloc, pass, one, driver, machine),
+        Form::Track => track(alloc, pass, one, machine),
+        Form::Kick {
+            epoch,
+            is_made: false,
+        } => kick(pass, machine, one, epoch),
+        Form::Kick {
+            epoch,
+            is_made: true,
+        } => third(alloc, pass, epoch, one, driver, machine),
+        Form::Third { epoch } => third(alloc, pass, epoch, one, driver, machine),
+        Form::Kicks { .. } | Form::Sealing => unreachable!(),
     }
 }
 
-// How far it is behind a try.
-fn after_try(next: usize, form: Form, block: u64, entry: &Entry) -> Phase
-    ensures { result ≡ after_try next form block entry.now.event }
+// The track between the first two tries of a page.
+fn track(alloc: Global, pass: &mut Pass, one: Taken, machine: &mut Machine) -> PassTurn
+    ensures turn { IsMadeTurn (actions.Track one.page.enclave) pass.old (state_of machine.old) result pass.new (state_of machine.new) }
+    ensures asks { look_told result ≡ None }
+    ensures waits { IsWait result → ⊥ }
+    ensures goes { TurnGoes (state_of machine.old) result (state_of machine.new) }
 {
-    match (form, entry.event) {
-        (
-            Form::First,
-            Event::Refused {
-                why: Refusal::NotTracked { epoch, .. },
-                ..
-            },
-        ) => Phase::Tries {
-            next,
-            form: Form::Track,
-            block: epoch,
-        },
-        (
-            Form::Second,
-            Event::Refused {
-                why: Refusal::NotTracked { .. },
-                ..
-            },
-        ) => Phase::Tries {
-            next,
-            form: Form::Kick,
-            block,
-        },
-        (
-            _,
-            Event::Did {
-                action: Action::EwbStart { slot, .. },
-                ..
-            },
-        ) => Phase::Sealing { next, slot },
-        _ => Phase::Tries { next, form, block },
-    }
+    let enclave = one.page.enclave;
+    let entry = instruct(alloc, machine, Actor::Reclaimer, Action::Track { enclave });
+    made(pass, entry)
 }
 
-fn turn_of(entry: Entry) -> PassTurn
+// The kicks of those who keep a page back.
+fn kick(pass: &mut Pass, machine: &Machine, one: Taken, epoch: u64) -> PassTurn
+    ensures turn { IsKickTurn one.page.enclave epoch pass.old machine.now result pass.new }
+    ensures asks { look_told result ≡ None }
+    ensures waits { IsWait result → ⊥ }
+    ensures goes { TurnGoes (state_of machine.now) result (state_of machine.now) }
+{
+    let enclave = one.page.enclave;
+    pass.kick_all(number_of_keepers(machine, enclave, epoch));
+    PassTurn::Kicks(keepers(machine, enclave, epoch))
+}
+
+// The last try, which waits for those who keep the page back.
+fn third(
+    alloc: Global,
+    pass: &mut Pass,
+    epoch: u64,
+    one: Taken,
+    driver: &mut Driver,
+    machine: &mut Machine,
+) -> PassTurn
+    requires slots { HasFreeSlots driver.old }
+    ensures turn { IsThirdTurn epoch one pass.old driver.old machine.old result pass.new driver.new machine.new }
+    ensures asks { look_told result ≡ None }
+    ensures waits { IsWait result → (driver.new ≡ driver.old) × (pass.new ≡ pass.old) }
+    ensures goes { TurnGoes (state_of machine.old) result (state_of machine.new) }
+{
+    let enclave = one.page.enclave;
+    let count = number_of_keepers(machine, enclave, epoch);
+    if count > 0 {
+        return PassTurn::Again(Why::Older { enclave, count });
+    }
+    try_page(alloc, pass, one, driver, machine)
+}
+
+// A try to write a page out.
+fn try_page(
+    alloc: Global,
+    pass: &mut Pass,
+    one: Taken,
+    driver: &mut Driver,
+    machine: &mut Machine,
+) -> PassTurn
+    requires slots { HasFreeSlots driver.old }
+    ensures tried { IsTryTurn one pass.old driver.old (state_of machine.old) result pass.new driver.new (state_of machine.new) }
+    ensures asks { look_told result ≡ None }
+    ensures waits { IsWait result → (driver.new ≡ driver.old) × (pass.new ≡ pass.old) }
+    ensures goes { TurnGoes (state_of machine.old) result (state_of machine.new) }
+{
+    let Some(entry) = try_out(alloc, driver, machine, one.frame) else {
+        return PassTurn::Again(Why::NoSlot);
+    };
+    made(pass, entry)
+}
+
+// ---- an instruction
+
+// The pass goes on with an instruction.
+fn made(pass: &mut Pass, entry: Entry) -> PassTurn
+    requires calm { look_of entry.event ≡ None }
     ensures turn { result ≡ turn_of entry entry.event }
+    ensures pass { pass.new ≡ instructed entry.event pass.old }
+    ensures asks { look_told result ≡ None }
+    ensures waits { IsWait result → ⊥ }
+    ensures goes { (s t : State) → Carries s entry t → TurnGoes s result t }
+{
+    pass.instruct(entry.event);
+    turn_of(entry)
+}
+
+// A turn by its entry: it started a write-out, or an epoch or a version was used up, or else the pass goes on.
+fn turn_of(entry: Entry) -> PassTurn
+    requires calm { look_of entry.event ≡ None }
+    ensures turn { result ≡ turn_of entry entry.event }
+    ensures asks { look_told result ≡ None }
     ensures waits { IsWait result → ⊥ }
     ensures goes { (s t : State) → Carries s entry t → TurnGoes s result t }
 {
     match entry.event {
+        Event::Did {
+            action: Action::EwbStart { .. },
+            ..
+        } => PassTurn::Seal(entry),
         Event::Refused {
-            why: Refusal::NotTracked { .. },
+            why: Refusal::NotTracked { .. } | Refusal::SlotOccupied { .. },
             ..
         } => PassTurn::One(entry),
         Event::Refused { .. } => PassTurn::Spent(entry),
-        _ => PassTurn::Seal(entry),
+        _ => PassTurn::One(entry),
     }
 }

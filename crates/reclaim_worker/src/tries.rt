@@ -1,31 +1,33 @@
-//! What a pass does with the pages that it took: it blocks them, and writes each out.
+//! Starts of write-outs.
 
-ghost use Rattle.std.specs.Prelude.{◌≡◌, ◌∷◌, ◌≤◌, ◌<◌, false, length, IfSome, IfNone};
-ghost use Rattle.sgx_types.specs.declared.names.Actor.TheVariants as actors;
-ghost use Rattle.sgx_rules.specs.declared.entries.Action.TheVariants as actions;
-ghost use Rattle.sgx_rules.specs.declared.entries.Entry.{Entry};
+ghost use Rattle.std.specs.Prelude.{◌≡◌, IfSome, IfNone, length};
+ghost use Rattle.sgx_types.specs.Pages.{is_va_page};
+ghost use Rattle.active_list.specs.inner.Places.{IsPlaced};
 ghost use Rattle.slot_keeper.specs.inner.Keeper.{AllOut};
-ghost use Rattle.paging_machine.specs.inner.Parts.{cpu_at, state_of};
+ghost use Rattle.paging_machine.specs.inner.Parts.{state_of};
+ghost use Rattle.driver_tables.specs.inner.Targets.{fixed_in, slot_here_in};
 ghost use Rattle.driver_steps.specs.inner.Carried.{Carries};
-ghost use Rattle.reclaim_worker.specs.inner.Tried.{IsTried, is_kept_by};
-ghost use Rattle.driver_rules.specs.inner.Reclaims.{is_refused};
+ghost use Rattle.reclaim_worker.specs.inner.Ready.{HasFreeSlots};
+ghost use Rattle.reclaim_worker.specs.inner.Tried.{IsStarted, IsTried, keeps_slot, StartsAside};
 
-use cached_translations::processor::Mode;
-use driver_steps::steps::{is_refused, step};
+use driver_steps::steps::step;
 use driver_tables::driver::Driver;
 use paging_machine::machine::Machine;
+use reclaim_pass::stages::Taken;
 use sgx_rules::entries::{Action, Entry, Event};
-use sgx_types::names::{Actor, Cpu, Frame};
+use sgx_rules::refusals::Refusal;
+use sgx_types::names::{Actor, Frame};
 use std::alloc::Global;
 
-/// Starts to write out the page in a frame, into a slot that is not out. Where that is refused the slot is given back. None
-/// where every slot is out.
+/// Starts to write out the TCS or REG page in a frame, into the least slot that is not out. Where that is refused the slot is given back,
+/// unless it held a version already: then it stays out. None where every slot is out.
 pub(crate) fn try_out(
     alloc: Global,
     driver: &mut Driver,
     machine: &mut Machine,
     frame: Frame,
 ) -> Option<Entry>
+    requires slots { HasFreeSlots driver.old }
     ensures tried { IfSome result (λ e. IsTried (state_of machine.old) driver.old frame e driver.new (state_of machine.new)) }
     ensures goes { IfSome result (λ e. Carries (state_of machine.old) e (state_of machine.new)) }
     ensures none { IfNone result (AllOut driver.old.slots) }
@@ -34,30 +36,53 @@ pub(crate) fn try_out(
     ensures cpus { length machine.new.cpus ≡ length machine.old.cpus }
 {
     let slot = driver.slots.take()?;
+    let Some(at) = driver.slot_here(slot) else {
+        unreachable!();
+    };
     let entry = step(
         alloc,
         machine,
         Actor::Reclaimer,
-        Action::EwbStart { frame, slot },
+        Action::EwbStart { frame, slot: at },
     );
-    if is_refused(&entry) {
+    if !keeps_slot(&entry) {
         driver.slots.give(slot);
     }
     Some(entry)
 }
 
-/// Whether a processor keeps a page back that was blocked at an epoch: it is inside the page's enclave since that epoch or
-/// an earlier one.
-pub(crate) fn keeps_back(machine: &Machine, cpu: Cpu, enclave: u16, block: u64) -> bool
-    requires { cpu.0 < length machine.now.cpus }
-    ensures { result ≡ is_kept_by (cpu_at machine.now cpu.0).mode enclave block }
+// Whether the slot of a try is out behind it.
+fn keeps_slot(entry: &Entry) -> bool
+    ensures { result ≡ keeps_slot entry.now.event }
 {
-    match machine.mode(cpu) {
-        Mode::Outside => false,
-        Mode::Inside {
-            enclave: other,
-            epoch,
-            ..
-        } => other == enclave && epoch <= block,
+    match entry.event {
+        Event::Refused { why, .. } => matches!(why, Refusal::SlotOccupied { .. }),
+        _ => true,
     }
+}
+
+/// Starts to write out a SECS or a version array page, into its own slot.
+pub(crate) fn start_aside(
+    alloc: Global,
+    driver: &Driver,
+    machine: &mut Machine,
+    one: Taken,
+) -> Entry
+    requires can { StartsAside driver.now one }
+    ensures started { IsStarted (state_of machine.old) driver.now one result (state_of machine.new) }
+    ensures goes { Carries (state_of machine.old) result (state_of machine.new) }
+    ensures cpus { length machine.new.cpus ≡ length machine.old.cpus }
+{
+    let Some(at) = driver.slot_here(driver.fixed(one.page)) else {
+        unreachable!();
+    };
+    step(
+        alloc,
+        machine,
+        Actor::Reclaimer,
+        Action::EwbStart {
+            frame: one.frame,
+            slot: at,
+        },
+    )
 }

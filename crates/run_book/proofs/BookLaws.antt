@@ -7,8 +7,10 @@ use Rattle.job_grammar.specs.Jobs.{JobView}
 use Rattle.backing_store.specs.Calls.{Call}
 use Rattle.paging_laws.specs.inner.Histories.{StandsWithAllRules}
 use Rattle.paging_machine.specs.inner.Parts.{Parts, state_of}
+use Rattle.driver_laws.specs.inner.Agrees.{drivers, Keeping}
 use Rattle.driver_laws.specs.inner.Three.{TcsAreApart}
 use Rattle.driver_laws.proofs.EndLaws.{their_rule}
+use Rattle.driver_rules.specs.Spares.{outs_kept}
 use Rattle.driver_laws.proofs.TcsLaws.{apart_stay}
 use Rattle.driver_tables.specs.declared.driver.Driver.{Driver}
 use Rattle.driver_steps.proofs.AgreesLaws.{agrees_more}
@@ -23,16 +25,17 @@ use Rattle.run_history.proofs.RunLaws.{unforged_before}
 use Rattle.book_laws.specs.inner.Stores.{TellsStore}
 use Rattle.book_laws.proofs.StoreLaws.{tells_more}
 use Rattle.run_book.specs.inner.Books.{IsMade, KeepsBook, KeepsBytes, KeepsHonest, with_own}
+use Rattle.run_book.specs.inner.Honest.{IsHonestBook}
+use Rattle.run_book.proofs.HonestBook.{honest_goes}
 use Rattle.run_history.specs.Calls.{CallsAre}
 use Rattle.run_history.specs.Honest.{IsHonest}
-use Rattle.run_history.specs.inner.Honest.{GiftsAreLast}
-use Rattle.run_history.proofs.HonestLaws.{gifts_more, honest_before}
+use Rattle.run_history.proofs.HonestLaws.{honest_before}
 
 -- ---- holds change nothing else of the tables
 
-pub shows_with : (j : JobView) (d : Driver) (past : List Entry) (own : List (List Page)) → ShowsTables j d past
-    → ShowsTables j (with_own d own) past
-shows_with j d past own t = record {
+pub shows_with : (k : Keeping) (j : JobView) (d : Driver) (past : List Entry) (own : List (List Page)) → ShowsTables k j d past
+    → ShowsTables k j (with_own d own) past
+shows_with k j d past own t = record {
   list = t.list;
   states = t.states;
   placed = t.placed;
@@ -45,6 +48,10 @@ shows_with j d past own t = record {
   marks = t.marks;
   cpus = t.cpus;
   few = t.few;
+  enclaves = t.enclaves;
+  few_enclaves = t.few_enclaves;
+  arrays = t.arrays;
+  few_arrays = t.few_arrays;
 }
 
 agrees_with : (made : Making) (j : JobView) (past : List Entry) (d : Driver) (m : Parts) (own : List (List Page)) → Agrees made j past d m
@@ -53,13 +60,17 @@ agrees_with made j past d m own r = record {
   follows = r.follows;
   fits = r.fits;
   sound = r.sound;
+  home = r.home;
   used = r.used;
+  stand = r.stand;
+  fixed = r.fixed;
   counted = r.counted;
   built = r.built;
+  inits = r.inits;
   theirs = r.theirs;
   tracks = r.tracks;
   pages = r.pages;
-  shows = shows_with j d past own r.shows;
+  shows = shows_with (drivers j) j d past own r.shows;
   frames = r.frames;
   cpus = r.cpus;
 }
@@ -93,17 +104,15 @@ module _ (made : Making) (j : JobView) (past : List Entry) (d d' : Driver) (m m'
       (k.bytes (subst (UnforgedRun j.key past) n.store.comes.earlier (unforged_before j.key e past longer unforged))))
 
   honest_more : (told told' : Option (List Call)) → KeepsBook made j past told d m t → IsMade made j past told d m e told' d' m'
-      → IfSome told' (KeepsHonest (e ∷ past))
+      → IfSome told' (KeepsHonest made (e ∷ past) m')
   honest_more None None k n = tt
   honest_more None (Some longer) k n = absurd n.store
   honest_more (Some calls) None k n = absurd n.store
   honest_more (Some calls) (Some longer) k n = λ honest.
-      let before = k.honest (subst IsHonest n.store.comes.earlier (honest_before e.event longer honest)) in (
-        (n.honest honest, before.0),
-        gifts_more past e longer k.agrees.sound n.next.can
-            (n.store.comes.comes, subst (CallsAre past) (sym n.store.comes.earlier) k.store.store.calls_are) honest
-            (subst (GiftsAreLast past) (sym n.store.comes.earlier) before.1),
-      )
+      let before = subst (IsHonestBook made past m) (sym n.store.comes.earlier)
+      (k.honest (subst IsHonest n.store.comes.earlier (honest_before e.event longer honest))) in
+      honest_goes made j past d d' m m' e longer k.agrees n.next
+      (n.store.comes.comes, subst (CallsAre past) (sym n.store.comes.earlier) k.store.store.calls_are) honest before (n.honest honest)
 
 pub book_more : (made : Making) (j : JobView) (past : List Entry) (told told' : Option (List Call)) (d d' : Driver) (m m' : Parts)
     (t t' : Turns) (e : Entry) (own : List (List Page)) → TcsAreApart j → KeepsBook made j past told d m t
@@ -114,11 +123,12 @@ book_more made j past told told' d d' m m' t t' e own tcs k n turns holds = reco
   turns = turns;
   orderly = orderly_more j past e k.turns.valid tcs (λ p. (k.apart p).own) n.next.can n.next.script n.enters k.orderly;
   holds = holds;
-  apart = apart_stay j past e tcs k.agrees.sound n.next.script n.next.age k.apart;
+  apart = apart_stay j past (outs_kept j past) e tcs k.agrees.sound n.next.script n.next.age k.apart;
   flat = n.flat;
   script = (n.next.script, k.script);
   age = (n.next.age, k.age);
   kick = (n.next.kick, k.kick);
+  slots = (n.next.slots, k.slots);
   tracking = (n.next.tracking, k.tracking);
   store = store_more made j past d d' m m' t e own told told' k n;
   bytes = bytes_more made j past d d' m m' t e own told told' k n;

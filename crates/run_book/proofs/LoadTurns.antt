@@ -1,6 +1,6 @@
 -- The entry of a fault step is the next of what driver and machine agree on.
-use Rattle.std.proofs.Common.{◌≡◌, ◌<◌, ℕ, Bool, true, false, if◌then◌else◌, refl, sym, ◌∙◌, ap, subst, List}
-use Rattle.std.proofs.Common.{◌∷◌, Option, Some, None, MatchOption, Result, Ok, Err, length}
+use Rattle.std.proofs.Common.{◌≡◌, ◌<◌, ℕ, Bool, true, false, refl, sym, ◌∙◌, ap, subst, List}
+use Rattle.std.proofs.Common.{◌∷◌, Option, Some, None, inl, inr, Result, Ok, Err, length}
 use Rattle.sgx_rules.specs.declared.entries.Action.TheVariants.{EldStart, Eld}
 use Rattle.sgx_types.specs.declared.names.Actor.TheVariants as actors
 use Rattle.sgx_rules.specs.declared.entries.BusWhy.{BusWhy}
@@ -10,21 +10,18 @@ use Rattle.sgx_types.specs.declared.names.Cpu.{Cpu}
 use Rattle.sgx_types.specs.declared.names.Frame.{Frame}
 use Rattle.sgx_types.specs.declared.names.Page.{Page}
 use Rattle.sgx_types.specs.declared.names.SlotAt.{SlotAt}
-use Rattle.sgx_rules.specs.declared.refusals.Refusal.{Refusal}
+use Rattle.sgx_types.specs.declared.names.VaSlot.{VaSlot}
 use Rattle.sgx_rules.specs.Frames.{least_free}
 use Rattle.sgx_types.specs.Making.{Making}
+use Rattle.sgx_rules.specs.inner.Rules.{LoadsAwayRule}
 use Rattle.sgx_types.specs.Sealed.{Sealed}
 use Rattle.job_grammar.specs.Jobs.{JobView}
 use Rattle.backing_store.specs.Calls.{Call}
 use Rattle.backing_store.specs.declared.backing.StoreFault.{StoreFault}
 use Rattle.backing_store.specs.declared.backing.StoreFault.TheVariants as faults
-use Rattle.sgx_rules.specs.Table.{first_of_row}
 use Rattle.paging_laws.specs.inner.Shape.{ShapeWithRules}
-use Rattle.paging_laws.specs.inner.State.{State, row_of, version_at}
-use Rattle.paging_laws.proofs.GuardMoves.{starts_in}
-use Rattle.driver_laws.specs.inner.ByFrame.{version_in}
-use Rattle.driver_steps.proofs.SightLaws.{version_is}
-use Rattle.paging_laws.specs.inner.Steps.{IsDone, IsStep, refused_by}
+use Rattle.paging_laws.specs.inner.State.{State}
+use Rattle.paging_laws.specs.inner.Steps.{IsStep}
 use Rattle.paging_machine.specs.inner.Parts.{Parts, state_of}
 use Rattle.slot_keeper.specs.inner.Keeper.{count_out}
 use Rattle.turn_rules.specs.Script.{frame_at}
@@ -37,13 +34,17 @@ use Rattle.driver_rules.specs.Places.{Absent, Away, Here, Leaving, Loading, Plac
 use Rattle.driver_rules.specs.inner.Reclaims.{is_refused}
 use Rattle.driver_rules.specs.Stops.{is_spent}
 use Rattle.driver_rules.specs.Turns.{Fails, Last, Loads, Other, WasEnded, cpu_due, fetches, last_of}
-use Rattle.driver_laws.specs.inner.Agrees.{loaded_by}
+use Rattle.driver_rules.specs.inner.Slotted.{SlotTells}
+use Rattle.driver_laws.specs.inner.Agrees.{drivers, loaded_by}
 use Rattle.driver_laws.specs.inner.Counted.{CountMoves}
+use Rattle.driver_laws.specs.inner.Inits.{InitTells}
+use Rattle.driver_laws.specs.inner.Kinds.{CanMove}
 use Rattle.driver_laws.specs.inner.Tracking.{TrackingRule}
 use Rattle.driver_laws.specs.inner.Tracks.{TryTells}
 use Rattle.driver_laws.specs.inner.Used.{StartTells}
 use Rattle.driver_tables.specs.declared.driver.Driver.{Driver}
-use Rattle.driver_tables.specs.inner.Moves.{with_load}
+use Rattle.driver_tables.specs.inner.Tables.{ShowsTables}
+use Rattle.driver_tables.specs.inner.Targets.{slot_here_in}
 use Rattle.driver_steps.specs.inner.Agrees.{Agrees}
 use Rattle.driver_steps.specs.inner.Asked.{IsNextOf}
 use Rattle.driver_steps.specs.inner.Carried.{Carries}
@@ -52,20 +53,19 @@ use Rattle.fault_handler.specs.declared.answers.FaultAnswer.{FaultAnswer}
 use Rattle.fault_handler.specs.declared.answers.FaultAnswer.TheVariants as answers
 use Rattle.fault_handler.specs.inner.Due.{IsRight}
 use Rattle.fault_handler.specs.inner.Resolving.{IsFetch, IsGot, IsResolved, IsStarted}
-use Rattle.reclaim_worker.specs.declared.turns.Phase.{Phase}
-use Rattle.reclaim_worker.specs.declared.turns.Taken.{Taken}
-use Rattle.reclaim_worker.specs.inner.Standing.{StandsFor}
+use Rattle.reclaim_pass.specs.inner.Standing.{StandsAt}
+use Rattle.reclaim_pass.specs.inner.Viewed.{is_amid, PassView}
 use Rattle.run_book.specs.inner.Loads.{GoesOnWith, OfAnswer}
-use Rattle.table_notes.proofs.EntryLaws.{ages}
-use Rattle.run_book.proofs.PlainLaws.{beside, kicks}
+use Rattle.table_notes.proofs.EntryLaws.{entry_by, IsEntryOf}
+use Rattle.run_book.proofs.PlainLaws.{beside, kicks, others_age}
 
 -- ---- what a fault step did
 
--- a load's start
+-- a load's start, done or refused
 record IsLoadStart (cpu : Cpu) (page : Page) (d d' : Driver) (m m' : Parts) (e : Entry) : Type 0 where
   frame : Frame
-  slot : SlotAt
-  step : IsStep (state_of m) (actors.Cpu cpu) (EldStart frame page slot) e (state_of m')
+  at : SlotAt
+  step : IsStep (state_of m) (actors.Cpu cpu) (EldStart frame page at) e (state_of m')
   carries : Carries (state_of m) e (state_of m')
   slots : d'.slots ≡ d.slots
 
@@ -77,40 +77,44 @@ record IsAsBefore (d d' : Driver) (m m' : Parts) : Type 0 where
 -- by its answer
 abbrev DidSo : Cpu → Page → FaultAnswer → Driver → Driver → Parts → Parts → Type 0
 DidSo cpu page (answers.Started e work) d d' m m' = IsLoadStart cpu page d d' m m' e
+DidSo cpu page (answers.Slot e) d d' m m' = IsLoadStart cpu page d d' m m' e
 DidSo cpu page (answers.Bus why) d d' m m' = IsAsBefore d d' m m'
 DidSo cpu page answer d d' m m' = Unit {0}
 
-started : (cpu : Cpu) (page : Page) (slot : SlotAt) (f : Frame) (rec : Sealed) (answer : FaultAnswer) (d d' : Driver) (m m' : Parts)
-    → IsStarted cpu page slot f rec d m answer d' m' → DidSo cpu page answer d d' m m'
-started cpu page slot f rec answer d d' m m' is = rw is.says record {
-  frame = f;
-  slot = slot;
-  step = is.step;
-  carries = is.carries;
-  slots = ap (λ (x : Driver). x.slots) is.driver ∙ same (is_refused is.entry.event);
-}
+started : (cpu : Cpu) (page : Page) (slot : VaSlot) (at : SlotAt) (f : Frame) (rec : Sealed) (answer : FaultAnswer) (d d' : Driver)
+    (m m' : Parts) → IsStarted cpu page slot at f rec d m answer d' m' → DidSo cpu page answer d d' m m'
+started cpu page slot at f rec answer d d' m m' is = by_refused (is_refused is.entry.event) refl
   where
-    same : (b : Bool) → (if b then d else with_load d cpu page slot f rec).slots ≡ d.slots
-    same true = refl
-    same false = refl
+    start : d'.slots ≡ d.slots → IsLoadStart cpu page d d' m m' is.entry
+    start same = record { frame = f; at = at; step = is.step; carries = is.carries; slots = same }
 
-got_did : (cpu : Cpu) (page : Page) (slot : SlotAt) (f : Frame) (got : Result (Option Sealed) StoreFault) (answer : FaultAnswer)
-    (d d' : Driver) (m m' : Parts) → IsGot cpu page slot f got d m answer d' m' → DidSo cpu page answer d d' m m'
-got_did cpu page slot f (Ok (Some rec)) answer d d' m m' is = started cpu page slot f rec answer d d' m m' is
-got_did cpu page slot f (Ok None) answer d d' m m' is = rw is.says record { driver = is.driver; machine = is.machine }
-got_did cpu page slot f (Err faults.Failed) answer d d' m m' is = rw is.says record { driver = is.driver; machine = is.machine }
-got_did cpu page slot f (Err faults.Memory) answer d d' m m' is = absurd is
+    by_refused : (b : Bool) → is_refused is.entry.event ≡ b → DidSo cpu page answer d d' m m'
+    by_refused true refused =
+        let k = is.refused refused in
+        subst (λ a. DidSo cpu page a d d' m m') (sym k.0) (start (ap (λ (x : Driver). x.slots) k.1))
+    by_refused false done =
+        let k = is.started done in
+        subst (λ a. DidSo cpu page a d d' m m') (sym k.says) (start (ap (λ (x : Driver). x.slots) k.driver))
 
-fetch_did : (cpu : Cpu) (page : Page) (slot : SlotAt) (o : Option ℕ) (answer : FaultAnswer) (d d' : Driver) (m m' : Parts)
-    (told told' : Option (List Call)) → IsFetch cpu page slot o d m told answer d' m' told' → DidSo cpu page answer d d' m m'
-fetch_did cpu page slot None answer d d' m m' told told' is = rw is.does.says tt
-fetch_did cpu page slot (Some f) answer d d' m m' told told' is =
-    got_did cpu page slot (frame_at f) is.got answer d d' m m' is.does
+got_did : (cpu : Cpu) (page : Page) (slot : VaSlot) (at : SlotAt) (f : Frame) (got : Result (Option Sealed) StoreFault)
+    (answer : FaultAnswer) (d d' : Driver) (m m' : Parts) → IsGot cpu page slot at f got d m answer d' m' → DidSo cpu page answer d d' m m'
+got_did cpu page slot at f (Ok (Some rec)) answer d d' m m' is = started cpu page slot at f rec answer d d' m m' is
+got_did cpu page slot at f (Ok None) answer d d' m m' is = rw is.says record { driver = is.driver; machine = is.machine }
+got_did cpu page slot at f (Err faults.Failed) answer d d' m m' is = rw is.says record { driver = is.driver; machine = is.machine }
+got_did cpu page slot at f (Err faults.Memory) answer d d' m m' is = absurd is
+
+fetch_did : (cpu : Cpu) (page : Page) (slot : VaSlot) (at : Option SlotAt) (o : Option ℕ) (answer : FaultAnswer) (d d' : Driver)
+    (m m' : Parts) (told told' : Option (List Call)) → IsFetch cpu page slot at o d m told answer d' m' told'
+    → DidSo cpu page answer d d' m m'
+fetch_did cpu page slot None o answer d d' m m' told told' is = absurd is
+fetch_did cpu page slot (Some at) None answer d d' m m' told told' is = rw is.does.says tt
+fetch_did cpu page slot (Some at) (Some f) answer d d' m m' told told' is =
+    got_did cpu page slot at (frame_at f) is.got answer d d' m m' is.does
 
 resolved_did : (cpu : Cpu) (page : Page) (x : PageState) (answer : FaultAnswer) (d d' : Driver) (m m' : Parts)
     (told told' : Option (List Call)) → IsResolved cpu page x d m told answer d' m' told' → DidSo cpu page answer d d' m m'
 resolved_did cpu page (states.Away slot) answer d d' m m' told told' is =
-    fetch_did cpu page slot (least_free (state_of m).frames (state_of m).content) answer d d' m m' told told' is
+    fetch_did cpu page slot (slot_here_in d slot) (least_free (state_of m).frames (state_of m).content) answer d d' m m' told told' is
 resolved_did cpu page (states.Lost slot) answer d d' m m' told told' is =
     rw is.does.says record { driver = is.does.driver; machine = is.does.machine }
 resolved_did cpu page (states.Here f) answer d d' m m' told told' is = rw is.does.says tt
@@ -145,74 +149,88 @@ idle j past p page going due = by_last (last_of past p) refl
 record StartsSo (first : ℕ) (past : List Entry) (e : Entry) (old new : ℕ) : Type 0 where
   tries : TryTells past e.event
   starts : StartTells past e.event
+  inits : InitTells past e.event
   tracking : TrackingRule first past e
-  counts : CountMoves e.event old new
+  counts : CountMoves past e.event old new
+  slots : (j : JobView) → SlotTells j past e.event
 
-start_tells : (first : ℕ) (s t : State) (past : List Entry) (cpu : Cpu) (f : Frame) (page : Page) (slot : SlotAt) (e : Entry) (old new : ℕ)
-    → (slot.index < 512 → version_at s slot ≡ version_in past slot) → new ≡ old → IsStep s (actors.Cpu cpu) (EldStart f page slot) e t
-    → StartsSo first past e old new
-start_tells first s t past cpu f page slot e old new told same is =
-    by_row (first_of_row (row_of s (actors.Cpu cpu) (EldStart f page slot))) refl is
+start_tells : (first : ℕ) (s t : State) (past : List Entry) (cpu : Cpu) (f : Frame) (page : Page) (at : SlotAt) (e : Entry) (old new : ℕ)
+    → new ≡ old → IsStep s (actors.Cpu cpu) (EldStart f page at) e t → StartsSo first past e old new
+start_tells first s t past cpu f page at e old new same is = by_entry (entry_by s t (actors.Cpu cpu) (EldStart f page at) e is)
   where
-    by_row : (o : Option Refusal) → first_of_row (row_of s (actors.Cpu cpu) (EldStart f page slot)) ≡ o
-        → MatchOption o (IsDone s (actors.Cpu cpu) (EldStart f page slot) e t)
-        (λ refusal. (e ≡ refused_by (actors.Cpu cpu) (EldStart f page slot) refusal) × (t ≡ s)) → StartsSo first past e old new
-    by_row None row k = rw k.0 record {
+    by_entry : IsEntryOf s (actors.Cpu cpu) (EldStart f page at) e → StartsSo first past e old new
+    by_entry (inl k) = rw k.is record {
       tries = tt;
-      starts = told (starts_in s f.0 page slot row).within;
+      starts = tt;
+      inits = tt;
       tracking = record { stay = tt; track = tt };
       counts = same;
+      slots = λ j. tt;
     }
-    by_row (Some refusal) row k = rw k.0 record { tries = tt; starts = tt; tracking = record { stay = tt; track = tt }; counts = same }
+    by_entry (inr k) = rw k.is record {
+      tries = tt;
+      starts = tt;
+      inits = tt;
+      tracking = record { stay = tt; track = tt };
+      counts = same;
+      slots = λ j. tt;
+    }
 
-pub fault_next : (made : Making) (j : JobView) (past : List Entry) (d d' : Driver) (m m' : Parts) (taken : List Taken) (phase : Phase)
-    (cpu : Cpu) (page : Page) (answer : FaultAnswer) (told told' : Option (List Call)) → Agrees made j past d m
-    → StandsFor made.first_epoch past taken phase (pass j past) → is_spent past ≡ false → cpu.0 < length j.scripts
+pub fault_next : (made : Making) (j : JobView) (past : List Entry) (d d' : Driver) (m m' : Parts) (v : PassView) (cpu : Cpu)
+    (page asked : Page) (answer : FaultAnswer) (told told' : Option (List Call)) → Agrees made j past d m
+    → StandsAt made.first_epoch j past v → is_amid v ≡ false → is_spent past ≡ false → cpu.0 < length j.scripts
     → cpu_due j past cpu.0 ≡ fetches j.epc past page (place past page)
-    → IsResolved cpu page (page_state d.states page) d m told answer d' m' told' → IsRight j past cpu page answer d'
-    → length m'.cpus ≡ length m.cpus → ((why : BusWhy) → answer ≡ answers.Bus why → GoesOnWith made past (bus_of cpu page why) m)
-    → OfAnswer cpu page answer (λ e. IsNextOf made j past d m e d' m')
-fault_next made j past d d' m m' taken phase cpu page answer told told' r stands going mine due is right cpus bus =
-    by_answer answer right (resolved_did cpu page (page_state d.states page) answer d d' m m' told told' is) bus
+    → IsResolved cpu asked (page_state d.states asked) d m told answer d' m' told' → IsRight j past cpu page asked answer d'
+    → length m'.cpus ≡ length m.cpus → ((why : BusWhy) → answer ≡ answers.Bus why → GoesOnWith made past (bus_of cpu asked why) m)
+    → OfAnswer cpu asked answer (λ e. IsNextOf made j past d m e d' m')
+fault_next made j past d d' m m' v cpu page asked answer told told' r stands whole going mine due is right cpus bus =
+    by_answer answer right (resolved_did cpu asked (page_state d.states asked) answer d d' m m' told told' is) bus
   where
     free : loaded_by (last_of past cpu.0) ≡ None
     free = idle j past cpu.0 page going due
 
-    by_answer : (a : FaultAnswer) → IsRight j past cpu page a d' → DidSo cpu page a d d' m m'
-        → ((why : BusWhy) → a ≡ answers.Bus why → GoesOnWith made past (bus_of cpu page why) m)
-        → OfAnswer cpu page a (λ e. IsNextOf made j past d m e d' m')
-    by_answer (answers.Started e work) k did goes =
-        let so = start_tells made.first_epoch (state_of m) (state_of m') past cpu did.frame page did.slot e
-        (count_out d.slots) (count_out d'.slots)
-        (version_is made j past d m r did.slot) (ap count_out did.slots) did.step in
+    -- the start of a load
+    starts : (e : Entry) → IsLoadStart cpu asked d d' m m' e → e.actor ≡ actors.Cpu cpu
+        → IsNext (fetches j.epc past page (place past page)) e.event
+        → CanMove past e.event → LoadsAwayRule past e → ShowsTables (drivers j) j d' (e ∷ past) → IsNextOf made j past d m e d' m'
+    starts e did actor next can away shows =
+        let so = start_tells made.first_epoch (state_of m) (state_of m') past cpu did.frame asked did.at e
+        (count_out d.slots) (count_out d'.slots) (ap count_out did.slots) did.step in
         record {
-          script = record {
-            not_spent = going;
-            next = rw k.due.1 (mine, subst (λ x. IsNext x e.event) (sym due) k.due.2);
-          };
-          age = rw k.due.1 (ages j past (actors.Cpu cpu) e.event refl);
-          kick = rw k.due.1 (kicks j past (actors.Cpu cpu) e.event refl (beside made.first_epoch past taken phase (pass j past) stands));
-          can = k.kept.0;
+          script = record { not_spent = going; next = rw actor (mine, subst (λ x. IsNext x e.event) (sym due) next) };
+          age = rw actor (others_age j past (actors.Cpu cpu) e.event refl);
+          kick = rw actor (kicks j past (actors.Cpu cpu) e.event refl (beside made.first_epoch past v (pass j past) stands whole));
+          slots = so.slots j;
+          can = can;
           tries = so.tries;
           starts = so.starts;
+          inits = so.inits;
           tracking = so.tracking;
           follows = did.carries.shape made past r.follows;
-          fits = did.carries.fits made past r.follows k.kept.1 r.fits;
+          fits = did.carries.fits made past r.follows away r.fits;
           cpus = cpus;
-          shows = k.shows free;
+          shows = shows;
           counts = so.counts;
         }
+
+    by_answer : (a : FaultAnswer) → IsRight j past cpu page asked a d' → DidSo cpu asked a d d' m m'
+        → ((why : BusWhy) → a ≡ answers.Bus why → GoesOnWith made past (bus_of cpu asked why) m)
+        → OfAnswer cpu asked a (λ e. IsNextOf made j past d m e d' m')
+    by_answer (answers.Started e work) k did goes = starts e did k.due.1 k.due.2 k.kept.0 k.kept.1 (k.shows free)
+    by_answer (answers.Slot e) k did goes = starts e did k.due.1 k.due.2 k.kept.0 k.kept.1 (k.shows free).0
     by_answer (answers.Bus why) k did goes =
         let on = goes why refl in
         record {
-          script = record { not_spent = going; next = (mine, subst (λ x. IsNext x (Bus page why)) (sym due) k.due.1) };
-          age = ages j past (actors.Cpu cpu) (Bus page why) refl;
-          kick = kicks j past (actors.Cpu cpu) (Bus page why) refl (beside made.first_epoch past taken phase (pass j past) stands);
+          script = record { not_spent = going; next = (mine, subst (λ x. IsNext x (Bus asked why)) (sym due) k.due.1) };
+          age = others_age j past (actors.Cpu cpu) (Bus asked why) refl;
+          kick = kicks j past (actors.Cpu cpu) (Bus asked why) refl (beside made.first_epoch past v (pass j past) stands whole);
+          slots = tt;
           can = tt;
           tries = tt;
           starts = tt;
+          inits = tt;
           tracking = record { stay = tt; track = tt };
-          follows = subst (λ (x : Parts). ShapeWithRules made (state_of x) (bus_of cpu page why ∷ past)) (sym did.machine) on.shape;
+          follows = subst (λ (x : Parts). ShapeWithRules made (state_of x) (bus_of cpu asked why ∷ past)) (sym did.machine) on.shape;
           fits = on.fits;
           cpus = cpus;
           shows = k.shows free;

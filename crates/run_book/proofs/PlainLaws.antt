@@ -1,9 +1,9 @@
 -- An instruction that moves no page out or back is the next of what driver and machine agree on.
-use Rattle.std.proofs.Common.{◌≡◌, ◌⊎◌, inl, inr, ℕ, not, true, false, refl, sym, ◌∙◌, ap, subst, List, [], ◌∷◌}
-use Rattle.std.proofs.Common.{Option, Some, None, is_some, length}
+use Rattle.std.proofs.Common.{◌≡◌, inl, inr, ℕ, not, true, false, refl, sym, ◌∙◌, ap, subst, List, [], ◌∷◌}
+use Rattle.std.proofs.Common.{Option, Some, None, is_some, drop, length}
 use Rattle.std.proofs.lemmas.Bool.{false≢true}
 use Rattle.sgx_rules.specs.declared.entries.Action.{Action}
-use Rattle.sgx_rules.specs.declared.entries.Action.TheVariants.{Aex, Block, EldStart, Eld, Enter, Ewb, EwbStart, Exit, Resume}
+use Rattle.sgx_rules.specs.declared.entries.Action.TheVariants.{Aex, Block, EldStart, Eld, Enter, Ewb, EwbStart, Exit, Init, Resume}
 use Rattle.sgx_rules.specs.declared.entries.Action.TheVariants.{Track}
 use Rattle.sgx_types.specs.declared.names.Actor.{Actor}
 use Rattle.sgx_types.specs.declared.names.Actor.TheVariants as actors
@@ -20,24 +20,28 @@ use Rattle.sgx_types.specs.Making.{Making}
 use Rattle.sgx_rules.specs.inner.Rules.{LoadsAwayRule}
 use Rattle.sgx_rules.specs.Processors.{Stay, stay}
 use Rattle.sgx_rules.specs.Sights.{seat_of}
-use Rattle.sgx_rules.specs.Table.{aex_row, enter_row, exit_row, first_of_row, is_made, resume_row}
+use Rattle.sgx_rules.specs.Table.{aex_row, enter_row, exit_row, first_of_row, init_row, is_made, resume_row, SecsSight}
 use Rattle.sgx_rules.proofs.Rows.{none_holds}
 use Rattle.sgx_types.proofs.Truths.{not_false}
 use Rattle.job_grammar.specs.Jobs.{JobView}
 use Rattle.paging_laws.specs.inner.Columns.{HasColumns, seat_of_stay}
-use Rattle.paging_laws.specs.inner.State.{State, enter_sight, row_of}
+use Rattle.paging_laws.specs.inner.Shape.{ShapeWithRules}
+use Rattle.paging_laws.specs.inner.State.{State, enter_sight, row_of, secs_sight}
+use Rattle.driver_laws.specs.inner.Inits.{InitTells}
 use Rattle.paging_laws.specs.inner.Steps.{IsStep, did_by}
 use Rattle.paging_laws.proofs.ColumnLaws.{inside_is}
 use Rattle.paging_machine.specs.inner.Parts.{Parts, state_of}
 use Rattle.slot_keeper.specs.inner.Keeper.{count_out}
-use Rattle.driver_rules.specs.Ages.{BesideOf, FormOf, IsBeside, KickRule}
+use Rattle.driver_rules.specs.Ages.{BesideOf, FormOf, IsBeside, KeptAgeRule, KickRule}
 use Rattle.driver_rules.specs.Passes as passes
-use Rattle.driver_rules.specs.Passes.{Between, Blocking, Form, Pass, Scan, Tries, keepers, pass}
+use Rattle.driver_rules.specs.Passes.{Between, Blocking, Pass, Scan, Tries, pass}
 use Rattle.driver_rules.specs.Places.{place}
 use Rattle.driver_rules.specs.Scripts.{ScriptRule}
+use Rattle.driver_rules.specs.inner.Slotted.{SlotTells}
+use Rattle.driver_laws.specs.inner.Agrees.{drivers}
 use Rattle.driver_laws.specs.inner.Counted.{CountMoves}
 use Rattle.driver_laws.specs.inner.Kinds.{CanMove}
-use Rattle.driver_laws.specs.inner.Sound.{is_absent}
+use Rattle.driver_laws.specs.inner.Sound.{IsSound}
 use Rattle.driver_laws.specs.inner.Tracking.{StayTells, TrackingRule}
 use Rattle.driver_laws.specs.inner.Tracks.{TryTells}
 use Rattle.driver_laws.specs.inner.Used.{StartTells}
@@ -46,13 +50,16 @@ use Rattle.driver_tables.specs.inner.Tables.{ShowsTables}
 use Rattle.driver_steps.specs.inner.Agrees.{Agrees}
 use Rattle.driver_steps.specs.inner.Asked.{IsNextOf}
 use Rattle.driver_steps.specs.inner.Carried.{Carries}
-use Rattle.reclaim_worker.specs.declared.turns.Form.TheVariants as forms
-use Rattle.reclaim_worker.specs.declared.turns.Phase.{Phase}
-use Rattle.reclaim_worker.specs.declared.turns.Phase.TheVariants as phases
-use Rattle.reclaim_worker.specs.declared.turns.Taken.{Taken}
-use Rattle.reclaim_worker.specs.inner.Standing.{IsForm, StandsFor}
+use Rattle.reclaim_pass.specs.declared.stages.Form.{Form}
+use Rattle.reclaim_pass.specs.declared.stages.Form.TheVariants as forms
+use Rattle.reclaim_pass.specs.declared.stages.Stage.{Stage}
+use Rattle.reclaim_pass.specs.declared.stages.Stage.TheVariants as stages
+use Rattle.reclaim_pass.specs.declared.stages.Taken.{Taken}
+use Rattle.reclaim_pass.specs.inner.Standing.{StandsAt, StandsFor}
+use Rattle.reclaim_pass.specs.inner.Viewed.{form_in, is_amid, is_amid_stage, pass_by, PassView, tries_of}
 use Rattle.table_notes.proofs.EntryLaws.{AddsOwn, IsEntryOf, ages, did_moves, entry_by}
 use Rattle.table_notes.proofs.ArrayLaws.{adds_own}
+use Rattle.table_notes.specs.inner.Noted.{HasSecsHere}
 use Rattle.job_grammar.specs.inner.Valid.{IsValid}
 use Rattle.table_notes.specs.inner.Plain.{is_plain, is_reclaimer}
 
@@ -111,23 +118,24 @@ record AsksNothing (first : ℕ) (past : List Entry) (a : Actor) (event : Event)
   starts : StartTells past event
   tracking : TrackingRule first past (record { actor = a; event = event })
   loads : LoadsAwayRule past (record { actor = a; event = event })
+  slots : (j : JobView) → SlotTells j past event
 
 did_asks : (first : ℕ) (s : State) (past : List Entry) (a : Actor) (action : Action) (answer : Answer)
-    → is_plain action ≡ true → AddsOwn action → HasColumns s past
-    → ((g : Page) → is_some (added past g) ≡ not (is_absent (place past g))) → first_of_row (row_of s a action) ≡ None
-    → AsksNothing first past a (Did action answer)
-did_asks first s past a (Block f) answer plain own columns seen row = absurd (false≢true plain)
-did_asks first s past a (Track enclave) answer plain own columns seen row = absurd (false≢true plain)
-did_asks first s past a (EwbStart f slot) answer plain own columns seen row = absurd (false≢true plain)
-did_asks first s past a (Ewb f) answer plain own columns seen row = absurd (false≢true plain)
-did_asks first s past a (EldStart f page slot) answer plain own columns seen row = absurd (false≢true plain)
-did_asks first s past a (Eld f) answer plain own columns seen row = absurd (false≢true plain)
-did_asks first s past a action answer plain own columns seen row = record {
-  can = did_moves s past a action answer plain own columns seen row;
+    → is_plain action ≡ true → AddsOwn action → HasSecsHere past (Did action answer) → HasColumns s past
+    → IsSound past → first_of_row (row_of s a action) ≡ None → AsksNothing first past a (Did action answer)
+did_asks first s past a (Block f) answer plain own here columns sound row = absurd (false≢true plain)
+did_asks first s past a (Track enclave) answer plain own here columns sound row = absurd (false≢true plain)
+did_asks first s past a (EwbStart f slot) answer plain own here columns sound row = absurd (false≢true plain)
+did_asks first s past a (Ewb f) answer plain own here columns sound row = absurd (false≢true plain)
+did_asks first s past a (EldStart f page slot) answer plain own here columns sound row = absurd (false≢true plain)
+did_asks first s past a (Eld f) answer plain own here columns sound row = absurd (false≢true plain)
+did_asks first s past a action answer plain own here columns sound row = record {
+  can = did_moves s past a action answer plain own here columns sound row;
   tries = tt;
   starts = tt;
   tracking = record { stay = stay_tells s past a action answer columns row; track = tt };
   loads = tt;
+  slots = λ j. tt;
 }
 
 refused_asks : (first : ℕ) (past : List Entry) (a : Actor) (action : Action) (refusal : Refusal) → is_plain action ≡ true
@@ -140,16 +148,18 @@ refused_asks first past a action refusal plain = record {
   starts = tt;
   tracking = record { stay = refused_stay past a action refusal; track = tt };
   loads = tt;
+  slots = λ j. tt;
 }
 
 asks : (first : ℕ) (s t : State) (past : List Entry) (a : Actor) (action : Action) (e : Entry) → is_plain action ≡ true
-    → ((answer : Answer) → e ≡ did_by a action answer → AddsOwn action) → HasColumns s past
-    → ((g : Page) → is_some (added past g) ≡ not (is_absent (place past g))) → IsStep s a action e t
-    → AsksNothing first past e.actor e.event
-asks first s t past a action e plain own columns seen is = by_entry (entry_by s t a action e is)
+    → ((answer : Answer) → e ≡ did_by a action answer → AddsOwn action) → HasSecsHere past e.event → HasColumns s past → IsSound past
+    → IsStep s a action e t → AsksNothing first past e.actor e.event
+asks first s t past a action e plain own here columns sound is = by_entry (entry_by s t a action e is)
   where
     by_entry : IsEntryOf s a action e → AsksNothing first past e.actor e.event
-    by_entry (inl k) = rw k.is (did_asks first s past a action k.answer plain (own k.answer k.is) columns seen k.row)
+    by_entry (inl k) = rw k.is
+        (did_asks first s past a action k.answer plain (own k.answer k.is)
+        (subst (λ (x : Entry). HasSecsHere past x.event) k.is here) columns sound k.row)
     by_entry (inr k) = rw k.is (refused_asks first past a action k.refusal plain)
 
 actor_is : (s t : State) (a : Actor) (action : Action) (e : Entry) → IsStep s a action e t → e.actor ≡ a
@@ -159,33 +169,53 @@ actor_is s t a action e is = by_entry (entry_by s t a action e is)
     by_entry (inl k) = ap (λ (x : Entry). x.actor) k.is
     by_entry (inr k) = ap (λ (x : Entry). x.actor) k.is
 
+-- an enclave that it initialises was created before
+inits_tell : (made : Making) (past : List Entry) (m m' : Parts) (a : Actor) (action : Action) (e : Entry)
+    → ShapeWithRules made (state_of m) past → IsStep (state_of m) a action e (state_of m') → InitTells past e.event
+inits_tell made past m m' a action e follows is = by_entry (entry_by (state_of m) (state_of m') a action e is)
+  where
+    some : (o : Option FlatEnclave) (secs : SecsSight) → first_of_row (init_row (enclave_sight_of o) secs) ≡ None → is_some o ≡ true
+    some None secs row = cc
+    some (Some x) secs row = refl
+
+    did : (x : Action) (answer : Answer) → first_of_row (row_of (state_of m) a x) ≡ None → InitTells past (Did x answer)
+    did (Init enclave expect) answer row =
+        sym (ap is_some (enclave_is follows.shape.columns enclave))
+        ∙ some ((state_of m).enclaves enclave) (secs_sight (state_of m) enclave) row
+    did x answer row = tt
+
+    by_entry : IsEntryOf (state_of m) a action e → InitTells past e.event
+    by_entry (inl k) = rw k.is (did action k.answer k.row)
+    by_entry (inr k) = rw k.is tt
+
 -- ---- the rules on the reclaimer
 
 -- no turn ends between two kicks
-beside_form : (first : ℕ) (past : List Entry) (g : Page) (form : _) (block : ℕ) (to : Form) → IsForm first past g form block to
-    → IsBeside to
-beside_form first past g forms.First block to is = subst IsBeside (sym is) tt
-beside_form first past g forms.Track block to is = subst IsBeside (sym is.0) tt
-beside_form first past g forms.Second block to is = subst IsBeside (sym is.0) tt
-beside_form first past g forms.Kick block to is = subst IsBeside (sym is.0) tt
-beside_form first past g forms.Third block to is = by_either is.0
-  where
-    by_either : (to ≡ passes.Third) ⊎ ((to ≡ passes.ToKick) × (keepers past g ≡ [])) → IsBeside to
-    by_either (inl k) = subst IsBeside (sym k) tt
-    by_either (inr k) = subst IsBeside (sym k.0) tt
-
 abbrev pub BesidePass : Pass → Type 0
 BesidePass (Tries g rest form) = IsBeside form
 BesidePass at = Unit {0}
 
-pub beside : (first : ℕ) (past : List Entry) (taken : List Taken) (phase : Phase) (at : Pass) → StandsFor first past taken phase at
-    → BesidePass at
-beside first past taken (phases.Idle works) at is = subst BesidePass (sym is.0) tt
-beside first past taken (phases.Scan left) at is = subst BesidePass (sym is.same) tt
-beside first past taken (phases.Block next) at is = subst BesidePass (sym is.same) tt
-beside first past taken (phases.Tries next form block) at is =
-    subst BesidePass (sym is.0.same) (beside_form first past is.0.one.page form block is.0.to is.0.fits)
-beside first past taken (phases.Sealing next slot) at is = subst BesidePass (sym is.0.same) tt
+pub beside : (first : ℕ) (past : List Entry) (v : PassView) (at : Pass) → StandsFor first past v at → is_amid v ≡ false → BesidePass at
+beside first past v at is whole = subst BesidePass (sym is.same) (by_stage v.stage whole)
+  where
+    by_form : (next : ℕ) (form : Form) → is_amid_stage (stages.Tries next form) ≡ false → IsBeside (form_in v.kicks form)
+    by_form next forms.First h = tt
+    by_form next forms.Track h = tt
+    by_form next forms.Second h = tt
+    by_form next (forms.Kick epoch made) h = tt
+    by_form next (forms.Kicks epoch place) h = cc
+    by_form next (forms.Third epoch) h = tt
+    by_form next forms.Sealing h = tt
+
+    by_pages : (ts : List Taken) (to : passes.Form) → IsBeside to → BesidePass (tries_of ts to)
+    by_pages [] to h = tt
+    by_pages (t ∷ ts) to h = h
+
+    by_stage : (stage : Stage) → is_amid_stage stage ≡ false → BesidePass (pass_by v.taken v.kicks stage)
+    by_stage (stages.Idle works) h = tt
+    by_stage (stages.Scan left) h = tt
+    by_stage (stages.Block next) h = tt
+    by_stage (stages.Tries next form) h = by_pages (drop next v.taken) (form_in v.kicks form) (by_form next form h)
 
 pub kicks : (j : JobView) (past : List Entry) (a : Actor) (event : Event) → is_reclaimer a ≡ false → BesidePass (pass j past)
     → KickRule j past (record { actor = a; event = event })
@@ -213,25 +243,34 @@ kicks j past a event other h = record { form = form a (pass j past) other; besid
     is_beside (actors.Cpu p) (Tries g rest to) k x = x
     is_beside actors.Reclaimer at k x = absurd (false≢true (sym k))
 
+pub others_age : (j : JobView) (past : List Entry) (a : Actor) (event : Event) → is_reclaimer a ≡ false
+    → KeptAgeRule j past (record { actor = a; event = event })
+others_age j past actors.Builder event other = tt
+others_age j past (actors.Cpu p) event other = tt
+others_age j past actors.Reclaimer event other = absurd (false≢true (sym other))
+
 -- ---- all of it
 
-pub plain_next : (made : Making) (j : JobView) (past : List Entry) (d d' : Driver) (m m' : Parts) (taken : List Taken) (phase : Phase)
-    (a : Actor) (action : Action) (e : Entry) → is_reclaimer a ≡ false → is_plain action ≡ true → IsValid j → Agrees made j past d m
-    → StandsFor made.first_epoch past taken phase (pass j past) → ScriptRule j past e → IsStep (state_of m) a action e (state_of m')
-    → Carries (state_of m) e (state_of m') → length m'.cpus ≡ length m.cpus → ShowsTables j d' (e ∷ past)
-    → CountMoves e.event (count_out d.slots) (count_out d'.slots) → IsNextOf made j past d m e d' m'
-plain_next made j past d d' m m' taken phase a action e other plain valid r stands script is carries cpus shows counts =
+pub plain_next : (made : Making) (j : JobView) (past : List Entry) (d d' : Driver) (m m' : Parts) (v : PassView) (a : Actor)
+    (action : Action) (e : Entry) → is_reclaimer a ≡ false → is_plain action ≡ true → IsValid j → Agrees made j past d m
+    → StandsAt made.first_epoch j past v → is_amid v ≡ false → ScriptRule j past e → HasSecsHere past e.event
+    → IsStep (state_of m) a action e (state_of m') → Carries (state_of m) e (state_of m') → length m'.cpus ≡ length m.cpus
+    → ShowsTables (drivers j) j d' (e ∷ past)
+    → CountMoves past e.event (count_out d.slots) (count_out d'.slots) → IsNextOf made j past d m e d' m'
+plain_next made j past d d' m m' v a action e other plain valid r stands whole script here is carries cpus shows counts =
     let k = asks made.first_epoch (state_of m) (state_of m') past a action e plain
     (λ answer did. adds_own j past a action answer other valid (subst (ScriptRule j past) did script))
-    r.follows.shape.columns r.sound.added is in
+    here r.follows.shape.columns r.sound is in
     let by : is_reclaimer e.actor ≡ false = ap is_reclaimer (actor_is (state_of m) (state_of m') a action e is) ∙ other in
     record {
       script = script;
-      age = ages j past e.actor e.event by;
-      kick = kicks j past e.actor e.event by (beside made.first_epoch past taken phase (pass j past) stands);
+      age = others_age j past e.actor e.event by;
+      kick = kicks j past e.actor e.event by (beside made.first_epoch past v (pass j past) stands whole);
+      slots = k.slots j;
       can = k.can;
       tries = k.tries;
       starts = k.starts;
+      inits = inits_tell made past m m' a action e r.follows is;
       tracking = k.tracking;
       follows = carries.shape made past r.follows;
       fits = carries.fits made past r.follows k.loads r.fits;

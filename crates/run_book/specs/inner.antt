@@ -1,3 +1,4 @@
+pub mod Honest
 pub mod Books
 pub mod Turns
 pub mod Loads

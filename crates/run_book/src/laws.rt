@@ -1,13 +1,12 @@
 //! That the book goes on. A law is the contract of a function without arguments.
 
-ghost use Rattle.std.specs.Prelude.{ℕ, ◌≡◌, ◌≤◌, ◌<◌, true, false, List, ◌∷◌, Option, length};
+ghost use Rattle.std.specs.Prelude.{ℕ, ◌≡◌, ◌≤◌, ◌<◌, Bool, true, false, List, ◌∷◌, Option, length};
 ghost use Rattle.backing_store.specs.Calls.{Call};
 ghost use Rattle.driver_laws.specs.inner.Three.{TcsAreApart};
 ghost use Rattle.driver_tables.specs.declared.driver.Driver.{Driver};
 ghost use Rattle.job_grammar.specs.inner.Valid.{IsValid};
 ghost use Rattle.job_grammar.specs.Jobs.{JobView};
 ghost use Rattle.driver_laws.specs.inner.Counted.{CountMoves};
-ghost use Rattle.driver_rules.specs.Passes.{pass};
 ghost use Rattle.driver_rules.specs.Scripts.{ScriptRule};
 ghost use Rattle.driver_steps.specs.inner.Agrees.{Agrees};
 ghost use Rattle.driver_steps.specs.inner.Asked.{IsNextOf};
@@ -15,7 +14,6 @@ ghost use Rattle.driver_steps.specs.inner.Carried.{Carries};
 ghost use Rattle.driver_tables.specs.inner.Tables.{ShowsTables};
 ghost use Rattle.paging_laws.specs.inner.Steps.{IsStep};
 ghost use Rattle.paging_machine.specs.inner.Parts.{Parts, state_of};
-ghost use Rattle.driver_rules.specs.inner.Reclaims.{pass_due};
 ghost use Rattle.driver_rules.specs.Places.{place};
 ghost use Rattle.driver_rules.specs.Stops.{is_spent};
 ghost use Rattle.driver_rules.specs.Turns.{Loads, cpu_due, fetches, last_of};
@@ -37,18 +35,20 @@ ghost use Rattle.reclaim_worker.specs.inner.Going.{TurnGoes};
 ghost use Rattle.reclaim_worker.specs.inner.Ready.{Ready};
 ghost use Rattle.reclaim_worker.specs.inner.Stored.{StoredSays};
 ghost use Rattle.reclaim_worker.specs.inner.Kept.{TurnKeeps};
-ghost use Rattle.reclaim_worker.specs.inner.Rests.{DriverSays};
 ghost use Rattle.reclaim_worker.specs.inner.Shown.{ShowsAfter};
-ghost use Rattle.reclaim_worker.specs.inner.Standing.{StandsFor, is_kicked};
-ghost use Rattle.reclaim_worker.specs.inner.Turning.{TurnSays};
+ghost use Rattle.reclaim_pass.specs.inner.Standing.{StandsAt};
+ghost use Rattle.reclaim_pass.specs.inner.Noted.{instructed};
+ghost use Rattle.reclaim_pass.specs.inner.Viewed.{is_amid, PassView};
+ghost use Rattle.driver_rules.specs.Spares.{outs_kept};
+ghost use Rattle.driver_rules.specs.inner.Reclaims.{going_due};
+ghost use Rattle.driver_laws.specs.inner.Agrees.{drivers};
 ghost use Rattle.reclaim_worker.specs.declared.turns.PassTurn.{PassTurn};
 ghost use Rattle.run_book.specs.inner.Turns.{OfEntry};
+ghost use Rattle.table_notes.specs.inner.Noted.{HasSecsHere};
 ghost use Rattle.table_notes.specs.inner.Plain.{is_plain, is_reclaimer};
 ghost use Rattle.sgx_rules.specs.declared.entries.Action.{Action};
 ghost use Rattle.sgx_types.specs.declared.names.Actor.{Actor};
 ghost use Rattle.slot_keeper.specs.inner.Keeper.{count_out};
-ghost use Rattle.reclaim_worker.specs.declared.turns.Phase.{Phase};
-ghost use Rattle.reclaim_worker.specs.declared.turns.Taken.{Taken};
 ghost use Rattle.run_book.specs.inner.Books.{IsMade, KeepsBook, with_own};
 ghost use Rattle.sgx_types.specs.Making.{Making};
 ghost use Rattle.sgx_rules.specs.declared.entries.Entry.{Entry};
@@ -68,64 +68,52 @@ pub fn the_book_goes_on()
 /// An instruction of the builder or of a processor that moves no page out or back, and that is its actor's next, is one with which driver
 /// and machine go on to agree: by the machine's own clauses, where the tables show it.
 pub fn instructions_are_next()
-    ensures { (made : Making) (j : JobView) (past : List Entry) (d d' : Driver) (m m' : Parts) (taken : List Taken) (phase : Phase)
-        (actor : Actor) (action : Action) (e : Entry) → is_reclaimer actor ≡ false → is_plain action ≡ true → IsValid j
-        → Agrees made j past d m
-        → StandsFor made.first_epoch past taken phase (pass j past) → ScriptRule j past e
+    ensures { (made : Making) (j : JobView) (past : List Entry) (d d' : Driver) (m m' : Parts) (v : PassView) (actor : Actor)
+        (action : Action) (e : Entry) → is_reclaimer actor ≡ false → is_plain action ≡ true → IsValid j → Agrees made j past d m
+        → StandsAt made.first_epoch j past v → is_amid v ≡ false → ScriptRule j past e → HasSecsHere past e.event
         → IsStep (state_of m) actor action e (state_of m') → Carries (state_of m) e (state_of m') → length m'.cpus ≡ length m.cpus
-        → ShowsTables j d' (e ∷ past) → CountMoves e.event (count_out d.slots) (count_out d'.slots) → IsNextOf made j past d m e d' m' }
+        → ShowsTables (drivers j) j d' (e ∷ past) → CountMoves past e.event (count_out d.slots) (count_out d'.slots)
+        → IsNextOf made j past d m e d' m' }
 {}
 
-/// The entry of a turn of a pass is one with which driver and machine go on to agree, where the run was not stopped, versions begin
-/// above 0, and as many slots are out behind it as it says.
+/// The entry of a turn of a pass is one with which driver and machine go on to agree, where the run was not stopped, and versions begin
+/// above 0.
 pub fn turns_of_a_pass_are_next()
-    ensures { (made : Making) (j : JobView) (past : List Entry) (d d' : Driver) (m m' : Parts) (taken : List Taken) (phase : Phase)
-        (turn : PassTurn) → 1 ≤ made.first_version → Agrees made j past d m → StandsFor made.first_epoch past taken phase (pass j past)
-        → is_spent past ≡ false → IsTurn made past d.slots (pass_due j past (is_kicked phase) (pass j past)) turn
-        → TurnKeeps j past (pass j past) turn → TurnGoes (state_of m) turn (state_of m') → length m'.cpus ≡ length m.cpus
-        → ShowsAfter j past (pass j past) turn d'
-        → OfEntry turn (λ e. CountMoves e.event (count_out d.slots) (count_out d'.slots))
+    ensures { (made : Making) (j : JobView) (past : List Entry) (d d' : Driver) (m m' : Parts) (kicked : Bool) (turn : PassTurn)
+        → 1 ≤ made.first_version → Agrees made j past d m → is_spent past ≡ false
+        → IsTurn made j past d.slots (going_due j past (outs_kept j past) kicked) turn → TurnKeeps made.first_epoch j past turn
+        → TurnGoes (state_of m) turn (state_of m') → length m'.cpus ≡ length m.cpus → ShowsAfter j past d turn d'
         → OfEntry turn (λ e. IsNextOf made j past d m e d' m') }
 {}
 
-/// As many slots are out behind a turn of a pass as its entry says: one more where a write-out has started, else as many as before.
-pub fn turns_of_a_pass_count_slots()
-    ensures { (taken taken' : List Taken) (phase phase' : Phase) (d d' : Driver) (m m' : Parts) (turn : PassTurn)
-        → TurnSays taken phase d m turn taken' phase' d' m' → DriverSays phase d d'
-        → OfEntry turn (λ e. CountMoves e.event (count_out d.slots) (count_out d'.slots)) }
-{}
-
-/// The entry of a fault step that is due to a processor is one with which driver and machine go on to agree: the start of a load; or why
-/// its page does not come back, where the machine goes on with that note.
+/// The entry of a fault step that is due to a processor is one with which driver and machine go on to agree: the start of a load, done or
+/// refused; or why its page does not come back, where the machine goes on with that note.
 pub fn fault_steps_are_next()
-    ensures { (made : Making) (j : JobView) (past : List Entry) (d d' : Driver) (m m' : Parts)
-        (taken : List Taken) (phase : Phase) (cpu : Cpu)
-        (page : Page) (answer : FaultAnswer) (told told' : Option (List Call)) → Agrees made j past d m
-        → StandsFor made.first_epoch past taken phase (pass j past) → is_spent past ≡ false → cpu.0 < length j.scripts
+    ensures { (made : Making) (j : JobView) (past : List Entry) (d d' : Driver) (m m' : Parts) (v : PassView) (cpu : Cpu)
+        (page asked : Page) (answer : FaultAnswer) (told told' : Option (List Call)) → Agrees made j past d m
+        → StandsAt made.first_epoch j past v → is_amid v ≡ false → is_spent past ≡ false → cpu.0 < length j.scripts
         → cpu_due j past cpu.0 ≡ fetches j.epc past page (place past page)
-        → IsResolved cpu page (page_state d.states page) d m told answer d' m' told' → IsRight j past cpu page answer d'
+        → IsResolved cpu asked (page_state d.states asked) d m told answer d' m' told' → IsRight j past cpu page asked answer d'
         → length m'.cpus ≡ length m.cpus
-        → ((why : BusWhy) → answer ≡ answers.Bus why → GoesOnWith made past (bus_of cpu page why) m)
-        → OfAnswer cpu page answer (λ e. IsNextOf made j past d m e d' m') }
+        → ((why : BusWhy) → answer ≡ answers.Bus why → GoesOnWith made past (bus_of cpu asked why) m)
+        → OfAnswer cpu asked answer (λ e. IsNextOf made j past d m e d' m') }
 {}
 
 /// The end of a load by the processor that has it to end is one with which driver and machine go on to agree.
 pub fn ends_of_loads_are_next()
-    ensures { (made : Making) (j : JobView) (past : List Entry) (d d' : Driver) (m m' : Parts)
-        (taken : List Taken) (phase : Phase) (cpu : Cpu)
-        (page : Page) (n : ℕ) (loaded : Loaded) (can : CanFinish cpu page d m) → Agrees made j past d m
-        → StandsFor made.first_epoch past taken phase (pass j past) → is_spent past ≡ false → cpu.0 < length j.scripts
-        → last_of past cpu.0 ≡ Loads n page → IsFinished cpu page can.slot can.frame can.kept d (state_of m) loaded d' (state_of m')
+    ensures { (made : Making) (j : JobView) (past : List Entry) (d d' : Driver) (m m' : Parts) (v : PassView) (cpu : Cpu) (page : Page)
+        (n : ℕ) (loaded : Loaded) (can : CanFinish cpu page d m) → Agrees made j past d m → StandsAt made.first_epoch j past v
+        → is_amid v ≡ false → is_spent past ≡ false → cpu.0 < length j.scripts → last_of past cpu.0 ≡ Loads n page
+        → IsFinished cpu page can.slot can.frame can.kept d (state_of m) loaded d' (state_of m')
         → IsRightEnd j past cpu page can.frame loaded d' → length m'.cpus ≡ length m.cpus
         → IsNextOf made j past d m (entry_in loaded) d' m' }
 {}
 
 /// The end of a write-out is one with which driver and machine go on to agree.
 pub fn write_outs_are_next()
-    ensures { (made : Making) (j : JobView) (past : List Entry) (d d' : Driver) (m m' : Parts) (taken : List Taken) (phase : Phase)
-        (told told' : Option (List Call)) (faults faults' : ℕ) (e : Entry) (after : List Taken) (behind : Phase) → Agrees made j past d m
-        → Ready made j past taken phase d m → is_spent past ≡ false
-        → StoredSays taken phase (state_of m) d told faults e (state_of m') d' told' faults'
-        → IsEnded made.first_epoch j past e after behind d' → GoesOnWith made past e m' → length m'.cpus ≡ length m.cpus
+    ensures { (made : Making) (j : JobView) (past : List Entry) (d d' : Driver) (m m' : Parts) (v : PassView)
+        (told told' : Option (List Call)) (faults faults' : ℕ) (e : Entry) → Ready made j past v d m → is_spent past ≡ false
+        → StoredSays v (state_of m) d told faults e (state_of m') d' told' faults'
+        → IsEnded made.first_epoch j past d e (instructed e.event v) d' → GoesOnWith made past e m' → length m'.cpus ≡ length m.cpus
         → IsNextOf made j past d m e d' m' }
 {}

@@ -1,7 +1,7 @@
 -- The entry of a fault step carries the standing on: the start of a load by its own clause, and why a page does not come back by the
 -- machine's.
 use Rattle.std.specs.Prelude.{IfSome}
-use Rattle.std.proofs.Common.{◌≡◌, ℕ, false, refl, sym, ap, subst, List, Option, Some, None, MatchOption, Result, Ok, Err}
+use Rattle.std.proofs.Common.{◌≡◌, ℕ, Bool, true, false, refl, sym, ap, subst, List, Option, Some, None, MatchOption, Result, Ok, Err}
 use Rattle.sgx_rules.specs.declared.entries.Action.TheVariants.{EldStart}
 use Rattle.sgx_types.specs.declared.names.Actor.TheVariants as actors
 use Rattle.sgx_rules.specs.declared.entries.BusWhy.{BusWhy}
@@ -10,6 +10,7 @@ use Rattle.sgx_types.specs.declared.names.Cpu.{Cpu}
 use Rattle.sgx_types.specs.declared.names.Frame.{Frame}
 use Rattle.sgx_types.specs.declared.names.Page.{Page}
 use Rattle.sgx_types.specs.declared.names.SlotAt.{SlotAt}
+use Rattle.sgx_types.specs.declared.names.VaSlot.{VaSlot}
 use Rattle.sgx_rules.specs.declared.refusals.Refusal.{Refusal}
 use Rattle.sgx_rules.specs.Frames.{least_free}
 use Rattle.sgx_types.specs.Making.{Making}
@@ -26,7 +27,9 @@ use Rattle.turn_rules.specs.Script.{frame_at}
 use Rattle.active_list.specs.declared.page_states.PageState.{PageState}
 use Rattle.active_list.specs.declared.page_states.PageState.TheVariants as states
 use Rattle.driver_steps.specs.inner.Carried.{Carries}
+use Rattle.driver_rules.specs.inner.Reclaims.{is_refused}
 use Rattle.driver_tables.specs.declared.driver.Driver.{Driver}
+use Rattle.driver_tables.specs.inner.Targets.{slot_here_in}
 use Rattle.driver_calls.specs.inner.Comes.{bus_of}
 use Rattle.fault_handler.specs.declared.answers.FaultAnswer.{FaultAnswer}
 use Rattle.fault_handler.specs.declared.answers.FaultAnswer.TheVariants as answers
@@ -55,33 +58,39 @@ start_quiet s t cpu f page slot e = by_row (first_of_row (row_of s (actors.Cpu c
 -- by its answer
 abbrev DidSo : FaultAnswer → Parts → Parts → Type 0
 DidSo (answers.Started e work) m m' = IsLoadStart m m' e
+DidSo (answers.Slot e) m m' = IsLoadStart m m' e
 DidSo (answers.Bus why) m m' = m' ≡ m
 DidSo answer m m' = Unit {0}
 
-started : (cpu : Cpu) (page : Page) (slot : SlotAt) (f : Frame) (rec : Sealed) (answer : FaultAnswer) (d d' : Driver) (m m' : Parts)
-    → IsStarted cpu page slot f rec d m answer d' m' → DidSo answer m m'
-started cpu page slot f rec answer d d' m m' is = rw is.says record {
-  carries = is.carries;
-  quiet = start_quiet (state_of m) (state_of m') cpu f page slot is.entry is.step;
-}
+started : (cpu : Cpu) (page : Page) (slot : VaSlot) (at : SlotAt) (f : Frame) (rec : Sealed) (answer : FaultAnswer) (d d' : Driver)
+    (m m' : Parts) → IsStarted cpu page slot at f rec d m answer d' m' → DidSo answer m m'
+started cpu page slot at f rec answer d d' m m' is = by_refused (is_refused is.entry.event) refl
+  where
+    start : IsLoadStart m m' is.entry
+    start = record { carries = is.carries; quiet = start_quiet (state_of m) (state_of m') cpu f page at is.entry is.step }
 
-got_did : (cpu : Cpu) (page : Page) (slot : SlotAt) (f : Frame) (got : Result (Option Sealed) StoreFault) (answer : FaultAnswer)
-    (d d' : Driver) (m m' : Parts) → IsGot cpu page slot f got d m answer d' m' → DidSo answer m m'
-got_did cpu page slot f (Ok (Some rec)) answer d d' m m' is = started cpu page slot f rec answer d d' m m' is
-got_did cpu page slot f (Ok None) answer d d' m m' is = rw is.says is.machine
-got_did cpu page slot f (Err faults.Failed) answer d d' m m' is = rw is.says is.machine
-got_did cpu page slot f (Err faults.Memory) answer d d' m m' is = absurd is
+    by_refused : (b : Bool) → is_refused is.entry.event ≡ b → DidSo answer m m'
+    by_refused true refused = subst (λ a. DidSo a m m') (sym (is.refused refused).0) start
+    by_refused false done = subst (λ a. DidSo a m m') (sym (is.started done).says) start
 
-fetch_did : (cpu : Cpu) (page : Page) (slot : SlotAt) (o : Option ℕ) (answer : FaultAnswer) (d d' : Driver) (m m' : Parts)
-    (told told' : Option (List Call)) → IsFetch cpu page slot o d m told answer d' m' told' → DidSo answer m m'
-fetch_did cpu page slot None answer d d' m m' told told' is = rw is.does.says tt
-fetch_did cpu page slot (Some f) answer d d' m m' told told' is =
-    got_did cpu page slot (frame_at f) is.got answer d d' m m' is.does
+got_did : (cpu : Cpu) (page : Page) (slot : VaSlot) (at : SlotAt) (f : Frame) (got : Result (Option Sealed) StoreFault)
+    (answer : FaultAnswer) (d d' : Driver) (m m' : Parts) → IsGot cpu page slot at f got d m answer d' m' → DidSo answer m m'
+got_did cpu page slot at f (Ok (Some rec)) answer d d' m m' is = started cpu page slot at f rec answer d d' m m' is
+got_did cpu page slot at f (Ok None) answer d d' m m' is = rw is.says is.machine
+got_did cpu page slot at f (Err faults.Failed) answer d d' m m' is = rw is.says is.machine
+got_did cpu page slot at f (Err faults.Memory) answer d d' m m' is = absurd is
+
+fetch_did : (cpu : Cpu) (page : Page) (slot : VaSlot) (at : Option SlotAt) (o : Option ℕ) (answer : FaultAnswer) (d d' : Driver)
+    (m m' : Parts) (told told' : Option (List Call)) → IsFetch cpu page slot at o d m told answer d' m' told' → DidSo answer m m'
+fetch_did cpu page slot None o answer d d' m m' told told' is = absurd is
+fetch_did cpu page slot (Some at) None answer d d' m m' told told' is = rw is.does.says tt
+fetch_did cpu page slot (Some at) (Some f) answer d d' m m' told told' is =
+    got_did cpu page slot at (frame_at f) is.got answer d d' m m' is.does
 
 resolved_did : (cpu : Cpu) (page : Page) (x : PageState) (answer : FaultAnswer) (d d' : Driver) (m m' : Parts)
     (told told' : Option (List Call)) → IsResolved cpu page x d m told answer d' m' told' → DidSo answer m m'
 resolved_did cpu page (states.Away slot) answer d d' m m' told told' is =
-    fetch_did cpu page slot (least_free (state_of m).frames (state_of m).content) answer d d' m m' told told' is
+    fetch_did cpu page slot (slot_here_in d slot) (least_free (state_of m).frames (state_of m).content) answer d d' m m' told told' is
 resolved_did cpu page (states.Lost slot) answer d d' m m' told told' is = rw is.does.says is.does.machine
 resolved_did cpu page (states.Here f) answer d d' m m' told told' is = rw is.does.says tt
 resolved_did cpu page states.Absent answer d d' m m' told told' is = rw is.does.says tt
@@ -106,6 +115,8 @@ answer_bytes made j past d d' m m' cpu page state answer told told' is =
         → ((why : BusWhy) → a ≡ answers.Bus why → StaysWith (state_of m) (bus_of cpu page why))
         → OfAnswer cpu page a (λ e. IfSome told' (CarriesBytes made j past m e m'))
     by_answer (answers.Started e work) did stays =
+        all_told (CarriesBytes made j past m e m') told' (λ longer. step_bytes made j past m m' e longer did.carries did.quiet)
+    by_answer (answers.Slot e) did stays =
         all_told (CarriesBytes made j past m e m') told' (λ longer. step_bytes made j past m m' e longer did.carries did.quiet)
     by_answer (answers.Bus why) did stays =
         subst (λ (x : Parts). IfSome told' (CarriesBytes made j past m (bus_of cpu page why) x)) (sym did)

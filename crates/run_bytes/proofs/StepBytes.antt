@@ -28,9 +28,8 @@ use Rattle.paging_laws.specs.inner.Steps.{IsStep}
 use Rattle.paging_machine.specs.inner.Parts.{Parts, state_of}
 use Rattle.driver_steps.specs.inner.Carried.{Carries}
 use Rattle.driver_tables.specs.declared.driver.Driver.{Driver}
-use Rattle.reclaim_worker.specs.declared.turns.Phase.{Phase}
-use Rattle.reclaim_worker.specs.declared.turns.Phase.TheVariants as phases
-use Rattle.reclaim_worker.specs.declared.turns.Taken.{Taken}
+use Rattle.reclaim_pass.specs.declared.stages.Taken.{Taken}
+use Rattle.reclaim_pass.specs.inner.Viewed.{PassView, sealing_in}
 use Rattle.reclaim_worker.specs.inner.Stored.{IsStored, StoredSays}
 use Rattle.run_history.specs.Calls.{before}
 use Rattle.run_history.specs.Given.{made_in, made_more}
@@ -115,13 +114,13 @@ put_bytes made j past m m' e f g page version rec failed calls is goes unforged 
     same : given_out e.event rec ≡ made_more e.event (Put g rec failed ∷ calls)
     same = ap (λ event. given_out event rec) is ∙ sym (ap (λ event. made_more event (Put g rec failed ∷ calls)) is)
 
-pub stored_bytes : (made : Making) (j : JobView) (past : List Entry) (d d' : Driver) (m m' : Parts) (taken : List Taken) (phase : Phase)
+pub stored_bytes : (made : Making) (j : JobView) (past : List Entry) (d d' : Driver) (m m' : Parts) (v : PassView)
     (told told' : Option (List Call)) (faults faults' : ℕ) (e : Entry)
-    → StoredSays taken phase (state_of m) d told faults e (state_of m') d' told' faults'
+    → StoredSays v (state_of m) d told faults e (state_of m') d' told' faults'
     → IfSome told' (CarriesBytes made j past m e m')
-stored_bytes made j past d d' m m' taken (phases.Sealing next slot) told told' faults faults' e says = by_page (slice_get taken next) says
+stored_bytes made j past d d' m m' v told told' faults faults' e says = by_page (sealing_in v) says
   where
-    by_told : (one : Taken) → (k : IsStored one slot (state_of m) d told faults e (state_of m') d' told' faults') → (t : Option (List Call))
+    by_told : (one : Taken) → (k : IsStored one (state_of m) d told faults e (state_of m') d' told' faults') → (t : Option (List Call))
         → IfSome (with_call (Put one.page k.rec k.failed) t) (CarriesBytes made j past m e m')
     by_told one k None = tt
     by_told one k (Some calls) =
@@ -129,11 +128,7 @@ stored_bytes made j past d d' m m' taken (phases.Sealing next slot) told told' f
         (ap (λ (x : Entry). x.event) k.out.entry) (k.history made past)
 
     by_page : (o : Option Taken)
-        → IsSomeAnd o (λ one. IsStored one slot (state_of m) d told faults e (state_of m') d' told' faults')
+        → IsSomeAnd o (λ one. IsStored one (state_of m) d told faults e (state_of m') d' told' faults')
         → IfSome told' (CarriesBytes made j past m e m')
     by_page None k = absurd k
     by_page (Some one) k = subst (λ t. IfSome t (CarriesBytes made j past m e m')) (sym k.call) (by_told one k told)
-stored_bytes made j past d d' m m' taken (phases.Idle works) told told' faults faults' e says = absurd says
-stored_bytes made j past d d' m m' taken (phases.Scan left) told told' faults faults' e says = absurd says
-stored_bytes made j past d d' m m' taken (phases.Block next) told told' faults faults' e says = absurd says
-stored_bytes made j past d d' m m' taken (phases.Tries next form block) told told' faults faults' e says = absurd says

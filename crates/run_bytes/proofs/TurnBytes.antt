@@ -5,6 +5,8 @@ use Rattle.sgx_rules.specs.declared.entries.Answer.TheVariants as answers
 use Rattle.sgx_rules.specs.declared.entries.Entry.{Entry}
 use Rattle.sgx_rules.specs.declared.entries.Event.TheVariants.{Did, Refused}
 use Rattle.sgx_types.specs.declared.names.SlotAt.{SlotAt}
+use Rattle.sgx_types.specs.declared.names.Page.{Page}
+use Rattle.sgx_types.specs.Pages.{is_own_page}
 use Rattle.sgx_types.specs.declared.names.TheConstants.{LAST_EPOCH}
 use Rattle.sgx_rules.specs.declared.refusals.Refusal.TheVariants as why
 use Rattle.sgx_rules.specs.Epochs.{epoch, epoch_in}
@@ -19,7 +21,7 @@ use Rattle.turn_rules.specs.Script.{frame_at}
 use Rattle.driver_rules.specs.Dues.{Due, KicksAll, LooksAt, Makes, TriesOut, Waits}
 use Rattle.reclaim_worker.specs.declared.turns.PassTurn.{PassTurn}
 use Rattle.reclaim_worker.specs.declared.turns.PassTurn.TheVariants as turns
-use Rattle.reclaim_worker.specs.inner.Answers.{IsTurn, by_reclaimer, track_turn, try_turn}
+use Rattle.reclaim_worker.specs.inner.Answers.{by_reclaimer, IsTryOut, IsTurn, start_turn, track_turn, try_turn}
 use Rattle.reclaim_worker.specs.inner.Going.{TurnGoes}
 use Rattle.run_book.specs.inner.Books.{CarriesBytes}
 use Rattle.run_book.specs.inner.Turns.{OfEntry}
@@ -28,7 +30,7 @@ use Rattle.run_bytes.proofs.StepBytes.{step_bytes}
 
 -- ---- which entry a turn made
 
-module _ (made : Making) (past : List Entry) (slots : Keeper) (turn : PassTurn) where
+module _ (made : Making) (j : JobView) (past : List Entry) (slots : Keeper) (turn : PassTurn) where
   abbrev Quiet : PassTurn → Type 0
   Quiet t = OfEntry t (λ e. writes_out e.event ≡ false)
 
@@ -43,34 +45,47 @@ module _ (made : Making) (past : List Entry) (slots : Keeper) (turn : PassTurn) 
       by_last true = refl
       by_last false = refl
 
-  try_quiet : (f : ℕ) (slot : SlotAt) → Quiet (try_turn made past f slot)
-  try_quiet f slot = by_drain (is_drained past f) (next_version made.first_version past == 2 ^ 64)
+  start_quiet : (f : ℕ) (at : SlotAt) → Quiet (start_turn made past f at)
+  start_quiet f at = by_spent (next_version made.first_version past == 2 ^ 64)
+    where
+      by_spent : (v : Bool) → Quiet (if v then turns.Spent (by_reclaimer (Refused (EwbStart (frame_at f) at) why.VersionSpent))
+          else turns.Seal
+          (by_reclaimer (Did (EwbStart (frame_at f) at) (answers.Version (next_version made.first_version past)))))
+      by_spent true = refl
+      by_spent false = refl
+
+  try_quiet : (f : ℕ) (at : SlotAt) (version : ℕ) → Quiet (try_turn made past f at version)
+  try_quiet f at version = by_drain (is_drained past f) (version == 0)
     where
       by_drain : (b v : Bool) → Quiet (if b
-          then (if v then turns.Spent (by_reclaimer (Refused (EwbStart (frame_at f) slot) why.VersionSpent)) else turns.Seal
-          (by_reclaimer (Did (EwbStart (frame_at f) slot) (answers.Version (next_version made.first_version past)))))
-          else turns.One (by_reclaimer (Refused (EwbStart (frame_at f) slot)
+          then (if v then start_turn made past f at
+          else turns.One (by_reclaimer (Refused (EwbStart (frame_at f) at) (why.SlotOccupied version))))
+          else turns.One (by_reclaimer (Refused (EwbStart (frame_at f) at)
           (why.NotTracked (epoch_in made.first_epoch past f) (kept_back past f)))))
-      by_drain true true = refl
+      by_drain true true = start_quiet f at
       by_drain true false = refl
       by_drain false v = refl
 
-  turn_quiet : (due : Due) → IsTurn made past slots due turn → Quiet turn
+  out_quiet : (g : Page) (f : ℕ) (b : Bool) → IsTryOut made j past slots g f b turn → Quiet turn
+  out_quiet g f true (inl k) = told _ k.told (try_quiet f k.at k.version)
+  out_quiet g f true (inr k) = told _ k.1 tt
+  out_quiet g f false k = told _ k.told (start_quiet f k.at)
+
+  turn_quiet : (due : Due) → IsTurn made j past slots due turn → Quiet turn
   turn_quiet (Waits reason) k = told _ k tt
   turn_quiet (LooksAt page held young) k = told _ k.told refl
   turn_quiet (Makes (Block f)) k = told _ k refl
   turn_quiet (Makes (Track enclave)) k = told _ k (track_quiet enclave)
-  turn_quiet (TriesOut f) (inl k) = told _ k.told (try_quiet f k.slot)
-  turn_quiet (TriesOut f) (inr k) = told _ k.1 tt
+  turn_quiet (TriesOut g f) k = out_quiet g f (is_own_page g) k
   turn_quiet (KicksAll ps) k = told _ k tt
   turn_quiet due k = absurd k
 
 -- ---- the entry carries the standing on
 
 pub turn_bytes : (made : Making) (j : JobView) (past : List Entry) (m m' : Parts) (slots : Keeper) (due : Due) (turn : PassTurn)
-    → IsTurn made past slots due turn → TurnGoes (state_of m) turn (state_of m')
+    → IsTurn made j past slots due turn → TurnGoes (state_of m) turn (state_of m')
     → OfEntry turn (λ e. (longer : List Call) → CarriesBytes made j past m e m' longer)
-turn_bytes made j past m m' slots due turn is = by_turn turn (turn_quiet made past slots turn due is)
+turn_bytes made j past m m' slots due turn is = by_turn turn (turn_quiet made j past slots turn due is)
   where
     by_turn : (t : PassTurn) → OfEntry t (λ e. writes_out e.event ≡ false) → TurnGoes (state_of m) t (state_of m')
         → OfEntry t (λ e. (longer : List Call) → CarriesBytes made j past m e m' longer)
@@ -79,4 +94,3 @@ turn_bytes made j past m m' slots due turn is = by_turn turn (turn_quiet made pa
     by_turn (turns.Spent e) quiet goes = λ longer. step_bytes made j past m m' e longer goes quiet
     by_turn (turns.Kicks bits) quiet goes = tt
     by_turn (turns.Again reason) quiet goes = tt
-    by_turn turns.NoSlot quiet goes = tt

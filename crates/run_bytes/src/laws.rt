@@ -23,8 +23,7 @@ ghost use Rattle.reclaim_worker.specs.inner.Answers.{IsTurn};
 ghost use Rattle.reclaim_worker.specs.inner.Going.{TurnGoes};
 ghost use Rattle.reclaim_worker.specs.inner.Stored.{StoredSays};
 ghost use Rattle.reclaim_worker.specs.declared.turns.PassTurn.{PassTurn};
-ghost use Rattle.reclaim_worker.specs.declared.turns.Phase.{Phase};
-ghost use Rattle.reclaim_worker.specs.declared.turns.Taken.{Taken};
+ghost use Rattle.reclaim_pass.specs.inner.Viewed.{PassView};
 ghost use Rattle.run_book.specs.inner.Books.{CarriesBytes};
 ghost use Rattle.run_book.specs.inner.Loads.{OfAnswer, entry_in};
 ghost use Rattle.table_notes.specs.inner.Plain.{is_plain};
@@ -61,9 +60,9 @@ pub fn notes_carry_bytes()
 
 /// The end of a write-out puts the record that the machine gave out, and the standing goes on with that one behind the others.
 pub fn write_outs_carry_bytes()
-    ensures { (made : Making) (j : JobView) (past : List Entry) (d d' : Driver) (m m' : Parts) (taken : List Taken) (phase : Phase)
+    ensures { (made : Making) (j : JobView) (past : List Entry) (d d' : Driver) (m m' : Parts) (v : PassView)
         (told told' : Option (List Call)) (faults faults' : ℕ) (e : Entry)
-        → StoredSays taken phase (state_of m) d told faults e (state_of m') d' told' faults'
+        → StoredSays v (state_of m) d told faults e (state_of m') d' told' faults'
         → IfSome told' (CarriesBytes made j past m e m') }
 {}
 
@@ -80,7 +79,7 @@ pub fn ends_of_loads_carry_bytes()
 /// A turn of a pass that is what is due, whatever that be, makes no done write-out, so its entry carries the standing on.
 pub fn turns_carry_bytes()
     ensures { (made : Making) (j : JobView) (past : List Entry) (m m' : Parts) (slots : Keeper) (due : Due) (turn : PassTurn)
-        → IsTurn made past slots due turn → TurnGoes (state_of m) turn (state_of m')
+        → IsTurn made j past slots due turn → TurnGoes (state_of m) turn (state_of m')
         → OfEntry turn (λ e. (longer : List Call) → CarriesBytes made j past m e m' longer) }
 {}
 

@@ -4,7 +4,7 @@ use Rattle.std.proofs.Common.{◌∷◌, Option, Some, None, is_some}
 use Rattle.std.proofs.lemmas.Bool.{eqb-true, eq-eqb, false≢true}
 use Rattle.sgx_types.proofs.Pages.{same_page-refl, same_pages}
 use Rattle.sgx_rules.specs.declared.entries.Action.{Action}
-use Rattle.sgx_rules.specs.declared.entries.Action.TheVariants.{Create, Add, Init, Aex, Store, Xadd, Ewb, EldStart, Eld}
+use Rattle.sgx_rules.specs.declared.entries.Action.TheVariants.{Create, Add, Epa, Init, Aex, Store, Xadd, Ewb, EldStart, Eld}
 use Rattle.sgx_types.specs.declared.names.Actor.{Actor}
 use Rattle.sgx_types.specs.declared.names.Actor.TheVariants as actors
 use Rattle.sgx_rules.specs.declared.entries.Answer.{Answer}
@@ -17,22 +17,23 @@ use Rattle.sgx_rules.specs.declared.entries.Look.{Look}
 use Rattle.sgx_rules.specs.declared.entries.Look.TheVariants as looks
 use Rattle.sgx_types.specs.declared.names.Frame.{Frame}
 use Rattle.sgx_types.specs.declared.names.Page.{Page}
-use Rattle.sgx_types.specs.declared.names.SlotAt.{SlotAt}
+use Rattle.sgx_types.specs.declared.names.VaSlot.{VaSlot}
 use Rattle.sgx_rules.specs.inner.Enclaves.{EnclavesAreFlat, created, created_by}
 use Rattle.sgx_rules.specs.Flat.{FlatEnclave, FlatMemory, Inside, accepts, cpu_after, event_after, flat, memory_after}
 use Rattle.sgx_rules.specs.Flat.{saved}
 use Rattle.sgx_rules.specs.PageBytes.{header_at}
 use Rattle.sgx_rules.specs.Flat.{stored, sum_of, word_seen}
-use Rattle.sgx_types.specs.Pages.{page_at, same_page}
-use Rattle.sgx_rules.specs.Frames.{Free, content, is_this}
+use Rattle.sgx_types.specs.Pages.{page_at, same_page, secs_page, va_page}
+use Rattle.sgx_rules.specs.Frames.{Free, content, is_this, vas_made}
 use Rattle.sgx_rules.specs.Rules.{Along, FlatRule}
 use Rattle.sgx_rules.specs.Fresh.{Out, last_out, out_after}
 use Rattle.sgx_types.specs.Sealed.{Sealed}
-use Rattle.sgx_rules.specs.Starts.{Start, is_load_of, open_start}
+use Rattle.sgx_rules.specs.Starts.{Start, open_start}
+use Rattle.sgx_rules.specs.Slots.{open_slot}
 use Rattle.sgx_rules.specs.Table.{is_loading}
 use Rattle.page_history.proofs.FlatLaws.{added_flat, header_kept}
 use Rattle.backing_store.specs.Calls.{Call, Failed, Given, Got, Nothing, Put, Room}
-use Rattle.driver_rules.specs.Places.{Absent, Away, Here, Leaving, Loading, Place, after_look, back_to, gone_to, place}
+use Rattle.driver_rules.specs.Places.{Absent, Away, Here, Leaving, Loading, Place, after_look, back_from, comes_into, gone_to, place}
 use Rattle.driver_rules.specs.Places.{place_after}
 use Rattle.driver_laws.specs.inner.Kinds.{CanMove}
 use Rattle.driver_laws.specs.inner.Sound.{IsSound, is_load_start, load_slot, slot_if, slot_loading}
@@ -89,12 +90,12 @@ by_put page g version tag (Put h rec b ∷ calls) c other = ap (λ x. same_page 
 by_put page g version tag (Got h gave ∷ calls) c other = absurd c
 
 -- but for a put of the page, the last record put of it is that before the entry
-abbrev IsOutOf : Event → Page → Bool
+abbrev pub IsOutOf : Event → Page → Bool
 IsOutOf (Did (Ewb f) (Moved page version tag)) g = same_page page g
 IsOutOf (Did (Ewb f) answer) g = true
 IsOutOf _ g = false
 
-same_last : (event : Event) (calls : List Call) (g : Page) → ComesWith event calls → IsOutOf event g ≡ false
+pub same_last : (event : Event) (calls : List Call) (g : Page) → ComesWith event calls → IsOutOf event g ≡ false
     → last_put calls g ≡ last_put (before event calls) g
 same_last (Age page looks.NoRoom) calls g c out = dropped calls g (by_room page g true calls c)
 same_last (Age page looks.Taken) calls g c out = dropped calls g (by_room page g false calls c)
@@ -168,18 +169,18 @@ last_sealed key (e ∷ past) calls h g o is =
 -- ---- loads were given it
 
 -- a page is loading into one frame, and no other page into that
-pub load_at : (past : List Entry) (f : ℕ) (page : Page) (slot : SlotAt) → IsSound past → place past page ≡ Loading f slot
+pub load_at : (past : List Entry) (f : ℕ) (page : Page) (slot : VaSlot) → IsSound past → place past page ≡ Loading f slot
     → load_slot (open_start past f) page ≡ Some slot
 load_at past f page slot s loading = s.places.loads page f ∙ ap (λ y. slot_loading y f) loading ∙ rw (eq-eqb f f refl) refl
 
-load_one : (past : List Entry) (f : ℕ) (a g : Page) (slot other : SlotAt) → IsSound past → place past a ≡ Loading f slot
+load_one : (past : List Entry) (f : ℕ) (a g : Page) (slot other : VaSlot) → IsSound past → place past a ≡ Loading f slot
     → place past g ≡ Loading f other → same_page a g ≡ true
 load_one past f a g slot other s at_a at_g =
     sym (loads_one (open_start past f) a g slot (load_at past f a slot s at_a))
     ∙ loads_one (open_start past f) g g other (load_at past f g other s at_g) ∙ same_page-refl g
 
 -- no page is loading into a free frame
-pub free_no_load : (past : List Entry) (f : ℕ) (g : Page) (slot : SlotAt) → IsSound past → content past f ≡ Free
+pub free_no_load : (past : List Entry) (f : ℕ) (g : Page) (slot : VaSlot) → IsSound past → content past f ≡ Free
     → place past g ≡ Loading f slot → ⊥
 free_no_load past f g slot s free at =
     by_start (open_start past f) none load
@@ -194,7 +195,7 @@ free_no_load past f g slot s free at =
     by_start None h k = cc
     by_start (Some x) h k = loads x.loads h k
       where
-        loads : (l : Option Page) → is_some l ≡ false → slot_if (is_this l g) x.at ≡ Some slot → ⊥
+        loads : (l : Option Page) → is_some l ≡ false → slot_if (is_this l g) x.slot ≡ Some slot → ⊥
         loads None h k = cc
         loads (Some page) h k = cc
 
@@ -217,19 +218,23 @@ given_now page (Got k (Given rec) ∷ calls) c h = by_last (last_put calls k) re
         ap Some same ∙ sym is ∙ ap (last_put calls) c.0
 
 abbrev Was : List Entry → Event → List Call → Page → Type 0
-Was past ev calls g = (f : ℕ) (slot : SlotAt) → place past g ≡ Loading f slot → gift past (before ev calls) f ≡ last_put (before ev calls) g
+Was past ev calls g = (f : ℕ) (slot : VaSlot) → place past g ≡ Loading f slot → gift past (before ev calls) f ≡ last_put (before ev calls) g
 
 -- how one entry more leaves that
-gifts_by : (past : List Entry) (actor : Actor) (ev : Event) (calls : List Call) (g : Page) (f : ℕ) (slot : SlotAt) → IsSound past
+gifts_by : (past : List Entry) (actor : Actor) (ev : Event) (calls : List Call) (g : Page) (f : ℕ) (slot : VaSlot) → IsSound past
     → CanMove past ev → ComesWith ev calls → IsHonest calls → Was past ev calls g
-    → place_after ev (open_start past) g (place past g) ≡ Loading f slot
+    → place_after ev (vas_made past) (open_slot past) g (place past g) ≡ Loading f slot
     → gift_after ev calls f (gift past (before ev calls) f) ≡ last_put calls g
 gifts_by past actor (Did (EldStart n page t) answer) calls g f slot s can c honest was at = by_page (same_page page g) refl at
   where
-    by_page : (b : Bool) → same_page page g ≡ b → (if b then Loading n.0 t else place past g) ≡ Loading f slot
+    frame_of : Loading n.0 can.1 ≡ Loading f slot → n.0 ≡ f
+    frame_of is = cc
+
+    by_page : (b : Bool) → same_page page g ≡ b → (if b then comes_into n.0 (place past g) else place past g) ≡ Loading f slot
         → (if n.0 == f then got_last calls else gift past (without_last calls) f) ≡ last_put calls g
     by_page true mine told =
-        let same : n.0 ≡ f = cc in
+        let there : place past g ≡ Away can.1 = ap (place past) (sym (same_pages page g mine)) ∙ can.2 in
+        let same : n.0 ≡ f = frame_of (ap (comes_into n.0) (sym there) ∙ told) in
         rw (eq-eqb n.0 f same) (given_now page calls c honest ∙ ap (last_put calls) (same_pages page g mine))
     by_page false other told = by_frame (n.0 == f) refl
       where
@@ -249,36 +254,38 @@ gifts_by past actor (Did (Eld n) (Moved page version tag)) calls g f slot s can 
             (can.1 ∙ ap (λ m. Loading m can.0) (eqb-true n.0 f is)) told))
         by_frame false is = was f slot told
 gifts_by past actor (Did (Eld n) answer) calls g f slot s can c honest was at = absurd can
-gifts_by past actor (Refused (Eld n) refusal) calls g f slot s can c honest was at = by_load (is_load_of (open_start past n.0) g) refl at
+gifts_by past actor (Refused (Eld n) refusal) calls g f slot s can c honest was at = by_place (place past g) refl at
   where
-    back_no_load : (p : Place) → back_to p ≡ Loading f slot → ⊥
-    back_no_load Absent k = cc
-    back_no_load (Here m) k = cc
-    back_no_load (Leaving m) k = cc
-    back_no_load (Loading m t) k = cc
-    back_no_load (Away t) k = cc
-
-    by_load : (b : Bool) → is_load_of (open_start past n.0) g ≡ b → (if b then back_to (place past g) else place past g) ≡ Loading f slot
+    by_place : (p : Place) → place past g ≡ p → back_from n.0 p ≡ Loading f slot
         → (if n.0 == f then None else gift past calls f) ≡ last_put calls g
-    by_load true is told = absurd (back_no_load (place past g) told)
-    by_load false isnt told = by_frame (n.0 == f) refl
+    by_place Absent is told = cc
+    by_place (Here m) is told = cc
+    by_place (Leaving m) is told = cc
+    by_place (Away t) is told = cc
+    by_place (Loading m t) is told = by_frame (m == n.0) refl told
       where
-        by_frame : (b : Bool) → (n.0 == f) ≡ b → (if b then None else gift past calls f) ≡ last_put calls g
-        by_frame true is =
-            absurd (false≢true (sym isnt ∙ ap (λ m. is_load_of (open_start past m) g) (eqb-true n.0 f is)
-            ∙ loads_one (open_start past f) g g slot (load_at past f g slot s told) ∙ same_page-refl g))
-        by_frame false is = was f slot told
+        by_frame : (b : Bool) → (m == n.0) ≡ b → (if b then Away t else Loading m t) ≡ Loading f slot
+            → (if n.0 == f then None else gift past calls f) ≡ last_put calls g
+        by_frame true same k = cc
+        by_frame false other k = by_test (n.0 == f) refl
+          where
+            frame : m ≡ f
+            frame = cc
+
+            by_test : (b : Bool) → (n.0 == f) ≡ b → (if b then None else gift past calls f) ≡ last_put calls g
+            by_test true same = absurd (false≢true (sym other ∙ eq-eqb m n.0 (frame ∙ sym (eqb-true n.0 f same))))
+            by_test false apart = was f slot (is ∙ k)
 gifts_by past actor (Did (Ewb n) (Moved page version tag)) calls g f slot s can c honest was at = by_page (same_page page g) refl at
   where
-    gone_no_load : (o : Option Start) (p : Place) → p ≡ Leaving n.0 → gone_to o p ≡ Loading f slot → ⊥
+    gone_no_load : (o : Option VaSlot) (p : Place) → p ≡ Leaving n.0 → gone_to o p ≡ Loading f slot → ⊥
     gone_no_load None p is k = cc
     gone_no_load (Some x) p is k = cc
 
     by_page : (b : Bool) → same_page page g ≡ b
-        → (if b then gone_to (open_start past n.0) (place past g) else place past g) ≡ Loading f slot
+        → (if b then gone_to (open_slot past n.0) (place past g) else place past g) ≡ Loading f slot
         → gift past (without_last calls) f ≡ last_put calls g
     by_page true mine told =
-        absurd (gone_no_load (open_start past n.0) (place past g) (ap (place past) (sym (same_pages page g mine)) ∙ can.0) told)
+        absurd (gone_no_load (open_slot past n.0) (place past g) (ap (place past) (sym (same_pages page g mine)) ∙ can.0) told)
     by_page false other told = was f slot told ∙ sym (dropped calls g (by_put page g version tag calls c other))
 gifts_by past actor (Did (Ewb n) answer) calls g f slot s can c honest was at = absurd can
 gifts_by past actor (Did (Add enclave number n kind perm init) answer) calls g f slot s can c honest was at =
@@ -287,6 +294,18 @@ gifts_by past actor (Did (Add enclave number n kind perm init) answer) calls g f
     by_page : (b : Bool) → (if b then Here n.0 else place past g) ≡ Loading f slot → gift past calls f ≡ last_put calls g
     by_page true told = cc
     by_page false told = was f slot told
+gifts_by past actor (Did (Create enclave n base size) answer) calls g f slot s can c honest was at =
+    was f slot (made (same_page (secs_page enclave) g) at) ∙ sym (same_last (Did (Create enclave n base size) answer) calls g c refl)
+  where
+    made : (b : Bool) → (if b then Here n.0 else place past g) ≡ Loading f slot → place past g ≡ Loading f slot
+    made true told = cc
+    made false told = told
+gifts_by past actor (Did (Epa n) answer) calls g f slot s can c honest was at =
+    was f slot (made (same_page (va_page (vas_made past)) g) at) ∙ sym (same_last (Did (Epa n) answer) calls g c refl)
+  where
+    made : (b : Bool) → (if b then Here n.0 else place past g) ≡ Loading f slot → place past g ≡ Loading f slot
+    made true told = cc
+    made false told = told
 gifts_by past actor (Age page look) calls g f slot s can c honest was at =
     was f slot (by_page (same_page page g) at) ∙ sym (same_last (Age page look) calls g c refl)
   where

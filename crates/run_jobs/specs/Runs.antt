@@ -5,7 +5,7 @@ use Rattle.sgx_rules.specs.Rules.{Along, EvictRule, Fits, RisingRule, Stale}
 use Rattle.io_edges.specs.declared.plans.PlanLine.{PlanLine}
 use Rattle.job_grammar.specs.Jobs.{JobView}
 use Rattle.backing_store.specs.Calls.{Call}
-use Rattle.driver_rules.specs.Ages.{AgeRule, KickRule}
+use Rattle.driver_rules.specs.Ages.{KeptAgeRule, KickRule}
 use Rattle.driver_rules.specs.Scripts.{IsDone, Script}
 use Rattle.run_book.specs.Lost.{AllCameBack}
 use Rattle.run_history.specs.Given.{UnforgedRun}
@@ -19,9 +19,9 @@ use Rattle.run_jobs.specs.declared.ends.End.TheVariants as ends
 
 -- a run that came to its end has these entries, the newest first, and its store tells these calls and was handed these plan lines
 pub record WholeRun (j : JobView) (past : List Entry) (end : End) (told : Option (List Call)) (plans : List PlanLine) : Type 0 where
-  -- who makes which entry, and that all is done at the end; the reclaimer's looks and kicks
+  -- who makes which entry, and that all is done at the end; the reclaimer's looks, by the slots that the driver keeps as out, and its kicks
   pub script : Script j past
-  pub age : Along (AgeRule j) past
+  pub age : Along (KeptAgeRule j) past
   pub kick : Along (KickRule j) past
   -- no frame twice, no stale translation, only drained pages go out, under rising versions
   pub fits : Fits j.epc past

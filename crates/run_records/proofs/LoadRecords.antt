@@ -1,6 +1,6 @@
 -- A fault step's entry and the end of a load tell what is so of their records.
 use Rattle.std.proofs.Common.{◌≡◌, ℕ, ◌<◌, ◌==◌, ◌&&◌, not, Bool, true, false, if◌then◌else◌, refl, sym}
-use Rattle.std.proofs.Common.{◌∙◌, ap, subst, List, ◌∷◌, Option, Some, None, MatchOption, Result, Ok, Err, length, sum}
+use Rattle.std.proofs.Common.{◌∙◌, ap, subst, List, ◌∷◌, Option, Some, None, MatchOption, Result, Ok, Err, length}
 use Rattle.std.specs.Option.{IsSomeAnd}
 use Rattle.std.proofs.lemmas.Bool.{eqb-true}
 use Rattle.std.specs.Str.{bytes_eq}
@@ -9,11 +9,13 @@ use Rattle.sgx_rules.specs.declared.entries.Action.TheVariants.{Eld}
 use Rattle.sgx_types.specs.declared.names.Actor.TheVariants as actors
 use Rattle.sgx_rules.specs.declared.entries.Answer.TheVariants.{Moved}
 use Rattle.sgx_rules.specs.declared.entries.BusWhy.{BusWhy}
+use Rattle.sgx_rules.specs.declared.entries.BusWhy.TheVariants as reasons
 use Rattle.sgx_rules.specs.declared.entries.Entry.{Entry}
 use Rattle.sgx_types.specs.declared.names.Cpu.{Cpu}
 use Rattle.sgx_types.specs.declared.names.Frame.{Frame}
 use Rattle.sgx_types.specs.declared.names.Page.{Page}
 use Rattle.sgx_types.specs.declared.names.SlotAt.{SlotAt}
+use Rattle.sgx_types.specs.declared.names.VaSlot.{VaSlot}
 use Rattle.sgx_types.specs.declared.record.Header.{Header}
 use Rattle.sgx_rules.specs.declared.refusals.Refusal.{Refusal}
 use Rattle.sgx_rules.specs.declared.refusals.Refusal.TheVariants as why
@@ -36,7 +38,7 @@ use Rattle.backing_store.specs.inner.Calls.{told_got}
 use Rattle.backing_store.specs.declared.backing.StoreFault.{StoreFault}
 use Rattle.backing_store.specs.declared.backing.StoreFault.TheVariants as faults
 use Rattle.active_list.specs.inner.Keeping.{record_kept}
-use Rattle.active_list.specs.inner.Places.{IsPlaced}
+use Rattle.active_list.specs.inner.Places.{IsPlaced, total}
 use Rattle.active_list.specs.inner.States.{state_of as page_state}
 use Rattle.active_list.specs.declared.page_states.PageState.{PageState}
 use Rattle.active_list.specs.declared.page_states.PageState.TheVariants as states
@@ -44,10 +46,10 @@ use Rattle.paging_laws.specs.inner.State.{State}
 use Rattle.paging_laws.specs.inner.Steps.{IsComing, IsReloaded, commit_row, did_by, refused_by}
 use Rattle.paging_laws.proofs.SlotLaws.{started_as}
 use Rattle.paging_machine.specs.inner.Parts.{Parts, state_of}
-use Rattle.driver_rules.specs.Places.{Loading}
 use Rattle.driver_rules.specs.inner.Reclaims.{is_refused}
 use Rattle.driver_rules.specs.Turns.{Loads, last_of}
 use Rattle.driver_tables.specs.declared.driver.Driver.{Driver}
+use Rattle.driver_tables.specs.inner.Targets.{slot_here_in}
 use Rattle.driver_steps.specs.inner.Agrees.{Agrees}
 use Rattle.turn_tables.specs.declared.turns.Turns.{Turns}
 use Rattle.run_history.specs.Calls.{before}
@@ -66,10 +68,10 @@ use Rattle.fault_handler.proofs.EndLaws.{end_frame}
 use Rattle.run_book.specs.inner.Books.{AreTold, IsTold, KeepsBook}
 use Rattle.run_book.specs.inner.Loads.{OfAnswer, entry_in}
 use Rattle.run_records.specs.inner.Builds.{is_building}
-use Rattle.run_records.specs.inner.Silent.{HasNoEntry, IsSilent, OfBus}
+use Rattle.run_records.specs.inner.Silent.{HasNoEntry, IsSilent, OfBus, OfSlot}
 use Rattle.run_records.proofs.FlatSteps.{flat_other}
 use Rattle.paging_laws.proofs.MoveEnds.{headers_agree}
-use Rattle.run_records.proofs.ToldLaws.{eldstart_silent}
+use Rattle.run_records.proofs.ToldLaws.{load_silent}
 
 -- ---- a fault step
 
@@ -83,23 +85,34 @@ said_silent : (cpu : Cpu) (page : Page) (said answer : FaultAnswer) → answer �
 said_silent cpu page said answer is h = subst (λ a. OfAnswer cpu page a IsSilent) (sym is) h
 
 -- by what the store gave: the start of a load, or a bus
-got_silent : (cpu : Cpu) (page : Page) (slot : SlotAt) (f : Frame) (got : Result (Option Sealed) StoreFault) (d d' : Driver) (m m' : Parts)
-    (answer : FaultAnswer) → IsGot cpu page slot f got d m answer d' m' → OfAnswer cpu page answer IsSilent
-got_silent cpu page slot f (Ok (Some rec)) d d' m m' answer is =
-    said_silent cpu page (answers.Started is.entry is.work) answer is.says
-    (eldstart_silent (state_of m) (state_of m') (actors.Cpu cpu) f page slot is.entry is.step)
-got_silent cpu page slot f (Ok None) d d' m m' answer is = said_silent cpu page _ answer is.says (bus_silent cpu page _)
-got_silent cpu page slot f (Err faults.Failed) d d' m m' answer is = said_silent cpu page _ answer is.says (bus_silent cpu page _)
-got_silent cpu page slot f (Err faults.Memory) d d' m m' answer is = absurd is
+got_silent : (cpu : Cpu) (page : Page) (slot : VaSlot) (to : SlotAt) (f : Frame) (got : Result (Option Sealed) StoreFault) (d d' : Driver)
+    (m m' : Parts) (answer : FaultAnswer) → IsGot cpu page slot to f got d m answer d' m' → OfAnswer cpu page answer IsSilent
+got_silent cpu page slot to f (Ok (Some rec)) d d' m m' answer is = by_refused (is_refused is.entry.event) refl
+  where
+    silent : IsSilent is.entry
+    silent = load_silent (state_of m) (state_of m') (actors.Cpu cpu) f page to is.entry is.step
+
+    by_refused : (b : Bool) → is_refused is.entry.event ≡ b → OfAnswer cpu page answer IsSilent
+    by_refused true refused = said_silent cpu page (answers.Slot is.entry) answer (is.refused refused).0 silent
+    by_refused false done =
+        let has = is.started done in said_silent cpu page (answers.Started is.entry has.work) answer has.says silent
+got_silent cpu page slot to f (Ok None) d d' m m' answer is = said_silent cpu page _ answer is.says (bus_silent cpu page _)
+got_silent cpu page slot to f (Err faults.Failed) d d' m m' answer is = said_silent cpu page _ answer is.says (bus_silent cpu page _)
+got_silent cpu page slot to f (Err faults.Memory) d d' m m' answer is = absurd is
+
+fetch_silent : (cpu : Cpu) (page : Page) (slot : VaSlot) (at : Option SlotAt) (free : Option ℕ) (d d' : Driver) (m m' : Parts)
+    (told told' : Option (List Call)) (answer : FaultAnswer) → IsFetch cpu page slot at free d m told answer d' m' told'
+    → OfAnswer cpu page answer IsSilent
+fetch_silent cpu page slot None free d d' m m' told told' answer is = absurd is
+fetch_silent cpu page slot (Some to) None d d' m m' told told' answer is = said_silent cpu page _ answer is.does.says tt
+fetch_silent cpu page slot (Some to) (Some f) d d' m m' told told' answer is =
+    got_silent cpu page slot to (frame_at f) is.got d d' m m' answer is.does
 
 -- the entry of a fault step tells nothing of a record
 pub fault_silent : (cpu : Cpu) (page : Page) (x : PageState) (d d' : Driver) (m m' : Parts) (told told' : Option (List Call))
     (answer : FaultAnswer) → IsResolved cpu page x d m told answer d' m' told' → OfAnswer cpu page answer IsSilent
-fault_silent cpu page (states.Away slot) d d' m m' told told' answer is = by_free (least_free (state_of m).frames (state_of m).content) is
-  where
-    by_free : (o : Option ℕ) → IsFetch cpu page slot o d m told answer d' m' told' → OfAnswer cpu page answer IsSilent
-    by_free None k = said_silent cpu page _ answer k.does.says tt
-    by_free (Some f) k = got_silent cpu page slot (frame_at f) k.got d d' m m' answer k.does
+fault_silent cpu page (states.Away slot) d d' m m' told told' answer is =
+    fetch_silent cpu page slot (slot_here_in d slot) (least_free (state_of m).frames (state_of m).content) d d' m m' told told' answer is
 fault_silent cpu page (states.Lost slot) d d' m m' told told' answer is =
     said_silent cpu page _ answer is.does.says (bus_silent cpu page _)
 fault_silent cpu page (states.Here f) d d' m m' told told' answer is = said_silent cpu page _ answer is.does.says tt
@@ -114,14 +127,17 @@ got_none page (Ok None) = refl
 got_none page (Err faults.Failed) = refl
 got_none page (Err faults.Memory) = refl
 
+fetch_none : (cpu : Cpu) (page : Page) (slot : VaSlot) (at : Option SlotAt) (free : Option ℕ) (d d' : Driver) (m m' : Parts)
+    (told' : Option (List Call)) (answer : FaultAnswer) → IsFetch cpu page slot at free d m None answer d' m' told' → told' ≡ None
+fetch_none cpu page slot None free d d' m m' told' answer is = absurd is
+fetch_none cpu page slot (Some to) None d d' m m' told' answer is = is.calls
+fetch_none cpu page slot (Some to) (Some f) d d' m m' told' answer is = is.calls ∙ got_none page is.got
+
 -- .. whatever became of the page
 fault_none : (cpu : Cpu) (page : Page) (x : PageState) (d d' : Driver) (m m' : Parts) (told' : Option (List Call)) (answer : FaultAnswer)
     → IsResolved cpu page x d m None answer d' m' told' → told' ≡ None
-fault_none cpu page (states.Away slot) d d' m m' told' answer is = by_free (least_free (state_of m).frames (state_of m).content) is
-  where
-    by_free : (o : Option ℕ) → IsFetch cpu page slot o d m None answer d' m' told' → told' ≡ None
-    by_free None k = k.calls
-    by_free (Some f) k = k.calls ∙ got_none page k.got
+fault_none cpu page (states.Away slot) d d' m m' told' answer is =
+    fetch_none cpu page slot (slot_here_in d slot) (least_free (state_of m).frames (state_of m).content) d d' m m' told' answer is
 fault_none cpu page (states.Lost slot) d d' m m' told' answer is = is.calls
 fault_none cpu page (states.Here f) d d' m m' told' answer is = is.calls
 fault_none cpu page states.Absent d d' m m' told' answer is = is.calls
@@ -129,22 +145,31 @@ fault_none cpu page (states.Leaving f) d d' m m' told' answer is = is.calls
 fault_none cpu page (states.Loading f slot) d d' m m' told' answer is = is.calls
 
 -- where the store was asked there is an entry
-asked_entry : (cpu : Cpu) (page : Page) (slot : SlotAt) (f : Frame) (got : Result (Option Sealed) StoreFault) (d d' : Driver) (m m' : Parts)
-    (answer : FaultAnswer) → IsGot cpu page slot f got d m answer d' m' → HasNoEntry answer → ⊥
-asked_entry cpu page slot f (Ok (Some rec)) d d' m m' answer is none = subst HasNoEntry is.says none
-asked_entry cpu page slot f (Ok None) d d' m m' answer is none = subst HasNoEntry is.says none
-asked_entry cpu page slot f (Err faults.Failed) d d' m m' answer is none = subst HasNoEntry is.says none
-asked_entry cpu page slot f (Err faults.Memory) d d' m m' answer is none = is
+asked_entry : (cpu : Cpu) (page : Page) (slot : VaSlot) (to : SlotAt) (f : Frame) (got : Result (Option Sealed) StoreFault) (d d' : Driver)
+    (m m' : Parts) (answer : FaultAnswer) → IsGot cpu page slot to f got d m answer d' m' → HasNoEntry answer → ⊥
+asked_entry cpu page slot to f (Ok (Some rec)) d d' m m' answer is none = by_refused (is_refused is.entry.event) refl
+  where
+    by_refused : (b : Bool) → is_refused is.entry.event ≡ b → ⊥
+    by_refused true refused = subst HasNoEntry (is.refused refused).0 none
+    by_refused false done = subst HasNoEntry (is.started done).says none
+asked_entry cpu page slot to f (Ok None) d d' m m' answer is none = subst HasNoEntry is.says none
+asked_entry cpu page slot to f (Err faults.Failed) d d' m m' answer is none = subst HasNoEntry is.says none
+asked_entry cpu page slot to f (Err faults.Memory) d d' m m' answer is none = is
+
+fetch_stays : (cpu : Cpu) (page : Page) (slot : VaSlot) (at : Option SlotAt) (free : Option ℕ) (d d' : Driver) (m m' : Parts)
+    (told told' : Option (List Call)) (answer : FaultAnswer) → IsFetch cpu page slot at free d m told answer d' m' told'
+    → HasNoEntry answer → told' ≡ told
+fetch_stays cpu page slot None free d d' m m' told told' answer is none = absurd is
+fetch_stays cpu page slot (Some to) None d d' m m' told told' answer is none = is.calls
+fetch_stays cpu page slot (Some to) (Some f) d d' m m' told told' answer is none =
+    absurd (asked_entry cpu page slot to (frame_at f) is.got d d' m m' answer is.does none)
 
 -- so a fault step without an entry makes no call
 pub fault_stays : (cpu : Cpu) (page : Page) (x : PageState) (d d' : Driver) (m m' : Parts) (told told' : Option (List Call))
     (answer : FaultAnswer) → IsResolved cpu page x d m told answer d' m' told' → HasNoEntry answer → told' ≡ told
 fault_stays cpu page (states.Away slot) d d' m m' told told' answer is none =
-    by_free (least_free (state_of m).frames (state_of m).content) is
-  where
-    by_free : (o : Option ℕ) → IsFetch cpu page slot o d m told answer d' m' told' → told' ≡ told
-    by_free None k = k.calls
-    by_free (Some f) k = absurd (asked_entry cpu page slot (frame_at f) k.got d d' m m' answer k.does none)
+    fetch_stays cpu page slot (slot_here_in d slot) (least_free (state_of m).frames (state_of m).content) d d' m m' told told' answer is
+    none
 fault_stays cpu page (states.Lost slot) d d' m m' told told' answer is none = is.calls
 fault_stays cpu page (states.Here f) d d' m m' told told' answer is none = is.calls
 fault_stays cpu page states.Absent d d' m m' told told' answer is none = is.calls
@@ -152,11 +177,21 @@ fault_stays cpu page (states.Leaving f) d d' m m' told told' answer is none = is
 fault_stays cpu page (states.Loading f slot) d d' m m' told told' answer is none = is.calls
 
 -- what is so of each entry is so of that of an answer
-of_each : (cpu : Cpu) (page : Page) (answer : FaultAnswer) (P : Entry → Type 0) → ((e : Entry) → P e) → OfAnswer cpu page answer P
+pub of_each : (cpu : Cpu) (page : Page) (answer : FaultAnswer) (P : Entry → Type 0) → ((e : Entry) → P e) → OfAnswer cpu page answer P
 of_each cpu page (answers.Started e work) P h = h e
+of_each cpu page (answers.Slot e) P h = h e
 of_each cpu page (answers.Bus why) P h = h (bus_of cpu page why)
 of_each cpu page (answers.Again why) P h = tt
 of_each cpu page answers.Here P h = tt
+
+-- .. and of the bus behind a refused start
+of_slot : (cpu : Cpu) (page : Page) (answer : FaultAnswer) (P : Entry → Entry → Type 0) → ((e bus : Entry) → P e bus)
+    → OfSlot cpu page answer P
+of_slot cpu page (answers.Slot e) P h = h e (bus_of cpu page reasons.Slot)
+of_slot cpu page (answers.Started e work) P h = tt
+of_slot cpu page (answers.Bus why) P h = tt
+of_slot cpu page (answers.Again why) P h = tt
+of_slot cpu page answers.Here P h = tt
 
 -- the entry of an answer comes with its call, and tells nothing of its record
 answer_told : (j : JobView) (past : List Entry) (calls longer : List Call) (d d' : Driver) (cpu : Cpu) (page : Page) (answer : FaultAnswer)
@@ -164,32 +199,51 @@ answer_told : (j : JobView) (past : List Entry) (calls longer : List Call) (d d'
     → OfAnswer cpu page answer (λ e. IsTold j past e calls longer d d')
 answer_told j past calls longer d d' cpu page (answers.Started e work) k q =
     record { comes = k; tells = q.tells j.key past (gift past (before e.event longer)) longer }
+answer_told j past calls longer d d' cpu page (answers.Slot e) k q =
+    record { comes = k.0; tells = q.tells j.key past (gift past (before e.event longer)) longer }
 answer_told j past calls longer d d' cpu page (answers.Bus why) k q =
     record { comes = k; tells = q.tells j.key past (gift past (before (bus_of cpu page why).event longer)) longer }
 answer_told j past calls longer d d' cpu page (answers.Again why) k q = tt
 answer_told j past calls longer d d' cpu page answers.Here k q = tt
 
+-- so does the bus behind a refused start
+slot_told : (j : JobView) (past : List Entry) (calls longer : List Call) (d d' : Driver) (cpu : Cpu) (page : Page) (answer : FaultAnswer)
+    → AnswerComes cpu page answer calls longer d d' → OfSlot cpu page answer (λ e bus. IsTold j (e ∷ past) bus longer longer d' d')
+slot_told j past calls longer d d' cpu page (answers.Slot e) k = record { comes = k.1; tells = tt }
+slot_told j past calls longer d d' cpu page (answers.Started e work) k = tt
+slot_told j past calls longer d d' cpu page (answers.Bus why) k = tt
+slot_told j past calls longer d d' cpu page (answers.Again why) k = tt
+slot_told j past calls longer d d' cpu page answers.Here k = tt
+
 -- .. where the store tells its calls, and where it does not
 pub fault_told : (made : Making) (j : JobView) (past : List Entry) (told told' : Option (List Call)) (d d' : Driver) (m m' : Parts)
     (t : Turns) (cpu : Cpu) (page : Page) (answer : FaultAnswer) → KeepsBook made j past told d m t → cpu.0 < length d.kept
-    → IsPlaced d.states.counts page → length d.states.states ≡ sum d.states.counts
+    → IsPlaced d.states.counts page → length d.states.states ≡ total d.states.counts
     → IsResolved cpu page (page_state d.states page) d m told answer d' m' told'
-    → OfAnswer cpu page answer (λ e. AreTold j past e told told' d d') × (HasNoEntry answer → told' ≡ told)
+    → OfAnswer cpu page answer (λ e. AreTold j past e told told' d d')
+    × OfSlot cpu page answer (λ e bus. AreTold j (e ∷ past) bus told' told' d' d') × (HasNoEntry answer → told' ≡ told)
 fault_told made j past told told' d d' m m' t cpu page answer k room placed sized is =
-    (by_told told told' k is, fault_stays cpu page (page_state d.states page) d d' m m' told told' answer is)
+    let both = by_told told told' k is in
+    (both.0, both.1, fault_stays cpu page (page_state d.states page) d d' m m' told told' answer is)
   where
     told_by : (calls : List Call) (o : Option (List Call)) → Tells o (λ longer. AnswerComes cpu page answer calls longer d d')
         → OfAnswer cpu page answer IsSilent → OfAnswer cpu page answer (λ e. AreTold j past e (Some calls) o d d')
+        × OfSlot cpu page answer (λ e bus. AreTold j (e ∷ past) bus o o d' d')
     told_by calls None comes silent = absurd comes
-    told_by calls (Some longer) comes silent = answer_told j past calls longer d d' cpu page answer comes silent
+    told_by calls (Some longer) comes silent =
+        (answer_told j past calls longer d d' cpu page answer comes silent, slot_told j past calls longer d d' cpu page answer comes)
 
     by_told : (before after : Option (List Call)) → KeepsBook made j past before d m t
         → IsResolved cpu page (page_state d.states page) d m before answer d' m' after
         → OfAnswer cpu page answer (λ e. AreTold j past e before after d d')
+        × OfSlot cpu page answer (λ e bus. AreTold j (e ∷ past) bus after after d' d')
     by_told None after book says =
-        subst (λ o. OfAnswer cpu page answer (λ e. AreTold j past e None o d d'))
-        (sym (fault_none cpu page (page_state d.states page) d d' m m' after answer says))
-        (of_each cpu page answer (λ e. AreTold j past e None None d d') (λ e. tt))
+        subst (λ o. OfAnswer cpu page answer (λ e. AreTold j past e None o d d')
+        × OfSlot cpu page answer (λ e bus. AreTold j (e ∷ past) bus o o d' d'))
+        (sym (fault_none cpu page (page_state d.states page) d d' m m' after answer says)) (
+          of_each cpu page answer (λ e. AreTold j past e None None d d') (λ e. tt),
+          of_slot cpu page answer (λ e bus. AreTold j (e ∷ past) bus None None d' d') (λ e bus. tt),
+        )
     by_told (Some calls) after book says =
         told_by calls after (resolved_tells j.key past calls d d' m m' cpu page answer after book.store room placed sized says)
         (fault_silent cpu page (page_state d.states page) d d' m m' (Some calls) after answer says)
@@ -197,15 +251,19 @@ fault_told made j past told told' d d' m m' t cpu page answer k room placed size
 -- flat memory goes on with the entry of a fault step
 pub fault_flat : (past : List Entry) (cpu : Cpu) (page : Page) (x : PageState) (d d' : Driver) (m m' : Parts)
     (told told' : Option (List Call)) (answer : FaultAnswer) → IsResolved cpu page x d m told answer d' m' told' → EnclavesAreFlat past
-    → OfAnswer cpu page answer (λ e. EnclavesAreFlat (e ∷ past))
+    → OfAnswer cpu page answer (λ e. EnclavesAreFlat (e ∷ past)) × OfSlot cpu page answer (λ e bus. EnclavesAreFlat (bus ∷ e ∷ past))
 fault_flat past cpu page x d d' m m' told told' answer is seen =
     by_answer answer (fault_silent cpu page x d d' m m' told told' answer is)
   where
     by_answer : (a : FaultAnswer) → OfAnswer cpu page a IsSilent → OfAnswer cpu page a (λ e. EnclavesAreFlat (e ∷ past))
-    by_answer (answers.Started e work) silent = flat_other past e silent.building seen
-    by_answer (answers.Bus why) silent = flat_other past (bus_of cpu page why) silent.building seen
-    by_answer (answers.Again why) silent = tt
-    by_answer answers.Here silent = tt
+        × OfSlot cpu page a (λ e bus. EnclavesAreFlat (bus ∷ e ∷ past))
+    by_answer (answers.Started e work) silent = (flat_other past e silent.building seen, tt)
+    by_answer (answers.Slot e) silent =
+        let first = flat_other past e silent.building seen in
+        (first, flat_other (e ∷ past) (bus_of cpu page reasons.Slot) refl first)
+    by_answer (answers.Bus why) silent = (flat_other past (bus_of cpu page why) silent.building seen, tt)
+    by_answer (answers.Again why) silent = (tt, tt)
+    by_answer answers.Here silent = (tt, tt)
 
 -- ---- the end of a load
 
@@ -328,7 +386,7 @@ module _ (made : Making) (j : JobView) (past : List Entry) (calls : List Call) (
         (subst (λ (x : Entry). TellsRecord j.key past (gift past calls) x.event calls) (sym same) end_record);
   }
 
-  same_entry : entry_in loaded ≡ is.entry
+  pub same_entry : entry_in loaded ≡ is.entry
   same_entry = by_refused (is_refused is.entry.event) refl
     where
       by_refused : (b : Bool) → is_refused is.entry.event ≡ b → entry_in loaded ≡ is.entry
@@ -369,7 +427,7 @@ end_builds s t cpu f rec e is = by_row _ _ (first_of_row (commit_row s f.0 is.co
     by_row X Y (Some refusal) k = ap (λ (x : Entry). is_building x.event) k.0
 
 -- flat memory goes on with it, and with the bus behind it
-pub end_flat : (past : List Entry) (d d' : Driver) (s t : State) (cpu : Cpu) (page : Page) (slot : SlotAt) (f : Frame) (rec : Sealed)
+pub end_flat : (past : List Entry) (d d' : Driver) (s t : State) (cpu : Cpu) (page : Page) (slot : VaSlot) (f : Frame) (rec : Sealed)
     (loaded : Loaded) → IsFinished cpu page slot f rec d s loaded d' t → EnclavesAreFlat past
     → EnclavesAreFlat (entry_in loaded ∷ past) × OfBus cpu page loaded (λ e bus. EnclavesAreFlat (bus ∷ e ∷ past))
 end_flat past d d' s t cpu page slot f rec loaded is seen = by_end loaded (by_refused (is_refused is.entry.event) refl)

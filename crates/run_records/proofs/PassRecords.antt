@@ -1,16 +1,18 @@
 -- The entry of a turn of a pass and the end of a write-out tell what is so of their records.
-use Rattle.std.proofs.Common.{◌≡◌, ℕ, zero, suc, ◌≤◌, inl, inr, Bool, true, false, refl, sym}
-use Rattle.std.proofs.Common.{◌∙◌, ap, subst, List, ◌∷◌, Option, Some, None, length, min, slice_get, sum, arith}
+use Rattle.std.proofs.Common.{◌≡◌, ℕ, zero, suc, inl, inr, Bool, true, false, refl, sym}
+use Rattle.std.proofs.Common.{◌∙◌, ap, subst, List, ◌∷◌, Option, Some, None, length}
 use Rattle.std.specs.Option.{IsSomeAnd}
 use Rattle.std.proofs.lemmas.Option.{same_Some}
 use Rattle.sgx_types.specs.declared.names.Actor.TheVariants as actors
 use Rattle.sgx_rules.specs.declared.entries.Entry.{Entry}
 use Rattle.sgx_rules.specs.declared.entries.Event.{Event}
-use Rattle.sgx_rules.specs.declared.entries.Event.TheVariants.{Refused, Age}
+use Rattle.sgx_rules.specs.declared.entries.Action.TheVariants.{Block, EwbStart, Track}
+use Rattle.sgx_rules.specs.declared.entries.Event.TheVariants.{Age, Did, Refused}
 use Rattle.sgx_rules.specs.declared.entries.Look.{Look}
 use Rattle.sgx_rules.specs.declared.entries.Look.TheVariants as looks
 use Rattle.sgx_types.specs.declared.names.Frame.{Frame}
 use Rattle.sgx_types.specs.declared.names.Page.{Page}
+use Rattle.sgx_types.specs.declared.names.SlotAt.{SlotAt}
 use Rattle.sgx_rules.specs.declared.refusals.Refusal.TheVariants as why
 use Rattle.sgx_types.specs.Making.{Making}
 use Rattle.sgx_types.specs.declared.record.Header.{Header}
@@ -21,9 +23,11 @@ use Rattle.job_grammar.specs.Jobs.{JobView}
 use Rattle.seal_record.specs.Cipher.{cipher, sealed, tag}
 use Rattle.backing_store.specs.Calls.{Call, Put}
 use Rattle.backing_store.specs.inner.Calls.{with_call}
+use Rattle.active_list.specs.inner.Places.{total}
+use Rattle.paging_laws.specs.inner.Shape.{ShapeWithRules}
 use Rattle.paging_laws.specs.inner.State.{State}
-use Rattle.paging_laws.specs.inner.Steps.{IsWrittenOut, header_in}
-use Rattle.paging_machine.specs.inner.Parts.{Parts, cpu_at, state_of}
+use Rattle.paging_laws.specs.inner.Steps.{IsStep, IsWrittenOut, header_in}
+use Rattle.paging_machine.specs.inner.Parts.{Parts, state_of}
 use Rattle.driver_rules.specs.declared.waits.Why.TheVariants as waits
 use Rattle.driver_tables.specs.declared.driver.Driver.{Driver}
 use Rattle.turn_tables.specs.declared.turns.Turns.{Turns}
@@ -33,109 +37,188 @@ use Rattle.run_history.specs.Stored.{IsSealedRecord}
 use Rattle.run_history.specs.Stored.{Tells as TellsRecord}
 use Rattle.driver_calls.specs.inner.Comes.{Comes, Tells, TurnComes}
 use Rattle.driver_calls.proofs.PassLaws.{stored_tells, turn_tells}
-use Rattle.reclaim_worker.specs.declared.turns.Form.{Form}
-use Rattle.reclaim_worker.specs.declared.turns.Form.TheVariants as forms
-use Rattle.reclaim_worker.specs.declared.turns.Phase.{Phase}
-use Rattle.reclaim_worker.specs.declared.turns.Phase.TheVariants as phases
+use Rattle.reclaim_pass.specs.declared.stages.Aside.{Aside}
+use Rattle.reclaim_pass.specs.declared.stages.Aside.TheVariants as asides
+use Rattle.reclaim_pass.specs.declared.stages.Form.{Form}
+use Rattle.reclaim_pass.specs.declared.stages.Form.TheVariants as forms
+use Rattle.reclaim_pass.specs.declared.stages.Stage.{Stage}
+use Rattle.reclaim_pass.specs.declared.stages.Stage.TheVariants as stages
+use Rattle.reclaim_pass.specs.declared.stages.Taken.{Taken}
+use Rattle.reclaim_pass.specs.inner.Dues.{due_in}
+use Rattle.reclaim_pass.specs.inner.Keeping.{keepers_by}
+use Rattle.reclaim_pass.specs.inner.Viewed.{PassView, sealing_in, taken_at}
 use Rattle.reclaim_worker.specs.declared.turns.PassTurn.{PassTurn}
 use Rattle.reclaim_worker.specs.declared.turns.PassTurn.TheVariants as turns
-use Rattle.reclaim_worker.specs.declared.turns.Taken.{Taken}
 use Rattle.reclaim_worker.specs.inner.Answers.{by_reclaimer}
-use Rattle.reclaim_worker.specs.inner.Asked.{look_in, look_told, told_by}
+use Rattle.reclaim_worker.specs.inner.Asked.{look_told, told_by}
+use Rattle.reclaim_worker.specs.inner.Going.{TurnGoes}
 use Rattle.reclaim_worker.specs.inner.Looked.{told_look}
-use Rattle.reclaim_worker.specs.inner.Moves.{IsBlockTurn, IsTryTurn, turn_of, turn_of_track}
-use Rattle.reclaim_worker.specs.inner.Ready.{Ready}
-use Rattle.reclaim_worker.specs.inner.Rests.{DriverSays, IsWait}
-use Rattle.reclaim_worker.specs.inner.Scans.{IsScanned}
+use Rattle.reclaim_worker.specs.inner.Ready.{CanStep, Ready}
+use Rattle.reclaim_worker.specs.inner.Rests.{IsWait}
 use Rattle.reclaim_worker.specs.inner.Stored.{IsStored, StoredSays}
-use Rattle.reclaim_worker.specs.inner.Tried.{count_from, is_kept_by}
-use Rattle.reclaim_worker.specs.inner.Turning.{IsFormTurn, TurnSays, WithPage}
+use Rattle.reclaim_worker.specs.inner.Turning.{AsideSays, DueSays, FormSays, IsBegun, IsMadeTurn, IsScanned, IsTryTurn, StageSays}
+use Rattle.reclaim_worker.specs.inner.Turning.{ThirdSays, turn_of, TurnSays, WithPage}
 use Rattle.run_book.specs.inner.Books.{AreTold, IsTold, KeepsBook}
 use Rattle.run_book.specs.inner.Turns.{OfEntry}
 use Rattle.run_records.specs.inner.Builds.{is_building}
+use Rattle.run_records.specs.inner.Honest.{StaysHonest}
 use Rattle.run_records.specs.inner.Silent.{IsSilent, MakesNoEntry}
 use Rattle.run_records.proofs.FlatSteps.{flat_other}
 use Rattle.paging_laws.proofs.MoveEnds.{headers_agree}
-use Rattle.run_records.proofs.ToldLaws.{block_silent, ewbstart_silent, track_silent}
+use Rattle.run_records.proofs.QuietLaws.{carried_honest, IsQuiet}
+use Rattle.run_records.proofs.ToldLaws.{step_is}
 
 -- ---- the entries of turns
 
+-- it tells nothing of a record, and a run over an honest store stays honest with it
+record IsTurnEntry (e : Entry) : Type 0 where
+  silent : IsSilent e
+  quiet : IsQuiet e.event
+
+-- a look is such an entry
+look_entry : (page : Page) (look : Look) → IsTurnEntry (by_reclaimer (Age page look))
+look_entry page look = record {
+  silent = record { building = refl; tells = λ key past gifts calls. tt };
+  quiet = record { back = refl; finds = λ past. tt; puts = λ key past calls. tt };
+}
+
+-- .. and so are a block, a track and the start of a write-out, done or refused
+block_entry : (s t : State) (f : Frame) (e : Entry) → IsStep s actors.Reclaimer (Block f) e t → IsTurnEntry e
+block_entry s t f e =
+    step_is IsTurnEntry s t actors.Reclaimer (Block f) e (λ answer. record {
+      silent = record { building = refl; tells = λ key past gifts calls. tt };
+      quiet = record { back = refl; finds = λ past. tt; puts = λ key past calls. tt };
+    }) (λ refusal. record {
+      silent = record { building = refl; tells = λ key past gifts calls. tt };
+      quiet = record { back = refl; finds = λ past. tt; puts = λ key past calls. tt };
+    }) (λ k. k.0)
+
+track_entry : (s t : State) (enclave : ℕ) (e : Entry) → IsStep s actors.Reclaimer (Track enclave) e t → IsTurnEntry e
+track_entry s t enclave e =
+    step_is IsTurnEntry s t actors.Reclaimer (Track enclave) e (λ answer. record {
+      silent = record { building = refl; tells = λ key past gifts calls. tt };
+      quiet = record { back = refl; finds = λ past. tt; puts = λ key past calls. tt };
+    }) (λ refusal. record {
+      silent = record { building = refl; tells = λ key past gifts calls. tt };
+      quiet = record { back = refl; finds = λ past. tt; puts = λ key past calls. tt };
+    }) (λ k. k.0)
+
+start_entry : (s t : State) (f : Frame) (at : SlotAt) (e : Entry) → IsStep s actors.Reclaimer (EwbStart f at) e t → IsTurnEntry e
+start_entry s t f at e =
+    step_is IsTurnEntry s t actors.Reclaimer (EwbStart f at) e (λ answer. record {
+      silent = record { building = refl; tells = λ key past gifts calls. tt };
+      quiet = record { back = refl; finds = λ past. tt; puts = λ key past calls. tt };
+    }) (λ refusal. record {
+      silent = record { building = refl; tells = λ key past gifts calls. tt };
+      quiet = record { back = refl; finds = λ past. tt; puts = λ key past calls. tt };
+    }) (λ k. k.0)
+
 -- of a turn that is known
-said_turn : (said turn : PassTurn) → turn ≡ said → OfEntry said IsSilent → OfEntry turn IsSilent
-said_turn said turn is h = subst (λ x. OfEntry x IsSilent) (sym is) h
+said_turn : (said turn : PassTurn) → turn ≡ said → OfEntry said IsTurnEntry → OfEntry turn IsTurnEntry
+said_turn said turn is h = subst (λ x. OfEntry x IsTurnEntry) (sym is) h
 
--- a look tells nothing of a record
-scan_silent : (taken longer : List Taken) (left : ℕ) (d d' : Driver) (turn : PassTurn) (phase' : Phase)
-    → IsScanned taken left d turn longer phase' d' → OfEntry turn IsSilent
-scan_silent taken longer left d d' turn phase' (inl is) =
-    said_turn (turns.One (by_reclaimer (Age is.page is.look))) turn is.told
-    (record { building = refl; tells = λ key past gifts calls. tt })
-scan_silent taken longer left d d' turn phase' (inr is) = said_turn (turns.Again waits.AllHeld) turn is.1 tt
+-- .. by its entry
+entry_turn : (e : Entry) (event : Event) → IsTurnEntry e → OfEntry (turn_of e event) IsTurnEntry
+entry_turn e (Did (EwbStart f slot) answer) h = h
+entry_turn e (Refused action (why.NotTracked epoch older)) h = h
+entry_turn e (Refused action (why.SlotOccupied version)) h = h
+entry_turn e (Refused action refusal) h = h
+entry_turn e event h = h
 
--- .. nor does a try, by the turn that it makes
-tried_silent : (e : Entry) (event : Event) → IsSilent e → OfEntry (turn_of e event) IsSilent
-tried_silent e (Refused action (why.NotTracked epoch older)) h = h
-tried_silent e (Refused action refusal) h = h
-tried_silent e event h = h
+module _ (v v' : PassView) (d d' : Driver) (m m' : Parts) (turn : PassTurn) where
+  -- a try starts a write-out or is refused, or there is no slot for it
+  tried : (one : Taken) → IsTryTurn one v d (state_of m) turn v' d' (state_of m') → OfEntry turn IsTurnEntry
+  tried one (inl is) =
+      said_turn (turn_of is.entry is.entry.event) turn is.told
+      (entry_turn is.entry is.entry.event (start_entry (state_of m) (state_of m') one.frame is.tried.at is.entry is.tried.step))
+  tried one (inr is) = said_turn (turns.Again waits.NoSlot) turn is.1 tt
 
--- .. or a track
-tracked_silent : (e : Entry) (event : Event) → IsSilent e → OfEntry (turn_of_track e event) IsSilent
-tracked_silent e (Refused action refusal) h = h
-tracked_silent e event h = h
+  third : (n : ℕ) (one : Taken) → ThirdSays n one v d (state_of m) turn v' d' (state_of m') → OfEntry turn IsTurnEntry
+  third zero one is = tried one is
+  third (suc n) one is = said_turn _ turn is tt
 
--- a try starts a write-out or is refused, or there is no slot for it
-try_silent : (next : ℕ) (form : Form) (block : ℕ) (one : Taken) (s t : State) (d d' : Driver) (turn : PassTurn) (phase' : Phase)
-    → IsTryTurn next form block one s d turn phase' d' t → OfEntry turn IsSilent
-try_silent next form block one s t d d' turn phase' (inl is) =
-    said_turn (turn_of is.entry is.entry.event) turn is.told
-    (tried_silent is.entry is.entry.event (ewbstart_silent s t actors.Reclaimer one.frame is.tried.slot is.entry is.tried.step))
-try_silent next form block one s t d d' turn phase' (inr is) = said_turn turns.NoSlot turn is.1 tt
+  -- the tries of a page in their order, with the track and the kicks between them
+  formed : (form : Form) (one : Taken) → FormSays form one v d m turn v' d' m' → OfEntry turn IsTurnEntry
+  formed forms.First one is = tried one is
+  formed forms.Track one is =
+      said_turn (turn_of is.0.entry is.0.entry.event) turn is.0.told
+      (entry_turn is.0.entry is.0.entry.event (track_entry (state_of m) (state_of m') one.page.enclave is.0.entry is.0.step))
+  formed forms.Second one is = tried one is
+  formed (forms.Kick epoch false) one is = said_turn _ turn is.0.told tt
+  formed (forms.Kick epoch true) one is = third (length (keepers_by m one.page.enclave epoch)) one is
+  formed (forms.Third epoch) one is = third (length (keepers_by m one.page.enclave epoch)) one is
+  formed (forms.Kicks epoch next) one is = absurd is
+  formed forms.Sealing one is = absurd is
 
--- the tries of a page in their order, with the track and the kicks between them
-form_silent : (next : ℕ) (form : Form) (block : ℕ) (one : Taken) (m m' : Parts) (d d' : Driver) (turn : PassTurn) (phase' : Phase)
-    → IsFormTurn next form block one m d turn phase' d' m' → OfEntry turn IsSilent
-form_silent next forms.First block one m m' d d' turn phase' is =
-    try_silent next forms.First block one (state_of m) (state_of m') d d' turn phase' is
-form_silent next forms.Track block one m m' d d' turn phase' is =
-    said_turn (turn_of_track is.entry is.entry.event) turn is.told
-    (tracked_silent is.entry is.entry.event (track_silent (state_of m) (state_of m') actors.Reclaimer one.page.enclave is.entry is.step))
-form_silent next forms.Second block one m m' d d' turn phase' is =
-    try_silent next forms.Second block one (state_of m) (state_of m') d d' turn phase' is
-form_silent next forms.Kick block one m m' d d' turn phase' is = said_turn _ turn is.told tt
-form_silent next forms.Third block one m m' d d' turn phase' is = by_count _ refl
+  scanned : IsScanned v d turn v' d' → OfEntry turn IsTurnEntry
+  scanned (inl is) = said_turn _ turn is.told (look_entry is.page is.look)
+  scanned (inr is) = said_turn (turns.Again waits.AllHeld) turn is.1 tt
+
+  begun : IsBegun v d turn v' d' → OfEntry turn IsTurnEntry
+  begun (inl is) = scanned is.1
+  begun (inr is) = said_turn (turns.Again waits.AllHeld) turn is.1 tt
+
+  -- what the pass gives
+  staged : (stage : Stage) → StageSays stage v d m turn v' d' m' → OfEntry turn IsTurnEntry
+  staged (stages.Idle false) is = said_turn _ turn is tt
+  staged (stages.Idle true) is = begun is
+  staged (stages.Scan left) is = scanned is
+  staged (stages.Block next) is = by_page (taken_at v next) is
+    where
+      by_page : (o : Option Taken) → WithPage o (turn ≡ turns.Again waits.AllHeld)
+          (λ one. IsMadeTurn (Block one.frame) v (state_of m) turn v' (state_of m') × (d' ≡ d)) → OfEntry turn IsTurnEntry
+      by_page None k = said_turn _ turn k tt
+      by_page (Some one) k =
+          said_turn (turn_of k.0.entry k.0.entry.event) turn k.0.told
+          (entry_turn k.0.entry k.0.entry.event (block_entry (state_of m) (state_of m') one.frame k.0.entry k.0.step))
+  staged (stages.Tries next form) is = by_page (taken_at v next) is
+    where
+      by_page : (o : Option Taken) → WithPage o (turn ≡ turns.Again waits.AllHeld)
+          (λ one. FormSays form one v d m turn v' d' m') → OfEntry turn IsTurnEntry
+      by_page None k = said_turn _ turn k tt
+      by_page (Some one) k = formed form one k
+
+  -- a page that is due comes before
+  due_turn : (o : Option Page) → DueSays o v d m turn v' d' m' → OfEntry turn IsTurnEntry
+  due_turn None is = staged v.stage is
+  due_turn (Some page) is = said_turn _ turn is.told (look_entry page is.look)
+
+  aside_turn : (aside : Aside) → AsideSays aside v d m turn v' d' m' → OfEntry turn IsTurnEntry
+  aside_turn asides.None is = due_turn (due_in d (state_of m) v.behind) is
+  aside_turn (asides.ToGo one) is =
+      said_turn (turn_of is.0.entry is.0.entry.event) turn is.0.told
+      (entry_turn is.0.entry is.0.entry.event
+      (start_entry (state_of m) (state_of m') one.frame is.0.started.at is.0.entry is.0.started.step))
+  aside_turn (asides.Going one) is = absurd is
+
+-- so is that of any turn
+turn_entry : (v v' : PassView) (d d' : Driver) (m m' : Parts) (turn : PassTurn) → TurnSays v d m turn v' d' m' → OfEntry turn IsTurnEntry
+turn_entry v v' d d' m m' turn says = aside_turn v v' d d' m m' turn v.aside says
+
+-- .. it tells nothing of a record
+turn_silent : (v v' : PassView) (d d' : Driver) (m m' : Parts) (turn : PassTurn) → TurnSays v d m turn v' d' m' → OfEntry turn IsSilent
+turn_silent v v' d d' m m' turn says = by_turn turn (turn_entry v v' d d' m m' turn says)
   where
-    by_count : (count : ℕ) → count_from (λ p. is_kept_by (cpu_at m p).mode one.page.enclave block) 0 d.cpus ≡ count
-        → OfEntry turn IsSilent
-    by_count zero none = try_silent next forms.Third block one (state_of m) (state_of m') d d' turn phase' (is.tried none)
-    by_count (suc k) some =
-        let least : 1 ≤ suc k = omega arith in
-        said_turn _ turn (is.patient (subst (λ c. 1 ≤ c) (sym some) least)) tt
+    by_turn : (x : PassTurn) → OfEntry x IsTurnEntry → OfEntry x IsSilent
+    by_turn (turns.One e) h = h.silent
+    by_turn (turns.Seal e) h = h.silent
+    by_turn (turns.Spent e) h = h.silent
+    by_turn (turns.Kicks bits) h = tt
+    by_turn (turns.Again reason) h = tt
 
--- the entry of any turn tells nothing of a record
-pub turn_silent : (taken taken' : List Taken) (phase phase' : Phase) (d d' : Driver) (m m' : Parts) (turn : PassTurn)
-    → TurnSays taken phase d m turn taken' phase' d' m' → OfEntry turn IsSilent
-turn_silent taken taken' (phases.Idle false) phase' d d' m m' turn says = said_turn _ turn says tt
-turn_silent taken taken' (phases.Idle true) phase' d d' m m' turn (inl is) =
-    scan_silent taken taken' (min d.marks.scan (length d.active.pages)) d d' turn phase' is.first
-turn_silent taken taken' (phases.Idle true) phase' d d' m m' turn (inr is) = said_turn _ turn is.1 tt
-turn_silent taken taken' (phases.Scan left) phase' d d' m m' turn says = scan_silent taken taken' left d d' turn phase' says
-turn_silent taken taken' (phases.Block next) phase' d d' m m' turn says = by_page (slice_get taken next) says.0
+-- .. and leaves a run over an honest store honest
+pub turn_honest : (made : Making) (past : List Entry) (told : Option (List Call)) (v v' : PassView) (d d' : Driver) (m m' : Parts)
+    (turn : PassTurn) → ShapeWithRules made (state_of m) past → TurnSays v d m turn v' d' m'
+    → TurnGoes (state_of m) turn (state_of m') → OfEntry turn (λ e. StaysHonest made past m e m' told)
+turn_honest made past told v v' d d' m m' turn shape says goes = by_turn turn (turn_entry v v' d d' m m' turn says) goes
   where
-    by_page : (o : Option Taken)
-        → WithPage o (turn ≡ turns.Again waits.AllHeld) (λ one. IsBlockTurn taken next one (state_of m) turn phase' (state_of m'))
-        → OfEntry turn IsSilent
-    by_page None is = said_turn _ turn is tt
-    by_page (Some one) is =
-        said_turn (turns.One is.entry) turn is.told
-        (block_silent (state_of m) (state_of m') actors.Reclaimer one.frame is.entry is.step)
-turn_silent taken taken' (phases.Tries next form block) phase' d d' m m' turn says = by_page (slice_get taken next) says.0
-  where
-    by_page : (o : Option Taken)
-        → WithPage o (turn ≡ turns.Again waits.AllHeld) (λ one. IsFormTurn next form block one m d turn phase' d' m')
-        → OfEntry turn IsSilent
-    by_page None is = said_turn _ turn is tt
-    by_page (Some one) is = form_silent next form block one m m' d d' turn phase' is
-turn_silent taken taken' (phases.Sealing next slot) phase' d d' m m' turn says = absurd says
+    by_turn : (x : PassTurn) → OfEntry x IsTurnEntry → TurnGoes (state_of m) x (state_of m')
+        → OfEntry x (λ e. StaysHonest made past m e m' told)
+    by_turn (turns.One e) h go = carried_honest made past m m' e told h.quiet shape go
+    by_turn (turns.Seal e) h go = carried_honest made past m m' e told h.quiet shape go
+    by_turn (turns.Spent e) h go = carried_honest made past m m' e told h.quiet shape go
+    by_turn (turns.Kicks bits) h go = tt
+    by_turn (turns.Again reason) h go = tt
 
 -- a store that tells nothing goes on so
 look_none : (page : Page) (look : Look) → told_look page look None ≡ None
@@ -171,39 +254,33 @@ turn_calls j past calls longer d d' (turns.Spent e) comes silent = entry_told j 
 turn_calls j past calls longer d d' turn comes silent = tt
 
 -- .. where the store tells its calls, and where it does not
-pub turn_told : (j : JobView) (past : List Entry) (told told' : Option (List Call)) (taken taken' : List Taken) (phase phase' : Phase)
-    (d d' : Driver) (m m' : Parts) (turn : PassTurn) → d.states.counts ≡ d.active.counts → length d.states.states ≡ sum d.states.counts
-    → TurnSays taken phase d m turn taken' phase' d' m' → DriverSays phase d d' → (IsWait turn → d' ≡ d)
-    → told' ≡ told_by (look_in phase turn) told → OfEntry turn (λ e. AreTold j past e told told' d d')
-turn_told j past None told' taken taken' phase phase' d d' m m' turn counts sized says still stays is =
-    subst (λ o. OfEntry turn (λ e. AreTold j past e None o d d')) (sym (is ∙ by_none (look_in phase turn)))
+pub turn_told : (j : JobView) (past : List Entry) (told told' : Option (List Call)) (v v' : PassView) (d d' : Driver) (m m' : Parts)
+    (turn : PassTurn) → d.states.counts ≡ d.active.counts → length d.states.states ≡ total d.states.counts → CanStep v d m
+    → TurnSays v d m turn v' d' m' → (IsWait turn → d' ≡ d) → told' ≡ told_by (look_told turn) told
+    → OfEntry turn (λ e. AreTold j past e told told' d d')
+turn_told j past None told' v v' d d' m m' turn counts sized can says stays is =
+    subst (λ o. OfEntry turn (λ e. AreTold j past e None o d d')) (sym (is ∙ by_none (look_told turn)))
     (of_each turn (λ e. AreTold j past e None None d d') (λ e. tt))
-turn_told j past (Some calls) told' taken taken' phase phase' d d' m m' turn counts sized says still stays is =
-    by_told told' (turn_tells calls taken taken' phase phase' d d' m m' turn told' counts sized says still stays is)
+turn_told j past (Some calls) told' v v' d d' m m' turn counts sized can says stays is =
+    by_told told' (turn_tells calls v v' d d' m m' turn told' counts sized can says stays is)
   where
     by_told : (o : Option (List Call)) → Tells o (λ longer. TurnComes turn calls longer d d')
         → OfEntry turn (λ e. AreTold j past e (Some calls) o d d')
     by_told None comes = absurd comes
-    by_told (Some longer) comes =
-        turn_calls j past calls longer d d' turn comes (turn_silent taken taken' phase phase' d d' m m' turn says)
+    by_told (Some longer) comes = turn_calls j past calls longer d d' turn comes (turn_silent v v' d d' m m' turn says)
 
 -- a turn with no entry makes no call
 no_look : (turn : PassTurn) → MakesNoEntry turn → look_told turn ≡ None
 no_look (turns.One e) none = absurd none
 no_look turn none = refl
 
--- .. in any phase
-pub turn_stays : (told : Option (List Call)) (phase : Phase) (turn : PassTurn) → MakesNoEntry turn
-    → told_by (look_in phase turn) told ≡ told
-turn_stays told (phases.Idle true) turn none = ap (λ o. told_by o told) (no_look turn none)
-turn_stays told (phases.Scan left) turn none = ap (λ o. told_by o told) (no_look turn none)
-turn_stays told phase turn none = refl
+pub turn_stays : (told : Option (List Call)) (turn : PassTurn) → MakesNoEntry turn → told_by (look_told turn) told ≡ told
+turn_stays told turn none = ap (λ o. told_by o told) (no_look turn none)
 
 -- flat memory goes on with the entry of a turn
-pub turn_flat : (past : List Entry) (taken taken' : List Taken) (phase phase' : Phase) (d d' : Driver) (m m' : Parts) (turn : PassTurn)
-    → TurnSays taken phase d m turn taken' phase' d' m' → EnclavesAreFlat past → OfEntry turn (λ e. EnclavesAreFlat (e ∷ past))
-turn_flat past taken taken' phase phase' d d' m m' turn says seen =
-    by_turn turn (turn_silent taken taken' phase phase' d d' m m' turn says)
+pub turn_flat : (past : List Entry) (v v' : PassView) (d d' : Driver) (m m' : Parts) (turn : PassTurn) → TurnSays v d m turn v' d' m'
+    → EnclavesAreFlat past → OfEntry turn (λ e. EnclavesAreFlat (e ∷ past))
+turn_flat past v v' d d' m m' turn says seen = by_turn turn (turn_silent v v' d d' m m' turn says)
   where
     by_turn : (x : PassTurn) → OfEntry x IsSilent → OfEntry x (λ e. EnclavesAreFlat (e ∷ past))
     by_turn (turns.One e) silent = flat_other past e silent.building seen
@@ -223,18 +300,14 @@ record IsPutOut (s : State) (told told' : Option (List Call)) (e : Entry) (t : S
   call : told' ≡ with_call (Put page rec failed) told
 
 -- .. by what is told of the end of a write-out
-put_out : (taken : List Taken) (phase : Phase) (s t : State) (d d' : Driver) (told told' : Option (List Call)) (faults faults' : ℕ)
-    (e : Entry) → StoredSays taken phase s d told faults e t d' told' faults' → IsPutOut s told told' e t
-put_out taken (phases.Sealing next slot) s t d d' told told' faults faults' e says = by_page (slice_get taken next) says
+put_out : (v : PassView) (s t : State) (d d' : Driver) (told told' : Option (List Call)) (faults faults' : ℕ) (e : Entry)
+    → StoredSays v s d told faults e t d' told' faults' → IsPutOut s told told' e t
+put_out v s t d d' told told' faults faults' e says = by_page (sealing_in v) says
   where
-    by_page : (o : Option Taken) → IsSomeAnd o (λ one. IsStored one slot s d told faults e t d' told' faults') → IsPutOut s told told' e t
+    by_page : (o : Option Taken) → IsSomeAnd o (λ one. IsStored one s d told faults e t d' told' faults') → IsPutOut s told told' e t
     by_page None k = absurd k
     by_page (Some one) k =
         record { frame = one.frame; page = one.page; rec = k.rec; failed = k.failed; out = k.out; call = k.call }
-put_out taken (phases.Idle works) s t d d' told told' faults faults' e says = absurd says
-put_out taken (phases.Scan left) s t d d' told told' faults faults' e says = absurd says
-put_out taken (phases.Block next) s t d d' told told' faults faults' e says = absurd says
-put_out taken (phases.Tries next form block) s t d d' told told' faults faults' e says = absurd says
 
 -- the header of a page in its frame is the one that flat memory gives it
 pub header_held : (made : Making) (j : JobView) (past : List Entry) (told : Option (List Call)) (d : Driver) (m : Parts) (t : Turns)
@@ -282,17 +355,16 @@ put_tells key past gifts s t e f page rec failed calls longer out is sealed =
 
 -- .. where the store tells its calls, and where it does not
 pub out_told : (made : Making) (j : JobView) (past : List Entry) (told told' : Option (List Call)) (d d' : Driver) (m m' : Parts)
-    (t : Turns) (taken : List Taken) (phase : Phase) (faults faults' : ℕ) (e : Entry) → KeepsBook made j past told d m t → made.key ≡ j.key
-    → Ready made j past taken phase d m → StoredSays taken phase (state_of m) d told faults e (state_of m') d' told' faults'
-    → AreTold j past e told told' d d'
-out_told made j past None told' d d' m m' t taken phase faults faults' e k keys ready says =
-    let p = put_out taken phase (state_of m) (state_of m') d d' None told' faults faults' e says in
+    (t : Turns) (v : PassView) (faults faults' : ℕ) (e : Entry) → KeepsBook made j past told d m t → made.key ≡ j.key
+    → Ready made j past v d m → StoredSays v (state_of m) d told faults e (state_of m') d' told' faults' → AreTold j past e told told' d d'
+out_told made j past None told' d d' m m' t v faults faults' e k keys ready says =
+    let p = put_out v (state_of m) (state_of m') d d' None told' faults faults' e says in
     subst (λ o. AreTold j past e None o d d') (sym p.call) tt
-out_told made j past (Some calls) told' d d' m m' t taken phase faults faults' e k keys ready says =
-    by_told told' p.call (stored_tells made j past calls taken phase d d' m m' faults faults' e told' ready says)
+out_told made j past (Some calls) told' d d' m m' t v faults faults' e k keys ready says =
+    by_told told' p.call (stored_tells made j past calls v d d' m m' faults faults' e told' ready says)
   where
     p : IsPutOut (state_of m) (Some calls) told' e (state_of m')
-    p = put_out taken phase (state_of m) (state_of m') d d' (Some calls) told' faults faults' e says
+    p = put_out v (state_of m) (state_of m') d d' (Some calls) told' faults faults' e says
 
     by_told : (o : Option (List Call)) → o ≡ Some (Put p.page p.rec p.failed ∷ calls) → Tells o (λ longer. Comes e calls longer d d')
         → AreTold j past e (Some calls) o d d'
@@ -305,9 +377,8 @@ out_told made j past (Some calls) told' d d' m m' t taken phase faults faults' e
     }
 
 -- flat memory goes on with the end of a write-out
-pub out_flat : (past : List Entry) (taken : List Taken) (phase : Phase) (s t : State) (d d' : Driver) (told told' : Option (List Call))
-    (faults faults' : ℕ) (e : Entry) → StoredSays taken phase s d told faults e t d' told' faults' → EnclavesAreFlat past
-    → EnclavesAreFlat (e ∷ past)
-out_flat past taken phase s t d d' told told' faults faults' e says seen =
-    let p = put_out taken phase s t d d' told told' faults faults' e says in
+pub out_flat : (past : List Entry) (v : PassView) (s t : State) (d d' : Driver) (told told' : Option (List Call)) (faults faults' : ℕ)
+    (e : Entry) → StoredSays v s d told faults e t d' told' faults' → EnclavesAreFlat past → EnclavesAreFlat (e ∷ past)
+out_flat past v s t d d' told told' faults faults' e says seen =
+    let p = put_out v s t d d' told told' faults faults' e says in
     flat_other past e (ap (λ (x : Entry). is_building x.event) p.out.entry) seen

@@ -1,7 +1,7 @@
 -- The entries that tell nothing of a record.
-use Rattle.std.proofs.Common.{◌≡◌, ℕ, Bool, true, false, refl, ◌∙◌, ap, List, Option, Some, None, IfSome, MatchOption}
+use Rattle.std.proofs.Common.{◌≡◌, ℕ, true, refl, sym, ◌∙◌, ap, subst, List, Option, Some, None, IfSome, MatchOption}
 use Rattle.sgx_rules.specs.declared.entries.Action.{Action}
-use Rattle.sgx_rules.specs.declared.entries.Action.TheVariants.{Block, Track, EwbStart, Ewb, EldStart, Eld}
+use Rattle.sgx_rules.specs.declared.entries.Action.TheVariants.{Ewb, EldStart, Eld}
 use Rattle.sgx_types.specs.declared.names.Actor.{Actor}
 use Rattle.sgx_rules.specs.declared.entries.Answer.{Answer}
 use Rattle.sgx_rules.specs.declared.entries.Entry.{Entry}
@@ -97,52 +97,24 @@ kick_told j past e cpu told d is = mute_told j past e told d d (rw is kick_mute)
     by_told None = tt
     by_told (Some calls) = kick_moves e cpu calls d is
 
--- ---- blocks, tracks and starts
+-- ---- entries by steps
 
--- a block, a track, or the start of a write-out or a load
-abbrev is_start : Action → Bool
-is_start (Block f) = true
-is_start (Track enclave) = true
-is_start (EwbStart f slot) = true
-is_start (EldStart f page slot) = true
-is_start action = false
-
--- it tells nothing of a record where it was done
-did_silent : (a : Actor) (action : Action) (answer : Answer) → is_start action ≡ true → IsSilent (did_by a action answer)
-did_silent a (Block f) answer h = record { building = refl; tells = λ key past gifts calls. tt }
-did_silent a (Track enclave) answer h = record { building = refl; tells = λ key past gifts calls. tt }
-did_silent a (EwbStart f slot) answer h = record { building = refl; tells = λ key past gifts calls. tt }
-did_silent a (EldStart f page slot) answer h = record { building = refl; tells = λ key past gifts calls. tt }
-did_silent a action answer h = cc
-
--- .. and where it was refused
-refused_silent : (a : Actor) (action : Action) (refusal : Refusal) → is_start action ≡ true → IsSilent (refused_by a action refusal)
-refused_silent a (Block f) refusal h = record { building = refl; tells = λ key past gifts calls. tt }
-refused_silent a (Track enclave) refusal h = record { building = refl; tells = λ key past gifts calls. tt }
-refused_silent a (EwbStart f slot) refusal h = record { building = refl; tells = λ key past gifts calls. tt }
-refused_silent a (EldStart f page slot) refusal h = record { building = refl; tells = λ key past gifts calls. tt }
-refused_silent a action refusal h = cc
-
--- done or refused
-step_silent : (s t : State) (a : Actor) (action : Action) (e : Entry) → is_start action ≡ true
-    → (IsDone s a action e t → e ≡ did_by a action (answer_of s a action)) → IsStep s a action e t → IsSilent e
-step_silent s t a action e start done = by_row (first_of_row (row_of s a action))
+-- what is so of an instruction's entry, done or refused, is so of that of its step
+pub step_is : (P : Entry → Type 0) (s t : State) (a : Actor) (action : Action) (e : Entry)
+    → ((answer : Answer) → P (did_by a action answer)) → ((refusal : Refusal) → P (refused_by a action refusal))
+    → (IsDone s a action e t → e ≡ did_by a action (answer_of s a action)) → IsStep s a action e t → P e
+step_is P s t a action e done refused did = by_row (first_of_row (row_of s a action))
   where
     by_row : (o : Option Refusal) → MatchOption o (IsDone s a action e t)
-        (λ refusal. (e ≡ refused_by a action refusal) × (t ≡ s)) → IsSilent e
-    by_row None is = rw (done is) (did_silent a action (answer_of s a action) start)
-    by_row (Some refusal) is = rw is.0 (refused_silent a action refusal start)
+        (λ refusal. (e ≡ refused_by a action refusal) × (t ≡ s)) → P e
+    by_row None is = subst P (sym (did is)) (done (answer_of s a action))
+    by_row (Some refusal) is = subst P (sym is.0) (refused refusal)
 
--- each of the four by its step
-pub block_silent : (s t : State) (a : Actor) (f : Frame) (e : Entry) → IsStep s a (Block f) e t → IsSilent e
-block_silent s t a f e = step_silent s t a (Block f) e refl (λ k. k.0)
+-- ---- the starts of loads
 
-pub track_silent : (s t : State) (a : Actor) (enclave : ℕ) (e : Entry) → IsStep s a (Track enclave) e t → IsSilent e
-track_silent s t a enclave e = step_silent s t a (Track enclave) e refl (λ k. k.0)
-
-pub ewbstart_silent : (s t : State) (a : Actor) (f : Frame) (slot : SlotAt) (e : Entry) → IsStep s a (EwbStart f slot) e t → IsSilent e
-ewbstart_silent s t a f slot e = step_silent s t a (EwbStart f slot) e refl (λ k. k.0)
-
-pub eldstart_silent : (s t : State) (a : Actor) (f : Frame) (page : Page) (slot : SlotAt) (e : Entry)
+-- the start of a load tells nothing of a record
+pub load_silent : (s t : State) (a : Actor) (f : Frame) (page : Page) (slot : SlotAt) (e : Entry)
     → IsStep s a (EldStart f page slot) e t → IsSilent e
-eldstart_silent s t a f page slot e = step_silent s t a (EldStart f page slot) e refl (λ k. k.0)
+load_silent s t a f page slot e =
+    step_is IsSilent s t a (EldStart f page slot) e (λ answer. record { building = refl; tells = λ key past gifts calls. tt })
+    (λ refusal. record { building = refl; tells = λ key past gifts calls. tt }) (λ k. k.0)

@@ -1,35 +1,42 @@
-//! Laws on what each entry of a run tells of the record of its call. A law is the contract of a function without arguments.
+//! Laws on what each entry of a run tells of the record of its call, and that a run over an honest store stays honest. A law is the
+//! contract of a function without arguments.
 
-ghost use Rattle.std.specs.Prelude.{ℕ, ◌≡◌, ◌<◌, true, false, List, [], ◌∷◌, Option, Some, IfSome, length, sum};
-ghost use Rattle.active_list.specs.inner.Places.{IsPlaced};
+ghost use Rattle.std.specs.Prelude.{ℕ, ◌≡◌, ◌<◌, true, false, List, [], ◌∷◌, Option, Some, IfSome, length};
+ghost use Rattle.active_list.specs.inner.Places.{IsPlaced, total};
 ghost use Rattle.active_list.specs.inner.States.{state_of as page_state};
 ghost use Rattle.backing_store.specs.Calls.{Call};
 ghost use Rattle.book_laws.specs.inner.Stores.{StoreMoves};
 ghost use Rattle.driver_rules.specs.Turns.{Loads, last_of};
+ghost use Rattle.driver_steps.specs.inner.Carried.{Carries};
 ghost use Rattle.driver_tables.specs.declared.driver.Driver.{Driver};
-ghost use Rattle.fault_handler.specs.inner.Finishing.{CanFinish, IsFinished};
+ghost use Rattle.fault_handler.specs.inner.Due.{IsRight};
+ghost use Rattle.fault_handler.specs.inner.Finishing.{CanFinish, IsBack, IsFinished};
 ghost use Rattle.fault_handler.specs.inner.Resolving.{IsResolved};
 ghost use Rattle.fault_handler.specs.declared.answers.FaultAnswer.{FaultAnswer};
 ghost use Rattle.fault_handler.specs.declared.answers.Loaded.{Loaded};
 ghost use Rattle.job_grammar.specs.Jobs.{JobView};
 ghost use Rattle.paging_laws.specs.inner.Columns.{HasColumns};
+ghost use Rattle.paging_laws.specs.inner.Shape.{ShapeWithRules};
 ghost use Rattle.paging_laws.specs.inner.State.{State};
 ghost use Rattle.paging_laws.specs.inner.Steps.{IsStep};
 ghost use Rattle.paging_machine.specs.inner.Parts.{Parts, state_of};
-ghost use Rattle.reclaim_worker.specs.inner.Asked.{look_in, told_by};
-ghost use Rattle.reclaim_worker.specs.inner.Ready.{Ready};
-ghost use Rattle.reclaim_worker.specs.inner.Rests.{DriverSays, IsWait};
-ghost use Rattle.reclaim_worker.specs.inner.Stored.{StoredSays};
+ghost use Rattle.reclaim_pass.specs.inner.Viewed.{PassView};
+ghost use Rattle.reclaim_worker.specs.inner.Asked.{look_told, told_by};
+ghost use Rattle.reclaim_worker.specs.inner.Going.{TurnGoes};
+ghost use Rattle.reclaim_worker.specs.inner.Ready.{CanStep, Ready};
+ghost use Rattle.reclaim_worker.specs.inner.Rests.{IsWait};
+ghost use Rattle.reclaim_worker.specs.inner.Stored.{KeepsArrays, StoredSays};
 ghost use Rattle.reclaim_worker.specs.inner.Turning.{TurnSays};
 ghost use Rattle.reclaim_worker.specs.declared.turns.PassTurn.{PassTurn};
-ghost use Rattle.reclaim_worker.specs.declared.turns.Phase.{Phase};
-ghost use Rattle.reclaim_worker.specs.declared.turns.Taken.{Taken};
 ghost use Rattle.run_book.specs.inner.Books.{AreTold, KeepsBook};
+ghost use Rattle.run_book.specs.inner.Honest.{IsHonestBook};
 ghost use Rattle.run_book.specs.inner.Loads.{OfAnswer, entry_in};
 ghost use Rattle.table_notes.specs.inner.Plain.{is_plain};
 ghost use Rattle.run_book.specs.inner.Turns.{OfEntry};
+ghost use Rattle.run_history.specs.Honest.{IsHonest};
 ghost use Rattle.run_records.specs.inner.Builds.{is_building};
-ghost use Rattle.run_records.specs.inner.Silent.{HasNoEntry, MakesNoEntry, OfBus};
+ghost use Rattle.run_records.specs.inner.Honest.{IsNeverHonest, IsRefusedStart, StaysHonest};
+ghost use Rattle.run_records.specs.inner.Silent.{HasNoEntry, MakesNoEntry, OfBus, OfSlot};
 ghost use Rattle.sgx_types.specs.Making.{Making};
 ghost use Rattle.sgx_rules.specs.declared.entries.Action.{Action};
 ghost use Rattle.sgx_types.specs.declared.names.Actor.{Actor};
@@ -58,11 +65,12 @@ pub fn other_entries_keep_enclaves_flat()
     ensures { (past : List Entry) (e : Entry) → is_building e.event ≡ false → EnclavesAreFlat past → EnclavesAreFlat (e ∷ past) }
 {}
 
-/// Flat memory goes on to have each enclave and page as the entries made it, with the entry of a fault step.
+/// Flat memory goes on to have each enclave and page as the entries made it, with the entry of a fault step, and with the bus behind the
+/// start of a load that is refused.
 pub fn fault_steps_keep_enclaves_flat()
     ensures { (past : List Entry) (cpu : Cpu) (page : Page) (d d' : Driver) (m m' : Parts) (told told' : Option (List Call))
         (answer : FaultAnswer) → IsResolved cpu page (page_state d.states page) d m told answer d' m' told' → EnclavesAreFlat past
-        → OfAnswer cpu page answer (λ e. EnclavesAreFlat (e ∷ past)) }
+        → OfAnswer cpu page answer (λ e. EnclavesAreFlat (e ∷ past)) × OfSlot cpu page answer (λ e bus. EnclavesAreFlat (bus ∷ e ∷ past)) }
 {}
 
 /// Flat memory goes on to have each enclave and page with the end of a load, and with the bus behind one that is refused.
@@ -74,15 +82,15 @@ pub fn ends_of_loads_keep_enclaves_flat()
 
 /// Flat memory goes on to have each enclave and page with the entry of a turn of a pass.
 pub fn turns_of_a_pass_keep_enclaves_flat()
-    ensures { (past : List Entry) (taken taken' : List Taken) (phase phase' : Phase) (d d' : Driver) (m m' : Parts) (turn : PassTurn)
-        → TurnSays taken phase d m turn taken' phase' d' m' → EnclavesAreFlat past → OfEntry turn (λ e. EnclavesAreFlat (e ∷ past)) }
+    ensures { (past : List Entry) (v v' : PassView) (d d' : Driver) (m m' : Parts) (turn : PassTurn) → TurnSays v d m turn v' d' m'
+        → EnclavesAreFlat past → OfEntry turn (λ e. EnclavesAreFlat (e ∷ past)) }
 {}
 
 /// Flat memory goes on to have each enclave and page with the end of a write-out.
 pub fn write_outs_keep_enclaves_flat()
-    ensures { (past : List Entry) (taken : List Taken) (phase : Phase) (d d' : Driver) (m m' : Parts) (told told' : Option (List Call))
-        (faults faults' : ℕ) (e : Entry) → StoredSays taken phase (state_of m) d told faults e (state_of m') d' told' faults'
-        → EnclavesAreFlat past → EnclavesAreFlat (e ∷ past) }
+    ensures { (past : List Entry) (v : PassView) (d d' : Driver) (m m' : Parts) (told told' : Option (List Call)) (faults faults' : ℕ)
+        (e : Entry) → StoredSays v (state_of m) d told faults e (state_of m') d' told' faults' → EnclavesAreFlat past
+        → EnclavesAreFlat (e ∷ past) }
 {}
 
 /// An instruction of the builder or of a processor that moves no page out or back, done or refused, comes with no call, where the tables
@@ -99,13 +107,15 @@ pub fn kicks_tell_their_records()
         → AreTold j past e told told d d }
 {}
 
-/// The entry of a fault step comes with its call, and tells what is so of its record. Without an entry there is no call.
+/// The entry of a fault step comes with its call, and tells what is so of its record. The bus behind the start of a load that is refused
+/// comes with no call of its own. Without an entry there is no call.
 pub fn fault_steps_tell_their_records()
     ensures { (made : Making) (j : JobView) (past : List Entry) (told told' : Option (List Call)) (d d' : Driver) (m m' : Parts) (t : Turns)
         (cpu : Cpu) (page : Page) (answer : FaultAnswer) → KeepsBook made j past told d m t → cpu.0 < length d.kept
-        → IsPlaced d.states.counts page → length d.states.states ≡ sum d.states.counts
+        → IsPlaced d.states.counts page → length d.states.states ≡ total d.states.counts
         → IsResolved cpu page (page_state d.states page) d m told answer d' m' told'
-        → OfAnswer cpu page answer (λ e. AreTold j past e told told' d d') × (HasNoEntry answer → told' ≡ told) }
+        → OfAnswer cpu page answer (λ e. AreTold j past e told told' d d')
+        × OfSlot cpu page answer (λ e bus. AreTold j (e ∷ past) bus told' told' d' d') × (HasNoEntry answer → told' ≡ told) }
 {}
 
 /// The end of a load comes with no call. Done, it tells the tag of the record that the store gave for it, which has the page's header;
@@ -120,22 +130,85 @@ pub fn ends_of_loads_tell_their_records()
 
 /// The entry of a turn of a pass comes with its call, and tells nothing of a record.
 pub fn turns_of_a_pass_tell_their_records()
-    ensures { (j : JobView) (past : List Entry) (told told' : Option (List Call)) (taken taken' : List Taken) (phase phase' : Phase)
-        (d d' : Driver) (m m' : Parts) (turn : PassTurn) → d.states.counts ≡ d.active.counts
-        → length d.states.states ≡ sum d.states.counts → TurnSays taken phase d m turn taken' phase' d' m' → DriverSays phase d d'
-        → (IsWait turn → d' ≡ d) → told' ≡ told_by (look_in phase turn) told → OfEntry turn (λ e. AreTold j past e told told' d d') }
+    ensures { (j : JobView) (past : List Entry) (told told' : Option (List Call)) (v v' : PassView) (d d' : Driver) (m m' : Parts)
+        (turn : PassTurn) → d.states.counts ≡ d.active.counts → length d.states.states ≡ total d.states.counts → CanStep v d m
+        → TurnSays v d m turn v' d' m' → (IsWait turn → d' ≡ d) → told' ≡ told_by (look_told turn) told
+        → OfEntry turn (λ e. AreTold j past e told told' d d') }
 {}
 
 /// A turn of a pass with no entry of the reclaimer makes no call.
 pub fn turns_without_an_entry_make_no_call()
-    ensures { (told : Option (List Call)) (phase : Phase) (turn : PassTurn) → MakesNoEntry turn
-        → told_by (look_in phase turn) told ≡ told }
+    ensures { (told : Option (List Call)) (turn : PassTurn) → MakesNoEntry turn → told_by (look_told turn) told ≡ told }
 {}
 
 /// The end of a write-out comes with the put of its record, which has the page's header and the tag of its version.
 pub fn write_outs_tell_their_records()
     ensures { (made : Making) (j : JobView) (past : List Entry) (told told' : Option (List Call)) (d d' : Driver) (m m' : Parts) (t : Turns)
-        (taken : List Taken) (phase : Phase) (faults faults' : ℕ) (e : Entry) → KeepsBook made j past told d m t → made.key ≡ j.key
-        → Ready made j past taken phase d m → StoredSays taken phase (state_of m) d told faults e (state_of m') d' told' faults'
-        → AreTold j past e told told' d d' }
+        (v : PassView) (faults faults' : ℕ) (e : Entry) → KeepsBook made j past told d m t → made.key ≡ j.key → Ready made j past v d m
+        → StoredSays v (state_of m) d told faults e (state_of m') d' told' faults' → AreTold j past e told told' d d' }
+{}
+
+/// Before the first entry and the first call a run is honest.
+pub fn runs_begin_honest()
+    ensures { (made : Making) (m : Parts) → ShapeWithRules made (state_of m) [] → IsHonestBook made [] m [] }
+{}
+
+/// Over an honest store a run stays honest with an instruction of the builder or of a processor that moves no page out or back.
+pub fn instructions_stay_honest()
+    ensures { (made : Making) (past : List Entry) (e : Entry) (action : Action) (told : Option (List Call)) (m m' : Parts)
+        → action_of e.event ≡ Some action → is_plain action ≡ true → ShapeWithRules made (state_of m) past
+        → Carries (state_of m) e (state_of m') → StaysHonest made past m e m' told }
+{}
+
+/// .. and with a kick.
+pub fn kicks_stay_honest()
+    ensures { (made : Making) (past : List Entry) (e : Entry) (cpu : Cpu) (told : Option (List Call)) (m : Parts) → e.event ≡ Kick cpu
+        → StaysHonest made past m e m told }
+{}
+
+/// .. and with the entry of a turn of a pass.
+pub fn turns_of_a_pass_stay_honest()
+    ensures { (made : Making) (past : List Entry) (told : Option (List Call)) (v v' : PassView) (d d' : Driver) (m m' : Parts)
+        (turn : PassTurn) → ShapeWithRules made (state_of m) past → TurnSays v d m turn v' d' m'
+        → TurnGoes (state_of m) turn (state_of m') → OfEntry turn (λ e. StaysHonest made past m e m' told) }
+{}
+
+/// .. and with the entry of a fault step: no page is told as lost, and the start of a load finds the version that the entries put into
+/// the page's slot.
+pub fn fault_steps_stay_honest()
+    ensures { (made : Making) (j : JobView) (past : List Entry) (told told' : Option (List Call)) (d d' : Driver) (m m' : Parts) (t : Turns)
+        (cpu : Cpu) (page : Page) (answer : FaultAnswer) → KeepsBook made j past told d m t → cpu.0 < length d.kept
+        → IsPlaced d.states.counts page → IsResolved cpu page (page_state d.states page) d m told answer d' m' told'
+        → OfAnswer cpu page answer (λ e. StaysHonest made past m e m' told') }
+{}
+
+/// Over an honest store no start of a load is refused: its page's slot has a version.
+pub fn honest_loads_start()
+    ensures { (made : Making) (j : JobView) (past : List Entry) (told told' : Option (List Call)) (d d' : Driver) (m m' : Parts) (t : Turns)
+        (cpu : Cpu) (page asked : Page) (answer : FaultAnswer) → KeepsBook made j past told d m t → cpu.0 < length d.kept
+        → IsPlaced d.states.counts asked → IsResolved cpu asked (page_state d.states asked) d m told answer d' m' told'
+        → IsRight j past cpu page asked answer d' → IsRefusedStart answer → IsNeverHonest told' }
+{}
+
+/// Over an honest store a run stays honest with the end of a load, which brings the page back: a version array page with the versions
+/// with which it went out.
+pub fn ends_of_loads_stay_honest()
+    ensures back { (made : Making) (j : JobView) (past : List Entry) (told : Option (List Call)) (d d' : Driver) (m m' : Parts) (t : Turns)
+        (cpu : Cpu) (page : Page) (n : ℕ) (loaded : Loaded) (can : CanFinish cpu page d m) → KeepsBook made j past told d m t
+        → made.key ≡ j.key → last_of past cpu.0 ≡ Loads n page
+        → IsFinished cpu page can.slot can.frame can.kept d (state_of m) loaded d' (state_of m')
+        → IfSome told (λ calls. IsHonest calls → IsBack loaded) }
+    ensures stays { (made : Making) (j : JobView) (past : List Entry) (told : Option (List Call)) (d d' : Driver) (m m' : Parts) (t : Turns)
+        (cpu : Cpu) (page : Page) (n : ℕ) (loaded : Loaded) (can : CanFinish cpu page d m) → KeepsBook made j past told d m t
+        → made.key ≡ j.key → last_of past cpu.0 ≡ Loads n page
+        → IsFinished cpu page can.slot can.frame can.kept d (state_of m) loaded d' (state_of m')
+        → StaysHonest made past m (entry_in loaded) m' told }
+{}
+
+/// .. and with the end of a write-out: the record that is put of a version array page has the versions with which it goes out.
+pub fn write_outs_stay_honest()
+    ensures { (made : Making) (j : JobView) (past : List Entry) (told told' : Option (List Call)) (d d' : Driver) (m m' : Parts) (t : Turns)
+        (v : PassView) (faults faults' : ℕ) (e : Entry) → KeepsBook made j past told d m t
+        → StoredSays v (state_of m) d told faults e (state_of m') d' told' faults' → KeepsArrays (state_of m) e (state_of m')
+        → StaysHonest made past m e m' told' }
 {}

@@ -1,9 +1,21 @@
 -- An entry that was made can be noted, and its holds kept.
-use Rattle.std.proofs.Common.{◌≡◌, refl, sym, ◌∙◌, ap, subst, List, Option, length, count_by, arith}
+use Rattle.std.proofs.Common.{◌≡◌, ℕ, Bool, true, false, if◌then◌else◌, refl, sym, ◌∙◌}
+use Rattle.std.proofs.Common.{ap, subst, List, Option, Some, length, count_by, arith}
 use Rattle.sgx_types.specs.declared.names.Actor.{Actor}
 use Rattle.sgx_types.specs.declared.names.Actor.TheVariants as actors
 use Rattle.sgx_rules.specs.declared.entries.Entry.{Entry}
+use Rattle.sgx_rules.specs.declared.entries.Action.TheVariants.{EldStart}
 use Rattle.sgx_rules.specs.declared.entries.Event.{Event}
+use Rattle.sgx_rules.specs.declared.entries.Event.TheVariants.{Did, Refused}
+use Rattle.sgx_types.specs.declared.names.Frame.{Frame}
+use Rattle.sgx_types.specs.declared.names.Page.{Page}
+use Rattle.sgx_types.specs.declared.names.SlotAt.{SlotAt}
+use Rattle.sgx_types.specs.Pages.{same_page}
+use Rattle.sgx_rules.specs.Frames.{vas_made}
+use Rattle.sgx_rules.specs.Slots.{open_slot}
+use Rattle.sgx_types.specs.declared.names.VaSlot.{VaSlot}
+use Rattle.turn_rules.specs.Script.{action_of}
+use Rattle.driver_laws.specs.inner.Agrees.{drivers}
 use Rattle.sgx_types.specs.Making.{Making}
 use Rattle.backing_store.specs.Calls.{Call}
 use Rattle.cached_translations.specs.declared.processor.Mode.{Mode}
@@ -14,11 +26,14 @@ use Rattle.paging_laws.specs.inner.Shape.{ShapeWithRules}
 use Rattle.paging_laws.proofs.ColumnLaws.{inside_is}
 use Rattle.paging_machine.specs.inner.Parts.{Parts, seat_of_mode, state_of}
 use Rattle.driver_rules.specs.Passes.{free_count}
+use Rattle.driver_rules.specs.Places.{Absent, Away, comes_into, Here, is_here, Leaving, Loading, Place, place, place_after}
 use Rattle.driver_rules.specs.Scripts.{IsActors}
 use Rattle.driver_laws.specs.inner.Three.{TcsAreApart}
+use Rattle.driver_rules.specs.Spares.{outs_kept}
 use Rattle.driver_laws.proofs.TcsLaws.{apart_stay}
 use Rattle.driver_tables.specs.declared.driver.Driver.{Driver}
 use Rattle.turn_tables.specs.declared.turns.Turns.{Turns}
+use Rattle.turn_tables.proofs.FirstLaws.{agrees_shown}
 use Rattle.turn_tables.specs.inner.Entries.{CanNote, StoodSo}
 use Rattle.turn_tables.specs.inner.Holding.{KeepsHolds, mode_of}
 use Rattle.turn_tables.specs.inner.Noting.{IsAmong}
@@ -42,6 +57,21 @@ is_among j past t actors.Reclaimer event each next = tt
 
 -- ---- an entry that was made
 
+-- the start of a load brings no page here, and takes none away
+pub start_rests : (made : ℕ) (at : ℕ → Option VaSlot) (ev : Event) (g : Page) (before : Place) (f : Frame) (page : Page) (slot : SlotAt)
+    → action_of ev ≡ Some (EldStart f page slot) → is_here (place_after ev made at g before) ≡ is_here before
+start_rests made at (Did (EldStart n other slot) answer) g before f page to is = by_page (same_page other g) before
+  where
+    by_page : (b : Bool) (p : Place) → is_here (if b then comes_into n.0 p else p) ≡ is_here p
+    by_page false p = refl
+    by_page true Absent = refl
+    by_page true (Here m) = refl
+    by_page true (Leaving m) = refl
+    by_page true (Away s) = refl
+    by_page true (Loading m s) = refl
+start_rests made at (Refused (EldStart n other slot) refusal) g before f page to is = refl
+start_rests made at _ g before f page to is = cc
+
 module _ (made : Making) (j : JobView) (past : List Entry) (told told' : Option (List Call)) (d d' : Driver) (m m' : Parts) (t : Turns)
     (e : Entry) (before : Mode) (k : KeepsBook made j past told d m t) (n : IsMade made j past told d m e told' d' m')
     (is : before ≡ mode_of m e.actor) where
@@ -56,20 +86,24 @@ module _ (made : Making) (j : JobView) (past : List Entry) (told told' : Option 
   pub can_hold : TcsAreApart j → CanHoldBehind j past d' before t e
   can_hold tcs = record {
     can = record {
-      made = made;
+      keeping = drivers j;
       past = past;
       d = d;
       m = m;
-      agrees = k.agrees;
+      shown = agrees_shown made j past d m k.agrees;
       own = n.own;
       counts = n.next.shows.of_job ∙ sym k.agrees.shows.of_job;
+      places = n.next.shows.counts ∙ n.next.shows.of_job ∙ sym (k.agrees.shows.counts ∙ k.agrees.shows.of_job);
+      here = λ f page slot is g placed.
+          ap is_here (n.next.shows.states g placed)
+          ∙ start_rests (vas_made past) (open_slot past) e.event g (place past g) f page slot is;
       stood = is;
       shows = k.turns;
       orderly = k.orderly;
       script = n.next.script;
       holds = subst (λ own. KeepsHolds j own past) (sym n.own) k.holds;
       three = λ p. (k.apart p).three;
-      after = λ p. (apart_stay j past e tcs k.agrees.sound n.next.script n.next.age k.apart p).three;
+      after = λ p. (apart_stay j past (outs_kept j past) e tcs k.agrees.sound n.next.script n.next.age k.apart p).three;
     };
     same = refl;
   }

@@ -1,16 +1,14 @@
 //! What the turns of a book owe. A law is the contract of a function without arguments.
 
-ghost use Rattle.std.specs.Prelude.{ℕ, ◌≡◌, ◌+◌, ◌<◌, true, false, if◌then◌else◌, List, [], ◌∷◌, ◌++◌};
+ghost use Rattle.std.specs.Prelude.{ℕ, ◌≡◌, ◌+◌, ◌<◌, ◌≤◌, true, false, if◌then◌else◌, List, [], ◌∷◌, ◌++◌};
 ghost use Rattle.std.specs.Prelude.{Option, count_by, length};
 ghost use Rattle.backing_store.specs.Calls.{Call};
 ghost use Rattle.cached_translations.specs.declared.processor.Mode.{Mode};
-ghost use Rattle.driver_laws.specs.inner.Kinds.{CanMove};
 ghost use Rattle.driver_laws.specs.inner.Three.{TcsAreApart};
-ghost use Rattle.driver_laws.specs.inner.Tracks.{KeepsTracks, is_reclaimers};
 ghost use Rattle.driver_rules.specs.Dues.{KicksAll, Makes};
 ghost use Rattle.driver_rules.specs.Passes.{free_count, keepers, pass, pass_after};
-ghost use Rattle.driver_rules.specs.inner.Reclaims.{pass_due};
-ghost use Rattle.driver_rules.specs.Scripts.{ScriptRule};
+ghost use Rattle.driver_rules.specs.inner.Reclaims.{going_due};
+ghost use Rattle.driver_rules.specs.Spares.{outs_kept};
 ghost use Rattle.driver_rules.specs.Stops.{is_spent};
 ghost use Rattle.driver_rules.specs.Turns.{builder_due, cpu_due};
 ghost use Rattle.driver_steps.specs.inner.Agrees.{Agrees};
@@ -23,11 +21,8 @@ ghost use Rattle.paging_laws.specs.inner.Steps.{CanApply, MayNeedMemory};
 ghost use Rattle.paging_machine.specs.inner.Parts.{Parts, state_of};
 ghost use Rattle.reclaim_worker.specs.inner.After.{cpu_of, kicked_past};
 ghost use Rattle.reclaim_worker.specs.inner.Answers.{bits_of, by_reclaimer};
-ghost use Rattle.reclaim_worker.specs.inner.Standing.{StandsFor};
-ghost use Rattle.reclaim_worker.specs.declared.turns.Form.TheVariants as forms;
-ghost use Rattle.reclaim_worker.specs.declared.turns.Phase.TheVariants as phases;
-ghost use Rattle.reclaim_worker.specs.declared.turns.Phase.{Phase};
-ghost use Rattle.reclaim_worker.specs.declared.turns.Taken.{Taken};
+ghost use Rattle.reclaim_pass.specs.inner.Standing.{StandsAt, StandsFor};
+ghost use Rattle.reclaim_pass.specs.inner.Viewed.{is_amid, PassView};
 ghost use Rattle.run_book.specs.inner.Books.{IsMade, KeepsBook};
 ghost use Rattle.run_book.specs.inner.Loads.{GoesOnWith};
 ghost use Rattle.table_notes.specs.inner.Plain.{is_plain, is_reclaimer};
@@ -54,19 +49,13 @@ pub fn dues_can_be_made()
         → p < cpus → cpu.0 ≡ p → CanApply cpus (actors.Cpu cpu) action × ((is_plain action ≡ true) × (MayNeedMemory action → ⊥)) }
 {}
 
-/// Behind an entry of another actor, before it is decided whether the reclaimer works, its pass stands for what it stood for. Looks, kicks,
-/// blocks, tracks and write-outs are none of another actor's.
+/// Behind an entry of another actor by which driver and machine go on to agree, before it is decided whether the reclaimer works, its pass
+/// stands for what it stood for.
 pub fn passes_stay_for_others()
-    ensures stays { (made : Making) (j : JobView) (past : List Entry) (d : Driver) (m : Parts) (e : Entry) (taken : List Taken)
-        (phase : Phase) → Agrees made j past d m → CanMove past e.event → is_reclaimer e.actor ≡ false → is_reclaimers e.event ≡ false
-        → KeepsTracks (e ∷ past) (pass j (e ∷ past)) → StandsFor made.first_epoch past taken phase (pass j past)
-        → StandsFor made.first_epoch (e ∷ past) taken phase (pass_after j past e.actor e.event (pass j past)) }
-    ensures next { (made : Making) (j : JobView) (past : List Entry) (d d' : Driver) (m m' : Parts) (e : Entry) (taken : List Taken)
-        (phase : Phase) → Agrees made j past d m → IsNextOf made j past d m e d' m' → is_reclaimer e.actor ≡ false
-        → StandsFor made.first_epoch past taken phase (pass j past)
-        → StandsFor made.first_epoch (e ∷ past) taken phase (pass_after j past e.actor e.event (pass j past)) }
-    ensures others { (j : JobView) (past : List Entry) (e : Entry) → ScriptRule j past e → is_reclaimer e.actor ≡ false
-        → is_reclaimers e.event ≡ false }
+    ensures { (made : Making) (j : JobView) (past : List Entry) (d d' : Driver) (m m' : Parts) (e : Entry) (v : PassView)
+        → j.marks.scan ≤ 64 → Agrees made j past d m → IsNextOf made j past d m e d' m' → is_reclaimer e.actor ≡ false
+        → StandsAt made.first_epoch j past v
+        → StandsFor made.first_epoch (e ∷ past) v (pass_after j past e.actor e.event (pass j past)) }
 {}
 
 /// An entry that was made can be noted in the tables of what is due, and its holds kept in the driver's, by how its actor stood before it.
@@ -92,17 +81,15 @@ pub fn free_is_told()
 /// In a turn of kicks, behind some of them, the kick of the one behind these is one with which driver and machine go on to agree, where the
 /// machine goes on with that note. Those who are kicked rise, and are below 16.
 pub fn kicks_are_next()
-    ensures next { (made : Making) (j : JobView) (past : List Entry) (d : Driver) (m : Parts) (taken : List Taken) (next block : ℕ)
-        (ps done : List ℕ) (p : ℕ) (rest : List ℕ)
-        → StandsFor made.first_epoch past taken (phases.Tries next forms.Kick block) (pass j past)
-        → pass_due j past false (pass j past) ≡ KicksAll ps → is_spent past ≡ false → ps ≡ done ++ (p ∷ rest)
+    ensures next { (made : Making) (j : JobView) (past : List Entry) (d : Driver) (m : Parts) (v : PassView) (ps done : List ℕ) (p : ℕ)
+        (rest : List ℕ) → StandsAt made.first_epoch j past v → is_amid v ≡ false
+        → going_due j past (outs_kept j past) false ≡ KicksAll ps → is_spent past ≡ false → ps ≡ done ++ (p ∷ rest)
         → Agrees made j (kicked_past done past) d m → GoesOnWith made (kicked_past done past) (by_reclaimer (Kick (cpu_of p))) m
         → IsNextOf made j (kicked_past done past) d m (by_reclaimer (Kick (cpu_of p))) d m }
     ensures more { (done : List ℕ) (p : ℕ) (past : List Entry)
         → kicked_past (done ++ (p ∷ [])) past ≡ by_reclaimer (Kick (cpu_of p)) ∷ kicked_past done past }
-    ensures order { (first : ℕ) (j : JobView) (past : List Entry) (taken : List Taken) (next block : ℕ) (ps : List ℕ)
-        → StandsFor first past taken (phases.Tries next forms.Kick block) (pass j past) → pass_due j past false (pass j past) ≡ KicksAll ps
-        → RisesFrom 0 ps × AllBelow 16 ps }
+    ensures order { (first : ℕ) (j : JobView) (past : List Entry) (v : PassView) (ps : List ℕ) → StandsAt first j past v
+        → is_amid v ≡ false → going_due j past (outs_kept j past) false ≡ KicksAll ps → RisesFrom 0 ps × AllBelow 16 ps }
     ensures keepers { (past : List Entry) (g : Page) → RisesFrom 0 (keepers past g) × AllBelow 16 (keepers past g) }
 {}
 

@@ -11,10 +11,9 @@ use Rattle.paging_laws.specs.inner.State.{State}
 use Rattle.driver_tables.specs.declared.driver.Driver.{Driver}
 use Rattle.reclaim_worker.specs.declared.turns.PassTurn.{PassTurn}
 use Rattle.reclaim_worker.specs.declared.turns.PassTurn.TheVariants as passed
-use Rattle.reclaim_worker.specs.declared.turns.Phase.{Phase}
-use Rattle.reclaim_worker.specs.declared.turns.Phase.TheVariants as phases
-use Rattle.reclaim_worker.specs.declared.turns.Taken.{Taken}
-use Rattle.reclaim_worker.specs.inner.Asked.{look_in, told_by}
+use Rattle.reclaim_pass.specs.declared.stages.Taken.{Taken}
+use Rattle.reclaim_pass.specs.inner.Viewed.{PassView, sealing_in}
+use Rattle.reclaim_worker.specs.inner.Asked.{look_told, told_by}
 use Rattle.reclaim_worker.specs.inner.Looked.{told_look}
 use Rattle.reclaim_worker.specs.inner.Rests.{IsWait}
 use Rattle.reclaim_worker.specs.inner.Stored.{IsStored, StoredSays}
@@ -34,45 +33,35 @@ look_tells page looks.NoRoom told = call_tells _ told
 look_tells page look told = refl
 
 -- .. a turn of a pass
-pub turn_tells : (phase : Phase) (turn : PassTurn) (told told' : Option (List Call)) → told' ≡ told_by (look_in phase turn) told
-    → is_some told' ≡ is_some told
-turn_tells phase turn told told' is = ap is_some is ∙ by_look (look_in phase turn)
+pub turn_tells : (turn : PassTurn) (told told' : Option (List Call)) → told' ≡ told_by (look_told turn) told → is_some told' ≡ is_some told
+turn_tells turn told told' is = ap is_some is ∙ by_look (look_told turn)
   where
     by_look : (o : Option (Page × Look)) → is_some (told_by o told) ≡ is_some told
     by_look None = refl
     by_look (Some x) = look_tells x.0 x.1 told
 
 -- .. or the end of a write-out
-pub stored_tells : (taken : List Taken) (phase : Phase) (s t : State) (d d' : Driver) (told told' : Option (List Call)) (before after : ℕ)
-    (e : Entry) → StoredSays taken phase s d told before e t d' told' after → is_some told' ≡ is_some told
-stored_tells taken (phases.Sealing next slot) s t d d' told told' before after e says = by_one _ says
+pub stored_tells : (v : PassView) (s t : State) (d d' : Driver) (told told' : Option (List Call)) (before after : ℕ) (e : Entry)
+    → StoredSays v s d told before e t d' told' after → is_some told' ≡ is_some told
+stored_tells v s t d d' told told' before after e says = by_one (sealing_in v) says
   where
-    by_one : (o : Option Taken) → IsSomeAnd o (λ one. IsStored one slot s d told before e t d' told' after) → is_some told' ≡ is_some told
+    by_one : (o : Option Taken) → IsSomeAnd o (λ one. IsStored one s d told before e t d' told' after) → is_some told' ≡ is_some told
     by_one None k = absurd k
     by_one (Some one) k = ap is_some k.call ∙ call_tells _ told
-stored_tells taken (phases.Idle works) s t d d' told told' before after e says = absurd says
-stored_tells taken (phases.Scan left) s t d d' told told' before after e says = absurd says
-stored_tells taken (phases.Block next) s t d d' told told' before after e says = absurd says
-stored_tells taken (phases.Tries next form block) s t d d' told told' before after e says = absurd says
 
 -- .. whose entry says so
-pub stored_writes : (taken : List Taken) (phase : Phase) (s t : State) (d d' : Driver) (told told' : Option (List Call)) (before after : ℕ)
-    (e : Entry) → StoredSays taken phase s d told before e t d' told' after → WritesOut e.event
-stored_writes taken (phases.Sealing next slot) s t d d' told told' before after e says = by_one _ says
+pub stored_writes : (v : PassView) (s t : State) (d d' : Driver) (told told' : Option (List Call)) (before after : ℕ) (e : Entry)
+    → StoredSays v s d told before e t d' told' after → WritesOut e.event
+stored_writes v s t d d' told told' before after e says = by_one (sealing_in v) says
   where
-    by_one : (o : Option Taken) → IsSomeAnd o (λ one. IsStored one slot s d told before e t d' told' after) → WritesOut e.event
+    by_one : (o : Option Taken) → IsSomeAnd o (λ one. IsStored one s d told before e t d' told' after) → WritesOut e.event
     by_one None k = absurd k
     by_one (Some one) k = subst (λ (x : Entry). WritesOut x.event) (sym k.out.entry) tt
-stored_writes taken (phases.Idle works) s t d d' told told' before after e says = absurd says
-stored_writes taken (phases.Scan left) s t d d' told told' before after e says = absurd says
-stored_writes taken (phases.Block next) s t d d' told told' before after e says = absurd says
-stored_writes taken (phases.Tries next form block) s t d d' told told' before after e says = absurd says
 
 -- what only answers was a turn of the pass that waits
 pub followed_waits : (old new : Course) (turn : PassTurn) (result : Turn) (told : Option (List Call)) (spare : ℕ)
     → IsFollowed old turn result new told spare → IsWaiting result → IsWait turn
 followed_waits old new (passed.Again why) result told spare is w = tt
-followed_waits old new passed.NoSlot result told spare is w = tt
 followed_waits old new turn (turns.Did n) told spare is w = absurd w
 followed_waits old new turn (turns.Seal work) told spare is w = absurd w
 followed_waits old new turn (turns.Unseal work) told spare is w = absurd w

@@ -13,14 +13,16 @@ use Rattle.driver_rules.specs.Turns.{Fails, Last, last_by, last_of}
 use Rattle.turn_tables.specs.inner.Ending.{EndsAreTold, IsForRecord, NoneFails}
 use Rattle.turn_tables.proofs.EndLaws.{ends_go_on}
 
--- the end of a load that was refused
+-- a load, or the start of one, that was refused
 abbrev pub is_failed : Event → Bool
 is_failed (Refused (Eld f) refusal) = true
+is_failed (Refused (EldStart f page slot) refusal) = true
 is_failed event = false
 
 -- no other entry is one of which a reason has still to be told
 pub for_record : (past : List Entry) (event : Event) → is_failed event ≡ false → IsForRecord past event
 for_record past (Refused (Eld f) refusal) h = absurd (false≢true (sym h))
+for_record past (Refused (EldStart f page slot) refusal) h = absurd (false≢true (sym h))
 for_record past event h = tt
 
 abbrev is_fails : Last → Bool
@@ -31,6 +33,7 @@ fails_none : (event : Event) (opened : ℕ → Option Start) (page : Page) (why 
     → last_by event opened ≡ Fails page why → ⊥
 fails_none (Did (EldStart f g slot) answer) opened page why h is = false≢true (ap is_fails is)
 fails_none (Refused (Eld f) refusal) opened page why h is = false≢true (sym h)
+fails_none (Refused (EldStart f g slot) refusal) opened page why h is = false≢true (sym h)
 fails_none (Bus g reason) opened page why h is = false≢true (ap is_fails is)
 fails_none event opened page why h is = false≢true (ap is_fails is)
 

@@ -11,25 +11,28 @@ use Rattle.paging_laws.specs.inner.Histories.{StandsWithAllRules}
 use Rattle.paging_laws.specs.inner.Shape.{FitsApart, ShapeWithRules}
 use Rattle.paging_machine.specs.inner.Parts.{Parts, state_of}
 use Rattle.turn_rules.specs.Machines.{machine_of}
-use Rattle.driver_rules.specs.Passes.{pass}
 use Rattle.driver_rules.specs.Turns as dues
 use Rattle.driver_laws.specs.inner.Counted.{CountsSlots}
 use Rattle.driver_laws.proofs.BuiltLaws.{first_built}
 use Rattle.driver_laws.proofs.CountLaws.{first_counts}
-use Rattle.driver_laws.proofs.HistoryLaws.{first_sound}
+use Rattle.driver_laws.proofs.FixedLaws.{first_theirs as first_fixed}
+use Rattle.driver_laws.proofs.InitLaws.{first_inits}
 use Rattle.driver_laws.proofs.LoadLaws.{first_theirs}
+use Rattle.driver_laws.proofs.SoundLaws.{first_sound}
 use Rattle.driver_laws.proofs.StageLaws.{first_pages}
 use Rattle.driver_laws.proofs.TcsLaws.{apart_first}
 use Rattle.driver_laws.proofs.UsedLaws.{first_used}
+use Rattle.driver_laws.proofs.VersionLaws.{none_stand}
+use Rattle.driver_laws.specs.inner.Agrees.{drivers}
 use Rattle.driver_tables.specs.declared.driver.Driver.{Driver}
 use Rattle.driver_tables.specs.inner.Tables.{IsNew}
 use Rattle.driver_tables.proofs.FirstLaws.{shows_first}
 use Rattle.driver_steps.specs.inner.Agrees.{Agrees}
-use Rattle.reclaim_worker.specs.inner.Standing.{StandsFor, is_sealing}
-use Rattle.reclaim_worker.specs.inner.Stored.{still_out}
-use Rattle.reclaim_worker.specs.declared.turns.Phase.{Phase}
-use Rattle.reclaim_worker.specs.declared.turns.Phase.TheVariants as phases
-use Rattle.reclaim_worker.specs.declared.turns.Taken.{Taken}
+use Rattle.reclaim_pass.specs.inner.Standing.{StandsAt}
+use Rattle.reclaim_pass.specs.inner.Viewed.{is_amid, is_sealing, new_view, PassView, still_out}
+use Rattle.reclaim_pass.proofs.GoLaws.{first_stands}
+use Rattle.reclaim_worker.specs.inner.Ready.{HasFirst}
+use Rattle.reclaim_worker.proofs.FirstLaws.{none_first as first_array}
 use Rattle.turn_tables.specs.declared.cpu_turns.CpuTurn.{CpuTurn}
 use Rattle.turn_tables.specs.declared.cpu_turns.Last.{Last}
 use Rattle.turn_tables.specs.declared.cpu_turns.Last.TheVariants as ways
@@ -46,12 +49,13 @@ use Rattle.table_notes.proofs.ArrayLaws.{arrays_begin}
 use Rattle.book_laws.specs.inner.Stores.{TellsStore}
 use Rattle.book_laws.proofs.StoreLaws.{tells_first}
 use Rattle.run_book.specs.inner.Books.{KeepsBook, KeepsBytes, KeepsHonest}
+use Rattle.run_book.specs.inner.Honest.{IsHonestBook}
 use Rattle.run_records.proofs.FlatSteps.{flat_first}
+use Rattle.run_records.proofs.QuietLaws.{first_honest}
 use Rattle.run_steps.proofs.FreshLaws.{IsFresh, fresh_cpus, fresh_making}
 use Rattle.run_steps.proofs.TcsLaws.{tcs_apart}
 use Rattle.run_turns.specs.declared.course.Course.{Course}
 use Rattle.run_turns.specs.inner.Courses.{IsClear, KeepsCourse, is_load, has_open_load, open_starts, past_of}
-use Rattle.run_history.specs.inner.Honest.{GiftsAreLast}
 
 -- ---- the machine
 
@@ -70,13 +74,17 @@ agrees_first j d m valid new fresh = record {
   follows = subst (λ (x : Making). ShapeWithRules x (state_of m) []) (fresh_making j m fresh) fresh.shape;
   fits = fits_first j.epc;
   sound = first_sound;
+  home = refl;
   used = first_used;
+  stand = none_stand;
+  fixed = first_fixed j;
   counted = subst (λ k. CountsSlots k []) (sym new.slots) (first_counts (va_pages j));
   built = first_built j;
+  inits = first_inits;
   theirs = first_theirs;
   tracks = λ n p low. refl;
   pages = first_pages j;
-  shows = shows_first j d valid new;
+  shows = shows_first (drivers j) j d valid new;
   frames = refl;
   cpus = fresh_cpus j m fresh ∙ sym new.cpus;
 }
@@ -94,9 +102,12 @@ bytes_first j m (Some calls) fresh =
     λ unforged. subst (λ (x : Making). StandsWithAllRules x (state_of m) [] []) (fresh_making j m fresh) fresh.history
 
 -- no page was put yet
-honest_first : (told : Option (List Call)) → IfSome told (λ calls. calls ≡ []) → IfSome told (KeepsHonest [])
-honest_first None none = tt
-honest_first (Some calls) none = λ honest. (tt, subst (GiftsAreLast []) (sym none) (λ g f slot at. cc))
+honest_first : (j : JobView) (m : Parts) (told : Option (List Call)) → IsFresh j m → IfSome told (λ calls. calls ≡ [])
+    → IfSome told (KeepsHonest (machine_of j) [] m)
+honest_first j m None fresh none = tt
+honest_first j m (Some calls) fresh none = λ honest.
+    subst (IsHonestBook (machine_of j) [] m) (sym none)
+    (first_honest (machine_of j) m (subst (λ (x : Making). ShapeWithRules x (state_of m) []) (fresh_making j m fresh) fresh.shape))
 
 -- all that the book keeps
 book_first : (j : JobView) (d : Driver) (m : Parts) (t : Turns) (told : Option (List Call)) → IsNew j d → IsFresh j m
@@ -111,24 +122,18 @@ book_first j d m t told new fresh shows none = record {
   script = tt;
   age = tt;
   kick = tt;
+  slots = tt;
   tracking = tt;
   store = store_first j d told new none;
   bytes = bytes_first j m told fresh;
-  honest = honest_first told none;
+  honest = honest_first j m told fresh none;
 }
 
 -- ---- the pass
 
--- it is before its first page
-stands_first : (j : JobView) (taken : List Taken) (phase : Phase) → taken ≡ [] → phase ≡ phases.Idle false
-    → StandsFor j.start_epoch [] taken phase (pass j [])
-stands_first j taken phase none idle =
-    subst (λ (x : Phase). StandsFor j.start_epoch [] taken x (pass j [])) (sym idle) (refl, none)
-
--- .. so that no page has still to go out
-places_first : (taken : List Taken) (phase : Phase) (spare : ℕ) → taken ≡ [] → phase ≡ phases.Idle false → still_out taken phase ≤ spare
-places_first taken phase spare none idle =
-    let out : still_out taken phase ≡ 0 = ap (still_out taken) idle ∙ ap length none in omega (arith, out)
+-- no page has still to go out
+places_first : (v : PassView) (spare : ℕ) → v ≡ new_view → still_out v ≤ spare
+places_first v spare new = let out : still_out v ≡ 0 = ap still_out new in omega (arith, out)
 
 -- ---- open starts
 
@@ -149,11 +154,11 @@ none_loads (x ∷ xs) none =
     omega (arith, count, first, rest)
 
 -- .. nor the pass
-no_starts : (c : Course) → ShowsTurns c.job [] c.turns → c.pass.phase ≡ phases.Idle false → open_starts c ≡ 0
-no_starts c shows idle =
+no_starts : (c : Course) → ShowsTurns c.job [] c.turns → c.pass ≡ new_view → open_starts c ≡ 0
+no_starts c shows new =
     let loads : count_by has_open_load c.turns.cpus ≡ 0 = none_loads c.turns.cpus (λ p low. not_loading (turn_at c.turns.cpus p).last
     ((shows.cpus p (let each = shows.each in omega (arith, low, each))).last)) in
-    let seals : ◌≡◌ {A = ℕ} (if is_sealing c.pass.phase then 1 else 0) 0 = ap (λ x. if is_sealing x then 1 else 0) idle in
+    let seals : ◌≡◌ {A = ℕ} (if is_sealing c.pass then 1 else 0) 0 = ap (λ (v : PassView). if is_sealing v then 1 else 0) new in
     omega (arith, loads, seals)
 
 -- ---- no entry
@@ -171,8 +176,7 @@ pub record Begins (c : Course) : Type 0 where
   pub machine : IsFresh c.job c.machine
   pub driver : IsNew c.job c.driver
   pub turns : ShowsTurns c.job [] c.turns
-  pub taken : c.pass.taken.items ≡ []
-  pub phase : c.pass.phase ≡ phases.Idle false
+  pub pass : c.pass ≡ new_view
   pub entries : c.entries.items ≡ []
 
 -- so it keeps all that a course has to
@@ -184,14 +188,16 @@ course_first c told spare first none =
       tcs = tcs_apart c.job first.turns.valid;
       book = subst (λ h. KeepsBook (machine_of c.job) c.job h told c.driver c.machine c.turns) (sym past)
           (book_first c.job c.driver c.machine c.turns told first.driver first.machine first.turns none);
-      stands = subst (λ h. StandsFor c.job.start_epoch h c.pass.taken.items c.pass.phase (pass c.job h)) (sym past)
-          (stands_first c.job c.pass.taken.items c.pass.phase first.taken first.phase);
-      places = places_first c.pass.taken.items c.pass.phase spare first.taken first.phase;
+      stands = subst (λ h. StandsAt c.job.start_epoch c.job h c.pass) (sym past)
+          (subst (StandsAt c.job.start_epoch c.job []) (sym first.pass) (first_stands c.job.start_epoch c.job));
+      whole = ap is_amid first.pass;
+      first = subst HasFirst (sym past) first_array;
+      places = places_first c.pass spare first.pass;
       arrays = subst (KeepsArrays c.job c.driver.slots) (sym past) (arrays_begin c.job c.driver first.driver);
       ends = subst EndsAreTold (sym past) ends_first;
       clear = subst (IsClear c.job) (sym past) (clear_first c.job);
       room =
           let few : vec_len c.entries ≡ 0 = c.entries.ok.0 ∙ ap length first.entries in
-          let starts = no_starts c first.turns first.phase in
+          let starts = no_starts c first.turns first.pass in
           omega (arith, few, starts);
     }

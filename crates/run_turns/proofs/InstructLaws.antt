@@ -1,5 +1,5 @@
 -- An instruction that is due, and its entry.
-use Rattle.std.proofs.Common.{◌≡◌, ◌+◌, ◌≤◌, ◌<◌, ◌^◌, Bool, true, false, if◌then◌else◌, List, ◌∷◌, Option, Some}
+use Rattle.std.proofs.Common.{◌≡◌, ℕ, ◌+◌, ◌≤◌, ◌<◌, ◌^◌, Bool, true, false, if◌then◌else◌, List, ◌∷◌, Option, Some}
 use Rattle.std.proofs.Common.{None, IfSome, length, vec_len, vec_capacity, inl, inr, refl, sym, ap, subst, ◌∙◌, arith}
 use Rattle.std.specs.Option.{option_map}
 use Rattle.std.proofs.lemmas.Bool.{false≢true}
@@ -22,17 +22,22 @@ use Rattle.driver_laws.proofs.ArrayLaws.{arrays_few}
 use Rattle.sgx_rules.specs.Frames.{vas_made}
 use Rattle.paging_machine.specs.inner.Parts.{Parts, state_of}
 use Rattle.driver_rules.specs.Dues.{Due, IsNext, Makes, Stopped}
-use Rattle.driver_rules.specs.Passes.{pass, pass_after}
 use Rattle.driver_rules.specs.Scripts.{IsActors, ScriptRule}
 use Rattle.driver_rules.specs.Stops.{is_spent}
 use Rattle.driver_tables.specs.declared.driver.Driver.{Driver}
 use Rattle.driver_steps.specs.inner.Carried.{Carries}
-use Rattle.reclaim_worker.specs.declared.passes.Pass as passes
-use Rattle.reclaim_worker.specs.inner.Standing.{StandsFor}
+use Rattle.driver_laws.specs.inner.Agrees.{drivers}
+use Rattle.driver_tables.specs.inner.Targets.{first_in}
+use Rattle.driver_rules.specs.Passes.{pass, pass_after}
+use Rattle.reclaim_pass.specs.inner.Standing.{StandsFor}
+use Rattle.reclaim_pass.specs.inner.Viewed.{is_amid, PassView}
 use Rattle.turn_tables.specs.inner.Holding.{mode_of}
 use Rattle.turn_tables.specs.inner.Noting.{IsAmong}
 use Rattle.turn_tables.proofs.OrderLaws.{enters_apart}
-use Rattle.table_notes.specs.inner.Noted.{AreNoted, CanNoteTables}
+use Rattle.table_notes.specs.inner.Noted.{AreNoted, CanNoteTables, HasSecsHere, KeepsFrom}
+use Rattle.table_notes.proofs.FromLaws.{drivers_keep}
+use Rattle.table_notes.proofs.SecsLaws.{added_with_secs}
+use Rattle.turn_tables.proofs.FirstLaws.{agrees_shown}
 use Rattle.table_notes.proofs.EntryLaws.{IsEntryOf, entry_by}
 use Rattle.run_book.specs.inner.Books.{CarriesBytes, IsMade, KeepsBook}
 use Rattle.table_notes.specs.inner.Plain.{is_plain, is_reclaimer}
@@ -42,14 +47,14 @@ use Rattle.run_book.proofs.PlainLaws.{plain_next}
 use Rattle.run_records.proofs.FlatSteps.{flat_step}
 use Rattle.run_records.proofs.ToldLaws.{plain_told}
 use Rattle.run_bytes.proofs.StepBytes.{plain_bytes}
-use Rattle.run_steps.proofs.StayLaws.{passes_stay_next}
+use Rattle.run_steps.proofs.StayLaws.{passes_stay}
 use Rattle.run_steps.proofs.MakeLaws.{builder_makes, cpu_makes}
 use Rattle.run_turns.specs.declared.course.Course.{Course}
 use Rattle.run_turns.proofs.EndedLaws.{is_failed}
 use Rattle.run_turns.proofs.KeepLaws.{Enters}
 use Rattle.run_turns.specs.inner.Courses.{past_of}
 use Rattle.run_turns.specs.inner.Turns.{CanInstruct, IsDueTo}
-use Rattle.run_records.proofs.HonestRecords.{acts_back, not_lost}
+use Rattle.run_records.proofs.QuietLaws.{plain_honest}
 
 -- ---- what is due
 
@@ -139,14 +144,23 @@ scripted c m' actor action e due is =
 
 -- ---- the tables
 
-pub notable : (c : Course) (m' : Parts) (actor : Actor) (action : Action) (e : Entry) (before : Mode) → CanInstruct c actor action
-    → IsStep (state_of c.machine) actor action e (state_of m') → before ≡ mode_of c.machine actor
-    → CanNoteTables c.turns c.driver before e
-notable c m' actor action e before k is stood =
+-- a page is added while its enclave's SECS is here
+with_secs : (c : Course) (m' : Parts) (actor : Actor) (action : Action) (e : Entry) → CanInstruct c actor action
+    → IsStep (state_of c.machine) actor action e (state_of m') → HasSecsHere (past_of c) e.event
+with_secs c m' actor action e k is =
+    let b = k.keeps.book in
+    added_with_secs c.job (past_of c) b.turns.valid b.script b.age b.agrees.sound (state_of c.machine) b.agrees.follows.shape.columns
+    actor action e (state_of m') (lawful c actor action k).other (scripted c m' actor action e k.due is) is
+
+pub notable : (c : Course) (m' : Parts) (actor : Actor) (action : Action) (e : Entry) (first : ℕ) (before : Mode)
+    → CanInstruct c actor action → IsStep (state_of c.machine) actor action e (state_of m') → first ≡ first_in c.driver 0
+    → before ≡ mode_of c.machine actor → CanNoteTables c.turns c.driver first before e
+notable c m' actor action e first before k is from stood =
     let w = lawful c actor action k in
     let b = k.keeps.book in
     record {
-      made = machine_of c.job;
+      keeping = drivers c.job;
+      keeps = subst (KeepsFrom (drivers c.job)) (sym from) (drivers_keep (drivers c.job) c.job c.driver (past_of c) b.agrees.shows);
       j = c.job;
       past = past_of c;
       m = c.machine;
@@ -157,25 +171,30 @@ notable c m' actor action e before k is stood =
       other = w.other;
       step = is;
       script = scripted c m' actor action e k.due is;
+      secs = with_secs c m' actor action e k is;
       stood = stood ∙ ap (mode_of c.machine) (sym (acts c.machine m' actor action e is).0);
-      agrees = b.agrees;
+      shown = agrees_shown (machine_of c.job) c.job (past_of c) c.driver c.machine b.agrees;
+      stand = b.agrees.stand;
       shows = b.turns;
       orderly = b.orderly;
       arrays = k.keeps.arrays;
     }
 
 -- .. so they are brought to it
-pub noted_by : (c : Course) (d' : Driver) (m' : Parts) (actor : Actor) (action : Action) (e : Entry) (before : Mode)
-    → CanInstruct c actor action → IsStep (state_of c.machine) actor action e (state_of m') → before ≡ mode_of c.machine actor
-    → ((can : CanNoteTables c.turns c.driver before e) → AreNoted can.j can.past c.driver e d') → AreNoted c.job (past_of c) c.driver e d'
+pub noted_by : (c : Course) (d' : Driver) (m' : Parts) (actor : Actor) (action : Action) (e : Entry) (first : ℕ) (before : Mode)
+    → CanInstruct c actor action → IsStep (state_of c.machine) actor action e (state_of m') → first ≡ first_in c.driver 0
+    → before ≡ mode_of c.machine actor
+    → ((can : CanNoteTables c.turns c.driver first before e) → AreNoted can.keeping can.j can.past c.driver e d')
+    → AreNoted (drivers c.job) c.job (past_of c) c.driver e d'
 unfolding notable
-noted_by c d' m' actor action e before k is stood notes = notes (notable c m' actor action e before k is stood)
+noted_by c d' m' actor action e first before k is from stood notes =
+    notes (notable c m' actor action e first before k is from stood)
 
 -- ---- what was made
 
 pub instructed : (c : Course) (d' : Driver) (m' : Parts) (actor : Actor) (action : Action) (e : Entry) (k : CanInstruct c actor action)
     → IsStep (state_of c.machine) actor action e (state_of m') → Carries (state_of c.machine) e (state_of m')
-    → length m'.cpus ≡ length c.machine.cpus → AreNoted c.job (past_of c) c.driver e d'
+    → length m'.cpus ≡ length c.machine.cpus → AreNoted (drivers c.job) c.job (past_of c) c.driver e d'
     → IsMade (machine_of c.job) c.job (past_of c) k.told c.driver c.machine e k.told d' m'
 instructed c d' m' actor action e k is carries cpus noted =
     let made = machine_of c.job in
@@ -183,15 +202,15 @@ instructed c d' m' actor action e k is carries cpus noted =
     let w = lawful c actor action k in
     let b = k.keeps.book in
     record {
-      next = plain_next made c.job past c.driver d' c.machine m' c.pass.taken.items c.pass.phase actor action e w.other w.plain
-          b.turns.valid b.agrees
-          k.keeps.stands (scripted c m' actor action e k.due is) is carries cpus noted.shows noted.counts;
+      next = plain_next made c.job past c.driver d' c.machine m' c.pass actor action e w.other w.plain b.turns.valid b.agrees
+          k.keeps.stands k.keeps.whole (scripted c m' actor action e k.due is) (with_secs c m' actor action e k is) is carries cpus
+          noted.shows noted.counts;
       own = noted.own;
       enters = enters_apart (length c.machine.cpus) (state_of c.machine) actor action e (state_of m') w.can is;
       flat = flat_step (state_of c.machine) (state_of m') past actor action e b.agrees.follows.shape.columns is b.flat;
       store = plain_told c.job past e action k.told c.driver d' (acts c.machine m' actor action e is).1 w.plain (moves k.told);
       bytes = bytes k.told;
-      honest = not_lost k.told e.event (acts_back e.event action (acts c.machine m' actor action e is).1);
+      honest = plain_honest made past e action k.told c.machine m' (acts c.machine m' actor action e is).1 w.plain b.agrees.follows carries;
     }
   where
     moves : (o : Option (List Call)) → IfSome o (λ calls. StoreMoves e calls c.driver d')
@@ -212,18 +231,21 @@ holds (Some b) = b
 pub plain_event : (event : Event) (action : Action) → action_of event ≡ Some action → is_plain action ≡ true → is_failed event ≡ false
 plain_event (Refused (Eld f) refusal) action is plain =
     absurd (false≢true (ap holds (subst (λ o. option_map is_plain o ≡ Some true) (sym is) (ap Some plain))))
+plain_event (Refused (EldStart f page slot) refusal) action is plain =
+    absurd (false≢true (ap holds (subst (λ o. option_map is_plain o ≡ Some true) (sym is) (ap Some plain))))
 plain_event event action is plain = refl
 
 -- ---- its way into the course
 
-pub entered : (c x : Course) (m' : Parts) (actor : Actor) (action : Action) (e : Entry) (before : Mode) (k : CanInstruct c actor action)
+pub entered : (c x : Course) (m' : Parts) (actor : Actor) (action : Action) (e : Entry) (first : ℕ) (before : Mode)
+    (k : CanInstruct c actor action)
     → IsStep (state_of c.machine) actor action e (state_of m') → Carries (state_of c.machine) e (state_of m')
-    → length m'.cpus ≡ length c.machine.cpus → before ≡ mode_of c.machine actor
-    → ((can : CanNoteTables c.turns c.driver before e) → AreNoted can.j can.past c.driver e x.driver) → x.machine ≡ m'
+    → length m'.cpus ≡ length c.machine.cpus → first ≡ first_in c.driver 0 → before ≡ mode_of c.machine actor
+    → ((can : CanNoteTables c.turns c.driver first before e) → AreNoted can.keeping can.j can.past c.driver e x.driver) → x.machine ≡ m'
     → x.job ≡ c.job → x.turns ≡ c.turns → x.pass ≡ c.pass → x.entries.items ≡ c.entries.items
     → vec_len x.entries + 1 ≤ vec_capacity x.entries → Enters c x before e k.told k.told
-entered c x m' actor action e before k is carries cpus stood notes machine job turns same items place =
-    let noted = noted_by c x.driver m' actor action e before k is stood notes in
+entered c x m' actor action e first before k is carries cpus from stood notes machine job turns same items place =
+    let noted = noted_by c x.driver m' actor action e first before k is from stood notes in
     let made = instructed c x.driver m' actor action e k is carries cpus noted in
     let both = acts c.machine m' actor action e is in
     let other = ap is_reclaimer both.0 ∙ (lawful c actor action k).other in
@@ -236,10 +258,11 @@ entered c x m' actor action e before k is carries cpus stood notes machine job t
       made = subst (IsMade (machine_of c.job) c.job (past_of c) k.told c.driver c.machine e k.told x.driver) (sym machine) made;
       stood = stood ∙ ap (mode_of c.machine) (sym both.0);
       place = place;
-      stands = subst (λ (p : passes.Pass). StandsFor c.job.start_epoch (e ∷ past_of c) p.taken.items p.phase
+      stands = subst (λ (p : PassView). StandsFor c.job.start_epoch (e ∷ past_of c) p
           (pass_after c.job (past_of c) e.actor e.event (pass c.job (past_of c)))) (sym same)
-          (passes_stay_next (machine_of c.job) c.job (past_of c) c.driver x.driver c.machine m' e c.pass.taken.items c.pass.phase
+          (passes_stay (machine_of c.job) c.job (past_of c) c.driver x.driver c.machine m' e c.pass k.keeps.book.turns.valid.marks.4
           k.keeps.book.agrees made.next other k.keeps.stands);
+      whole = ap is_amid same ∙ k.keeps.whole;
     }
 
 -- behind an instruction that is no start its actor has none open

@@ -16,8 +16,12 @@ use Rattle.cached_translations.specs.declared.processor.Mode.{Mode}
 use Rattle.paging_machine.specs.inner.Parts.{Parts}
 use Rattle.driver_tables.specs.declared.driver.Driver.{Driver}
 use Rattle.driver_rules.specs.Passes.{pass, pass_after}
-use Rattle.reclaim_worker.specs.inner.Standing.{StandsFor, is_kicked, is_sealing}
-use Rattle.reclaim_worker.specs.inner.Stored.{still_out}
+use Rattle.reclaim_pass.specs.inner.Standing.{StandsFor}
+use Rattle.reclaim_pass.specs.inner.Viewed.{is_amid, is_kicked, is_sealing, still_out}
+use Rattle.driver_rules.specs.Ages.{KeptAgeRule}
+use Rattle.driver_tables.proofs.HeldLaws.{held_same}
+use Rattle.reclaim_worker.specs.inner.Ready.{HasFirst, Ready}
+use Rattle.reclaim_worker.proofs.FirstLaws.{stays_first}
 use Rattle.turn_tables.specs.declared.turns.Turns.{Turns}
 use Rattle.turn_tables.specs.inner.Holding.{mode_of}
 use Rattle.turn_tables.specs.inner.Ending.{EndsAreTold}
@@ -30,7 +34,7 @@ use Rattle.run_turns.proofs.RecordLaws.{newest}
 
 -- no more than seventeen starts are open
 pub few_starts : (c : Course) → length c.turns.cpus ≤ 16 → open_starts c ≤ 17
-few_starts c few = by_pass (is_sealing c.pass.phase)
+few_starts c few = by_pass (is_sealing c.pass)
   where
     by_pass : (b : Bool) → count_by has_open_load c.turns.cpus + (if b then 1 else 0) ≤ 17
     by_pass true = let k = count_by-le-length has_open_load c.turns.cpus in omega (arith, few, k)
@@ -46,21 +50,41 @@ pub few_cpus : (made : Making) (j : JobView) (past : List Entry) (told : Option 
     → KeepsBook made j past told d m t → length t.cpus ≤ 16
 few_cpus made j past told d m t k = let few = k.turns.valid.few_scripts in let each = k.turns.each in omega (arith, few, each)
 
+-- a course is ready for a turn of its pass
+pub course_ready : (c : Course) (told : Option (List Call)) (spare : ℕ) → KeepsCourse c told spare
+    → Ready (machine_of c.job) c.job (past_of c) c.pass c.driver c.machine
+course_ready c told spare k = record {
+  agrees = k.book.agrees;
+  held = λ g. held_same c.job c.driver.active.own (past_of c) k.book.holds.shows g k.book.turns.valid.few_scripts;
+  stands = k.stands;
+  whole = k.whole;
+  first = k.first;
+  short = k.book.turns.valid.marks.4;
+}
+
+-- behind one entry more the first version array page was made, where a page goes out beside the passes
+pub first_behind : (c : Course) (told : Option (List Call)) (spare : ℕ) (e : Entry) → KeepsCourse c told spare
+    → KeptAgeRule c.job (past_of c) e → HasFirst (e ∷ past_of c)
+first_behind c told spare e k age =
+    stays_first (machine_of c.job) c.job (past_of c) c.pass c.driver c.machine (course_ready c told spare k) e age
+
 -- a course behind an entry that was taken in
 pub taken_keeps : (c c' : Course) (e : Entry) (told : Option (List Call)) (spare : ℕ) → TcsAreApart c.job → c'.job ≡ c.job
     → c'.entries.items ≡ c.entries.items ++ e ∷ [] → IsRecorded c e told c' → IsTaken c e c'
-    → still_out c'.pass.taken.items c'.pass.phase ≤ spare → KeepsArrays c.job c'.driver.slots (e ∷ past_of c)
+    → HasFirst (e ∷ past_of c) → still_out c'.pass ≤ spare → KeepsArrays c.job c'.driver.slots (e ∷ past_of c)
     → EndsAreTold (e ∷ past_of c) → IsClear c.job (e ∷ past_of c)
     → vec_len c'.entries + 2 * open_starts c' ≤ vec_capacity c'.entries → KeepsCourse c' told spare
-taken_keeps c c' e told spare tcs job kept book stands places arrays ends clear room =
+taken_keeps c c' e told spare tcs job kept book stands first places arrays ends clear room =
     let past : past_of c' ≡ e ∷ past_of c = newest c.entries.items c'.entries.items e kept in
     record {
       tcs = subst TcsAreApart (sym job) tcs;
       book = subst (λ (j : JobView). KeepsBook (machine_of j) j (past_of c') told c'.driver c'.machine c'.turns) (sym job)
           (subst (λ h. KeepsBook (machine_of c.job) c.job h told c'.driver c'.machine c'.turns) (sym past) book);
-      stands = subst (λ (j : JobView). StandsFor j.start_epoch (past_of c') c'.pass.taken.items c'.pass.phase (pass j (past_of c')))
+      stands = subst (λ (j : JobView). StandsFor j.start_epoch (past_of c') c'.pass (pass j (past_of c')))
           (sym job)
-          (subst (λ h. StandsFor c.job.start_epoch h c'.pass.taken.items c'.pass.phase (pass c.job h)) (sym past) stands);
+          (subst (λ h. StandsFor c.job.start_epoch h c'.pass (pass c.job h)) (sym past) stands.0);
+      whole = stands.1;
+      first = subst HasFirst (sym past) first;
       places = places;
       arrays = subst (λ (j : JobView). KeepsArrays j c'.driver.slots (past_of c')) (sym job)
           (subst (KeepsArrays c.job c'.driver.slots) (sym past) arrays);
@@ -79,8 +103,9 @@ pub record Enters (c x : Course) (before : Mode) (e : Entry) (told longer : Opti
   pub made : IsMade (machine_of c.job) c.job (past_of c) told c.driver c.machine e longer x.driver x.machine
   pub stood : before ≡ mode_of c.machine e.actor
   pub place : vec_len x.entries + 1 ≤ vec_capacity x.entries
-  pub stands : StandsFor c.job.start_epoch (e ∷ past_of c) x.pass.taken.items x.pass.phase
+  pub stands : StandsFor c.job.start_epoch (e ∷ past_of c) x.pass
       (pass_after c.job (past_of c) e.actor e.event (pass c.job (past_of c)))
+  pub whole : is_amid x.pass ≡ false
 
 -- so it can be taken in
 pub take_at : (c x : Course) (before : Mode) (e : Entry) (told longer : Option (List Call)) → Enters c x before e told longer
@@ -97,8 +122,9 @@ take_at c x before e told longer k = record {
     stood = k.stood;
     place = k.place;
   };
-  stands = by_job (λ j t h. StandsFor j.start_epoch (e ∷ h) x.pass.taken.items x.pass.phase (pass_after j h e.actor e.event (pass j h)))
+  stands = by_job (λ j t h. StandsFor j.start_epoch (e ∷ h) x.pass (pass_after j h e.actor e.event (pass j h)))
       k.stands;
+  whole = k.whole;
 }
   where
     by_job : (P : JobView → Turns → List Entry → Type 0) → P c.job c.turns (past_of c) → P x.job x.turns (past_of x)
@@ -133,11 +159,11 @@ keeps_kicks actors.Reclaimer same = tt
 
 -- a turn that reserved its room, and took one entry in
 pub grown_by_one : (c x : Course) (before : Mode) (e : Entry) (told longer : Option (List Call)) (c' : Course) (by : Actor) (spare : ℕ)
-    → Took c x before e told longer c' → still_out c'.pass.taken.items c'.pass.phase ≤ spare
+    → Took c x before e told longer c' → HasFirst (e ∷ past_of c) → still_out c'.pass ≤ spare
     → KeepsArrays c.job c'.driver.slots (e ∷ past_of c) → EndsAreTold (e ∷ past_of c) → IsClear c.job (e ∷ past_of c)
-    → vec_len x.entries + 64 ≤ vec_capacity x.entries → e.actor ≡ by → is_kicked c'.pass.phase ≡ is_kicked c.pass.phase
+    → vec_len x.entries + 64 ≤ vec_capacity x.entries → e.actor ≡ by → is_kicked c'.pass ≡ is_kicked c.pass
     → Grows c by 1 c' longer spare
-grown_by_one c x before e told longer c' by spare k places arrays ends clear room actor kicks =
+grown_by_one c x before e told longer c' by spare k first places arrays ends clear room actor kicks =
     let past : past_of x ≡ past_of c = ap reverse k.enters.items in
     let kept : length c'.entries.items ≡ length x.entries.items + 1 = ap length k.kept ∙ length-append x.entries.items (e ∷ []) in
     let both = recorded c x before e told longer c' k in
@@ -151,7 +177,8 @@ grown_by_one c x before e told longer c' by spare k places arrays ends clear roo
       past = newest x.entries.items c'.entries.items e k.kept ∙ ap (λ h. e ∷ h) past;
       job = k.job ∙ k.enters.job;
       kicks = keeps_kicks by kicks;
-      keeps = taken_keeps x c' e longer spare (subst TcsAreApart (sym k.enters.job) k.enters.tcs) k.job k.kept both.0 both.1 places
+      keeps = taken_keeps x c' e longer spare (subst TcsAreApart (sym k.enters.job) k.enters.tcs) k.job k.kept both.0 both.1
+          (subst (λ h. HasFirst (e ∷ h)) (sym past) first) places
           (subst (λ (j : JobView). KeepsArrays j c'.driver.slots (e ∷ past_of x)) (sym k.enters.job)
           (subst (λ h. KeepsArrays c.job c'.driver.slots (e ∷ h)) (sym past) arrays))
           (subst (λ h. EndsAreTold (e ∷ h)) (sym past) ends)
@@ -168,8 +195,7 @@ same_self c = record {
   machine = refl;
   driver = refl;
   turns = refl;
-  taken = refl;
-  phase = refl;
+  pass = refl;
   entries = refl;
   room = omega arith;
 }

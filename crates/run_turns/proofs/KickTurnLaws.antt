@@ -15,15 +15,14 @@ use Rattle.turn_rules.specs.Machines.{machine_of}
 use Rattle.slot_keeper.specs.inner.Keeper.{Keeper}
 use Rattle.paging_laws.specs.inner.Shape.{FitsApart, ShapeWithRules}
 use Rattle.paging_machine.specs.inner.Parts.{state_of}
-use Rattle.driver_rules.specs.Passes.{pass}
 use Rattle.driver_laws.specs.inner.Three.{TcsAreApart}
 use Rattle.driver_tables.specs.declared.driver.Driver.{Driver}
 use Rattle.driver_steps.specs.inner.Asked.{IsNextOf}
-use Rattle.reclaim_worker.specs.declared.passes.Pass.{Pass}
+use Rattle.reclaim_worker.specs.inner.Ready.{HasFirst}
 use Rattle.reclaim_worker.specs.inner.After.{cpu_of, kicked_past}
 use Rattle.reclaim_worker.specs.inner.Answers.{by_reclaimer}
-use Rattle.reclaim_worker.specs.inner.Standing.{StandsFor}
-use Rattle.reclaim_worker.specs.inner.Stored.{still_out}
+use Rattle.reclaim_pass.specs.inner.Standing.{StandsAt}
+use Rattle.reclaim_pass.specs.inner.Viewed.{is_amid, PassView, still_out}
 use Rattle.run_book.specs.inner.Books.{KeepsBook, with_own}
 use Rattle.run_book.specs.inner.Loads.{GoesOnWith}
 use Rattle.run_bytes.specs.inner.Records.{StaysWith}
@@ -44,7 +43,7 @@ use Rattle.run_turns.specs.inner.Recording.{CanRecord, IsRecorded}
 use Rattle.run_turns.proofs.KeepLaws.{few_cpus, room_behind}
 use Rattle.run_turns.proofs.OwnLaws.{own_ends, own_none}
 use Rattle.run_turns.proofs.RecordLaws.{newest}
-use Rattle.run_records.proofs.HonestRecords.{not_lost}
+use Rattle.run_records.proofs.QuietLaws.{kick_honest}
 
 abbrev kick : ℕ → Entry
 kick p = by_reclaimer (Kick (cpu_of p))
@@ -83,7 +82,7 @@ kick_records c p can goes stays = record {
     flat = flat_other (past_of c) (kick p) refl can.book.flat;
     store = kick_told c.job (past_of c) (kick p) (cpu_of p) can.told c.driver refl;
     bytes = every _ can.told (λ calls. note_bytes (machine_of c.job) c.job (past_of c) c.machine (kick p) calls tt stays);
-    honest = not_lost can.told (kick p).event refl;
+    honest = kick_honest (machine_of c.job) (past_of c) (kick p) (cpu_of p) can.told c.machine refl;
   };
   stood = refl;
   place = can.place;
@@ -144,7 +143,7 @@ kicked_length (p ∷ ps) past = let more = kicked_length ps (kick p ∷ past) in
 
 module _ (old : Course) (bits : ℕ) (can : CanKick old bits) where
   order : RisesFrom 0 can.cpus × AllBelow 16 can.cpus
-  order = kicks_in_order old.job.start_epoch old.job (past_of old) can.taken can.next can.block can.cpus can.stands can.due
+  order = kicks_in_order old.job.start_epoch old.job (past_of old) can.before can.cpus can.stands can.whole can.due
 
   pub few_kicks : length can.cpus ≤ 16
   few_kicks = let few = rises_few 0 16 can.cpus (omega arith) order.0 order.1 in omega (arith, few)
@@ -163,7 +162,7 @@ module _ (old : Course) (bits : ℕ) (can : CanKick old bits) where
             → IsNextOf (machine_of j) j (past_of c) c.driver c.machine (kick p) c.driver c.machine) (sym job)
             (subst (λ h. GoesOnWith (machine_of old.job) h (kick p) c.machine
             → IsNextOf (machine_of old.job) old.job h c.driver c.machine (kick p) c.driver c.machine) (sym k.past)
-            (kick_next old.job.start_epoch old.job (past_of old) can.taken can.next can.block can.cpus can.stands can.due
+            (kick_next old.job.start_epoch old.job (past_of old) can.before can.cpus can.stands can.whole can.due
             (machine_of old.job) c.driver c.machine (below p can.cpus) p on.rest can.going on.splits k.book.agrees));
         place = room c p on k;
       }
@@ -259,7 +258,7 @@ arrays_kicked : (j : JobView) (keeper : Keeper) (ps : List ℕ) (past : List Ent
     → KeepsArrays j keeper (kicked_past ps past)
 arrays_kicked j keeper [] past k = k
 arrays_kicked j keeper (p ∷ ps) past k =
-    arrays_kicked j keeper ps (kick p ∷ past) (arrays_stay j keeper keeper past (kick p) refl refl refl k)
+    arrays_kicked j keeper ps (kick p ∷ past) (arrays_stay j keeper keeper past (kick p) refl refl refl refl k)
 
 ends_kicked : (ps : List ℕ) (past : List Entry) → EndsAreTold past → EndsAreTold (kicked_past ps past)
 ends_kicked [] past k = k
@@ -269,6 +268,13 @@ clear_kicked : (j : JobView) (ps : List ℕ) (past : List Entry) → IsClear j p
 clear_kicked j [] past k = k
 clear_kicked j (p ∷ ps) past k =
     clear_kicked j ps (kick p ∷ past) (record { none = own_none past (kick p) refl k.none; spent = (refl, k.spent) })
+
+first_kicked : (ps : List ℕ) (past : List Entry) → HasFirst past → HasFirst (kicked_past ps past)
+first_kicked [] past k = k
+first_kicked (p ∷ ps) past k = first_kicked ps (kick p ∷ past) (one_more past p k)
+  where
+    one_more : (past : List Entry) (p : ℕ) → HasFirst past → HasFirst (kick p ∷ past)
+    one_more past p h g is = h g is
 
 -- so many entries more
 pub kicks_grow : (c c' : Course) (bits : ℕ) (longer : Option (List Call)) (spare n : ℕ) (own : IsOwnKicks c bits longer spare)
@@ -285,11 +291,12 @@ kicks_grow c c' bits longer spare n own k count =
         tcs = subst TcsAreApart (sym job) own.kick.tcs;
         book = book;
         stands =
-            subst (λ (j : JobView). StandsFor j.start_epoch (past_of c') c'.pass.taken.items c'.pass.phase (pass j (past_of c'))) (sym job)
-            (subst (λ h. StandsFor c.job.start_epoch h c'.pass.taken.items c'.pass.phase (pass c.job h)) (sym k.past)
-            (subst (λ (x : Pass). StandsFor c.job.start_epoch (kicked_past own.kick.cpus (past_of c)) x.taken.items x.phase
-            (pass c.job (kicked_past own.kick.cpus (past_of c)))) (sym passes) own.stands));
-        places = subst (λ (x : Pass). still_out x.taken.items x.phase ≤ spare) (sym passes) own.places;
+            subst (λ (j : JobView). StandsAt j.start_epoch j (past_of c') c'.pass) (sym job)
+            (subst (λ h. StandsAt c.job.start_epoch c.job h c'.pass) (sym k.past)
+            (subst (StandsAt c.job.start_epoch c.job (kicked_past own.kick.cpus (past_of c))) (sym passes) own.stands));
+        whole = ap is_amid passes ∙ own.whole;
+        first = subst HasFirst (sym k.past) (first_kicked own.kick.cpus (past_of c) own.first);
+        places = subst (λ (x : PassView). still_out x ≤ spare) (sym passes) own.places;
         arrays =
             subst (λ (j : JobView). KeepsArrays j c'.driver.slots (past_of c')) (sym job)
             (subst (KeepsArrays c.job c'.driver.slots) (sym k.past)

@@ -11,6 +11,8 @@ pub mod FollowLaws
 pub mod KickTurnLaws
 pub mod KickedLaws
 pub mod SpentLaws
+pub mod SettleLaws
+pub mod CalmLaws
 pub mod EndTurnLaws
 pub mod FinishLaws
 pub mod AnswerLaws
@@ -30,6 +32,7 @@ pub mod PromiseLaws
 pub mod PutLaws
 pub mod OpenViewLaws
 pub mod CallLaws
+pub mod PageLaws
 pub mod ReclaimViewLaws
 pub mod StopLaws
 pub mod IdleLaws

@@ -1,8 +1,8 @@
 -- A course that takes in an entry of a processor.
 use Rattle.std.proofs.Common.{◌≡◌, ℕ, ◌+◌, ◌*◌, ◌≤◌, ◌<◌, Bool, true, false, if◌then◌else◌, is_some, List}
-use Rattle.std.proofs.Common.{[], ◌∷◌, ◌++◌, Option, Some, IfSome, length, map, reverse, count_by, set, slice_index, vec_len}
+use Rattle.std.proofs.Common.{[], ◌∷◌, ◌++◌, Option, Some, IfSome, length, reverse, count_by, set, vec_len}
 use Rattle.std.proofs.Common.{vec_capacity, refl, sym, ap, subst, ◌∙◌, arith}
-use Rattle.std.proofs.lemmas.Bool.{false≢true, lt-ltb, ltb-true}
+use Rattle.std.proofs.lemmas.Bool.{false≢true}
 use Rattle.std.proofs.lemmas.List.{length_push}
 use Rattle.std.specs.Global.{Vec}
 use Rattle.sgx_rules.specs.declared.entries.Action.TheVariants.{Eld}
@@ -29,18 +29,21 @@ use Rattle.driver_laws.specs.inner.Sound.{is_absent}
 use Rattle.driver_rules.specs.Places.{Absent, Away, Here, Leaving, Loading, Place, is_here, place}
 use Rattle.driver_rules.specs.Stops.{is_spent}
 use Rattle.driver_rules.specs.Turns.{Fails, Last, Loads, Other, WasEnded, cpu_due, due_after, fetches, is_last, last_of, turn_due}
-use Rattle.driver_laws.specs.inner.Agrees.{loaded_by}
+use Rattle.driver_laws.specs.inner.Agrees.{drivers, loaded_by}
 use Rattle.driver_laws.specs.inner.Loads.{EndsOwn}
 use Rattle.driver_laws.specs.inner.Three.{TcsAreApart}
 use Rattle.driver_laws.proofs.EndLaws.{their_rule}
 use Rattle.driver_tables.specs.declared.driver.Driver.{Driver}
 use Rattle.driver_tables.specs.inner.Tables.{ShowsTables}
+use Rattle.driver_tables.proofs.HeldLaws.{held_same}
 use Rattle.driver_steps.specs.inner.Agrees.{Agrees}
 use Rattle.driver_calls.specs.inner.Comes.{bus_of}
 use Rattle.fault_handler.specs.inner.Repeating.{WaitsFor}
 use Rattle.fault_handler.proofs.EndLaws.{can_finish}
-use Rattle.reclaim_worker.specs.inner.Standing.{StandsFor, is_sealing}
-use Rattle.reclaim_worker.specs.inner.Stored.{still_out}
+use Rattle.reclaim_pass.specs.inner.Standing.{StandsFor}
+use Rattle.reclaim_pass.specs.inner.Viewed.{is_amid, is_sealing, still_out}
+use Rattle.reclaim_worker.specs.inner.Ready.{HasFirst}
+use Rattle.reclaim_worker.proofs.FirstLaws.{stays_first}
 use Rattle.table_notes.specs.inner.Arrays.{KeepsArrays}
 use Rattle.table_notes.specs.inner.Plain.{is_reclaimer}
 use Rattle.turn_tables.specs.declared.turns.Turns.{Turns}
@@ -51,9 +54,11 @@ use Rattle.turn_tables.specs.declared.cpu_turns.CpuTurn.{CpuTurn}
 use Rattle.turn_tables.specs.inner.Holding.{mode_of}
 use Rattle.turn_tables.specs.inner.Noting.{IsNoted, turn_after, with_own}
 use Rattle.turn_tables.specs.inner.Shown.{ShowsTurns}
-use Rattle.turn_tables.specs.inner.TcsTurns.{has_place}
+use Rattle.turn_tables.specs.inner.TcsTurns.{has_place, rows}
+use Rattle.turn_tables.proofs.RowLaws.{placed_row, row_placed}
 use Rattle.run_book.specs.inner.Books.{IsMade, KeepsBook}
-use Rattle.run_steps.proofs.StayLaws.{passes_stay_next}
+use Rattle.run_book.proofs.PlainLaws.{others_age}
+use Rattle.run_steps.proofs.StayLaws.{passes_stay}
 use Rattle.run_turns.specs.declared.course.Course.{Course}
 use Rattle.run_turns.specs.inner.Courses.{IsClear, KeepsCourse, has_open_load, open_starts, past_of}
 use Rattle.run_turns.specs.inner.Recording.{CanTake, IsRecorded, IsTaken}
@@ -67,8 +72,10 @@ pub record Stands (c : Course) (past : List Entry) (told : Option (List Call)) (
   pub same : past_of c ≡ past
   pub tcs : TcsAreApart c.job
   pub book : KeepsBook (machine_of c.job) c.job past told d m c.turns
-  pub stands : StandsFor c.job.start_epoch past c.pass.taken.items c.pass.phase (pass c.job past)
-  pub places : still_out c.pass.taken.items c.pass.phase ≤ spare
+  pub stands : StandsFor c.job.start_epoch past c.pass (pass c.job past)
+  pub whole : is_amid c.pass ≡ false
+  pub first : HasFirst past
+  pub places : still_out c.pass ≤ spare
   pub ends : EndsAreTold past
 
 -- between two turns
@@ -76,7 +83,30 @@ pub course_stands : (c : Course) (entries : Vec Entry) (d : Driver) (m : Parts) 
     → entries.items ≡ c.entries.items → KeepsCourse c told spare
     → Stands (record c { driver = d; machine = m; entries = entries }) (past_of c) told spare c.driver c.machine
 course_stands c entries d m told spare same k =
-    record { same = ap reverse same; tcs = k.tcs; book = k.book; stands = k.stands; places = k.places; ends = k.ends }
+    record {
+      same = ap reverse same;
+      tcs = k.tcs;
+      book = k.book;
+      stands = k.stands;
+      whole = k.whole;
+      first = k.first;
+      places = k.places;
+      ends = k.ends;
+    }
+
+-- behind an entry of another actor the first version array page was made, where a page goes out beside the passes
+pub stands_first : (c : Course) (past : List Entry) (told : Option (List Call)) (spare : ℕ) (d : Driver) (m : Parts) (e : Entry)
+    → Stands c past told spare d m → is_reclaimer e.actor ≡ false → HasFirst (e ∷ past)
+stands_first c past told spare d m e s other =
+    stays_first (machine_of c.job) c.job past c.pass d m
+    (record {
+      agrees = s.book.agrees;
+      held = λ g. held_same c.job d.active.own past s.book.holds.shows g s.book.turns.valid.few_scripts;
+      stands = s.stands;
+      whole = s.whole;
+      first = s.first;
+      short = s.book.turns.valid.marks.4;
+    }) e (others_age c.job past e.actor e.event other)
 
 -- an entry of another actor than the reclaimer that was made can be taken in
 abbrev pub can_take : (c : Course) (past : List Entry) (told longer : Option (List Call)) (spare : ℕ) (d : Driver) (m : Parts)
@@ -95,24 +125,27 @@ can_take c past told longer spare d m before e s made stood room other = record 
     stood = stood;
     place = room;
   };
-  stands = subst (λ h. StandsFor c.job.start_epoch (e ∷ h) c.pass.taken.items c.pass.phase
+  stands = subst (λ h. StandsFor c.job.start_epoch (e ∷ h) c.pass
       (pass_after c.job h e.actor e.event (pass c.job h))) (sym s.same)
-      (passes_stay_next (machine_of c.job) c.job past d c.driver m c.machine e c.pass.taken.items c.pass.phase s.book.agrees made.next other
-      s.stands);
+      (passes_stay (machine_of c.job) c.job past d c.driver m c.machine e c.pass s.book.turns.valid.marks.4 s.book.agrees made.next
+      other s.stands);
+  whole = s.whole;
 }
 
 -- behind an entry
 pub taken_stands : (c c' : Course) (past : List Entry) (told longer : Option (List Call)) (spare : ℕ) (d : Driver) (m : Parts) (e : Entry)
     → Stands c past told spare d m → c'.job ≡ c.job → c'.entries.items ≡ c.entries.items ++ e ∷ [] → IsRecorded c e longer c'
-    → IsTaken c e c' → still_out c'.pass.taken.items c'.pass.phase ≡ still_out c.pass.taken.items c.pass.phase
-    → IsForRecord past e.event → Stands c' (e ∷ past) longer spare c'.driver c'.machine
-taken_stands c c' past told longer spare d m e s job kept book stands places record_only = record {
+    → IsTaken c e c' → still_out c'.pass ≡ still_out c.pass
+    → IsForRecord past e.event → is_reclaimer e.actor ≡ false → Stands c' (e ∷ past) longer spare c'.driver c'.machine
+taken_stands c c' past told longer spare d m e s job kept book stands places record_only other = record {
   same = newest c.entries.items c'.entries.items e kept ∙ more;
   tcs = subst TcsAreApart (sym job) s.tcs;
   book = subst (λ (j : JobView). KeepsBook (machine_of j) j (e ∷ past) longer c'.driver c'.machine c'.turns) (sym job)
       (subst (λ h. KeepsBook (machine_of c.job) c.job h longer c'.driver c'.machine c'.turns) more book);
-  stands = subst (λ (j : JobView). StandsFor j.start_epoch (e ∷ past) c'.pass.taken.items c'.pass.phase (pass j (e ∷ past))) (sym job)
-      (subst (λ h. StandsFor c.job.start_epoch h c'.pass.taken.items c'.pass.phase (pass c.job h)) more stands);
+  stands = subst (λ (j : JobView). StandsFor j.start_epoch (e ∷ past) c'.pass (pass j (e ∷ past))) (sym job)
+      (subst (λ h. StandsFor c.job.start_epoch h c'.pass (pass c.job h)) more stands.0);
+  whole = stands.1;
+  first = stands_first c past told spare d m e s other;
   places = subst (λ n. n ≤ spare) (sym places) s.places;
   ends = ends_go_on past e record_only s.ends;
 }
@@ -127,7 +160,9 @@ pub stands_keeps : (c : Course) (past : List Entry) (told : Option (List Call)) 
 stands_keeps c past told spare s arrays clear room = record {
   tcs = s.tcs;
   book = subst (λ h. KeepsBook (machine_of c.job) c.job h told c.driver c.machine c.turns) (sym s.same) s.book;
-  stands = subst (λ h. StandsFor c.job.start_epoch h c.pass.taken.items c.pass.phase (pass c.job h)) (sym s.same) s.stands;
+  stands = subst (λ h. StandsFor c.job.start_epoch h c.pass (pass c.job h)) (sym s.same) s.stands;
+  whole = s.whole;
+  first = subst HasFirst (sym s.same) s.first;
   places = s.places;
   arrays = subst (KeepsArrays c.job c.driver.slots) (sym s.same) arrays;
   ends = subst EndsAreTold (sym s.same) s.ends;
@@ -138,13 +173,13 @@ stands_keeps c past told spare s arrays clear room = record {
 -- ---- open starts
 
 -- a write-out counts for one
-abbrev sealing_starts : Bool → ℕ
+abbrev pub sealing_starts : Bool → ℕ
 sealing_starts b = if b then 1 else 0
 
 -- the end of a load closes one
 pub ended_starts : (j : JobView) (c c' : Course) (before : Mode) (cpu : Cpu) (e : Entry) → cpu.0 < length c.turns.cpus
     → has_open_load (turn_at c.turns.cpus cpu.0) ≡ true → e.actor ≡ actors.Cpu cpu → IsEndOfLoad e.event
-    → IsNoted j c.turns before e c'.turns → is_sealing c'.pass.phase ≡ is_sealing c.pass.phase → open_starts c' + 1 ≡ open_starts c
+    → IsNoted j c.turns before e c'.turns → is_sealing c'.pass ≡ is_sealing c.pass → open_starts c' + 1 ≡ open_starts c
 ended_starts j c c' before cpu e low loads by end noted sealing =
     let turn : CpuTurn = turn_after e.event before (turn_at c.turns.cpus cpu.0) in
     let cpus : c'.turns.cpus ≡ set c.turns.cpus cpu.0 turn = noted.cpus
@@ -159,7 +194,7 @@ ended_starts j c c' before cpu e low loads by end noted sealing =
 
 -- a bus opens none
 pub bus_starts : (j : JobView) (c c' : Course) (before : Mode) (cpu : Cpu) (page : Page) (reason : BusWhy) → cpu.0 < length c.turns.cpus
-    → IsNoted j c.turns before (bus_of cpu page reason) c'.turns → is_sealing c'.pass.phase ≡ is_sealing c.pass.phase
+    → IsNoted j c.turns before (bus_of cpu page reason) c'.turns → is_sealing c'.pass ≡ is_sealing c.pass
     → open_starts c' ≤ open_starts c
 bus_starts j c c' before cpu page reason low noted sealing =
     let turn : CpuTurn = turn_after (Bus page reason) before (turn_at c.turns.cpus cpu.0) in
@@ -202,24 +237,20 @@ ends_loads j past cpu f mine due = by_last (last_of past cpu.0) own
     by_last Other k = cc
 
 -- a page with a place can be asked for
-pub placed_there : (j : JobView) (d : Driver) (past : List Entry) (t : Turns) (page : Page) → ShowsTables j d past → ShowsTurns j past t
-    → has_place t.tcs page ≡ true → IsPlaced d.states.counts page
+pub placed_there : (j : JobView) (d : Driver) (past : List Entry) (t : Turns) (page : Page) → ShowsTables (drivers j) j d past
+    → ShowsTurns j past t → has_place t.tcs page ≡ true → IsPlaced d.states.counts page
 placed_there j d past t page shows turns has =
-    subst (λ x. IsPlaced x page) (sym (shows.counts ∙ shows.of_job ∙ sym turns.places))
-    record { within = ltb-true page.number (slice_index (map length t.tcs) page.enclave) has }
+    placed_row t.tcs d.states.counts page (turns.places ∙ sym (ap rows (shows.counts ∙ shows.of_job))) has
 
 -- a page without a place was never added
-absent_there : (j : JobView) (d : Driver) (past : List Entry) (t : Turns) (page : Page) → ShowsTables j d past → ShowsTurns j past t
-    → has_place t.tcs page ≡ false → place past page ≡ Absent
+absent_there : (j : JobView) (d : Driver) (past : List Entry) (t : Turns) (page : Page) → ShowsTables (drivers j) j d past
+    → ShowsTurns j past t → has_place t.tcs page ≡ false → place past page ≡ Absent
 absent_there j d past t page shows turns has = by_place (place past page) refl
   where
-    same : map length t.tcs ≡ d.states.counts
-    same = turns.places ∙ sym (shows.counts ∙ shows.of_job)
-
     no_place : is_absent (place past page) ≡ false → ⊥
     no_place k =
-        let placed : IsPlaced (map length t.tcs) page = subst (λ counts. IsPlaced counts page) (sym same) (shows.placed page k) in
-        false≢true (sym has ∙ lt-ltb page.number (slice_index (map length t.tcs) page.enclave) placed.within)
+        false≢true (sym has ∙ row_placed t.tcs d.states.counts page (turns.places ∙ sym (ap rows (shows.counts ∙ shows.of_job)))
+        (shows.placed page k))
 
     by_place : (at : Place) → place past page ≡ at → place past page ≡ Absent
     by_place Absent is = is
@@ -229,7 +260,7 @@ absent_there j d past t page shows turns has = by_place (place past page) refl
     by_place (Away slot) is = absurd (no_place (ap is_absent is))
 
 -- .. so it is waited for
-pub absent_waits : (j : JobView) (d : Driver) (past : List Entry) (t : Turns) (page : Page) (due : Due) → ShowsTables j d past
+pub absent_waits : (j : JobView) (d : Driver) (past : List Entry) (t : Turns) (page : Page) (due : Due) → ShowsTables (drivers j) j d past
     → ShowsTurns j past t → has_place t.tcs page ≡ false → due ≡ fetches j.epc past page (place past page)
     → due ≡ Waits (waits.Busy page)
 absent_waits j d past t page due shows turns has is =
@@ -266,7 +297,7 @@ open_waits j past d m cpu r room =
     by_last (Loads n page) is =
         let can = can_finish (machine_of j) j past d m r cpu page n is room in
         record {
-          placed = subst (λ x. IsPlaced x page) (sym can.tables.counts) can.tables.placed;
+          placed = can.tables.placed;
           frame = can.frame;
           slot = can.slot;
           loading = can.tables.loading;
@@ -277,5 +308,6 @@ open_waits j past d m cpu r room =
     by_last Other is = tt
 
 -- there is room for what is kept for each processor
-pub kept_room : (j : JobView) (d : Driver) (past : List Entry) (p : ℕ) → ShowsTables j d past → p < length j.scripts → p < length d.kept
+pub kept_room : (j : JobView) (d : Driver) (past : List Entry) (p : ℕ) → ShowsTables (drivers j) j d past → p < length j.scripts
+    → p < length d.kept
 kept_room j d past p shows mine = let rooms = shows.rooms in let cpus = shows.cpus in omega (arith, rooms, cpus, mine)

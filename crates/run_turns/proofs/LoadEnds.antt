@@ -21,7 +21,7 @@ use Rattle.sgx_rules.specs.Starts.{open_start}
 use Rattle.cached_translations.specs.declared.processor.Mode.{Mode}
 use Rattle.job_grammar.specs.Jobs.{JobView}
 use Rattle.turn_rules.specs.Machines.{machine_of}
-use Rattle.turn_rules.specs.Script.{action_of}
+use Rattle.turn_rules.specs.Script.{action_of, is_builder}
 use Rattle.sgx_types.specs.Making.{Making}
 use Rattle.sgx_types.proofs.CountLaws.{one_if}
 use Rattle.backing_store.specs.Calls.{Call}
@@ -35,9 +35,9 @@ use Rattle.driver_rules.specs.Places.{Absent, Away, Here, Leaving, Loading, Plac
 use Rattle.driver_rules.specs.inner.Reclaims.{is_refused}
 use Rattle.driver_rules.specs.Stops.{is_spent, spends}
 use Rattle.driver_rules.specs.Turns.{Fails, Loads, cpu_due, due_after, fails_with, fetches, is_last, last_by, last_of, load_of}
+use Rattle.driver_rules.specs.Turns.{start_fails}
 use Rattle.driver_rules.specs.Turns.{turn_due}
 use Rattle.driver_tables.specs.declared.driver.Driver.{Driver}
-use Rattle.driver_tables.specs.inner.Tables.{ShowsTables}
 use Rattle.driver_laws.specs.inner.Agrees.{loaded_by}
 use Rattle.driver_steps.specs.inner.Agrees.{Agrees}
 use Rattle.driver_calls.specs.inner.Comes.{bus_of}
@@ -48,10 +48,12 @@ use Rattle.fault_handler.specs.inner.Due.{IsEnd, IsRight, IsRightEnd, ShowsEnd}
 use Rattle.fault_handler.specs.inner.Finishing.{CanFinish, IsFinished}
 use Rattle.fault_handler.specs.inner.Resolving.{IsResolved}
 use Rattle.fault_handler.proofs.EndLaws.{can_finish, finished_is_right}
-use Rattle.reclaim_worker.specs.inner.Standing.{is_kicked, is_sealing}
-use Rattle.reclaim_worker.specs.inner.Stored.{still_out}
+use Rattle.reclaim_pass.specs.inner.Viewed.{is_kicked, is_sealing, still_out}
 use Rattle.table_notes.specs.inner.Arrays.{KeepsArrays}
-use Rattle.table_notes.proofs.ArrayLaws.{arrays_late, arrays_moved, arrays_stay}
+use Rattle.table_notes.proofs.ArrayLaws.{arrays_moved}
+use Rattle.table_notes.specs.inner.Plain.{is_reclaimer}
+use Rattle.driver_laws.specs.inner.Sound.{is_absent}
+use Rattle.driver_tables.specs.inner.Tables.{place_in}
 use Rattle.turn_tables.specs.declared.turns.Turns.{Turns}
 use Rattle.turn_tables.specs.inner.CpuTurns.{first_turn, turn_at}
 use Rattle.turn_tables.specs.inner.Ending.{IsForRecord, NoneFails}
@@ -59,7 +61,6 @@ use Rattle.turn_tables.specs.inner.Noting.{IsNoted}
 use Rattle.turn_tables.specs.inner.Shown.{ShowsTurns}
 use Rattle.run_book.specs.inner.Books.{AreTold, IsMade, with_own}
 use Rattle.run_book.specs.inner.Loads.{OfAnswer, entry_in}
-use Rattle.run_book.proofs.BookLaws.{shows_with}
 use Rattle.run_bytes.specs.inner.Records.{StaysWith}
 use Rattle.run_records.specs.inner.Silent.{OfBus}
 use Rattle.run_records.proofs.LoadRecords.{end_told}
@@ -68,17 +69,17 @@ use Rattle.run_turns.specs.inner.Courses.{Grows, IsClear, KeepsCourse, has_open_
 use Rattle.run_turns.specs.inner.Recording.{CanTake, IsRecorded, IsTaken}
 use Rattle.run_turns.specs.inner.Turns.{EndsBy, EndsLoad, RefusesLoad}
 use Rattle.run_turns.proofs.KeepLaws.{few_cpus, room_behind}
-use Rattle.run_turns.proofs.LoadCourse.{Stands, is_open, kept_room, bus_starts, ended_starts, one_longer, stands_keeps}
+use Rattle.run_turns.proofs.LoadCourse.{Stands, is_open, kept_room, ended_starts, one_longer, stands_keeps}
 use Rattle.run_turns.proofs.LoadCourse.{taken_stands}
 use Rattle.run_turns.proofs.SpentLaws.{done_calm, used_calm}
-use Rattle.run_turns.proofs.LoadLaws.{IsOfAway, due_quiet, end_of_load, starts_set, end_quiet, loading_told, none_behind_bus}
+use Rattle.run_turns.proofs.LoadLaws.{IsOfAway, due_quiet, end_of_load, starts_set, end_quiet, loading_told}
 use Rattle.run_turns.proofs.LoadLaws.{none_more}
 use Rattle.run_turns.proofs.RecordLaws.{newest}
-use Rattle.run_turns.proofs.LoadMade.{Leaves, NotesBus, bus_made, bus_told, end_acts, end_by, end_made, fault_made}
+use Rattle.run_turns.proofs.LoadMade.{Leaves, NotesBus, end_acts, end_by, end_made, end_slots, fault_made}
 use Rattle.run_turns.proofs.LoadMade.{resolved_leaves}
 use Rattle.run_history.specs.Honest.{IsHonest}
 use Rattle.fault_handler.specs.inner.Finishing.{IsBack}
-use Rattle.run_records.proofs.HonestRecords.{ended_back}
+use Rattle.run_records.proofs.HonestEnds.{ended_back}
 
 -- an entry was taken in, by all that is said of it
 pub record TookIn (c c' : Course) (before : Mode) (e : Entry) (longer : Option (List Call)) : Type 0 where
@@ -90,9 +91,9 @@ pub record TookIn (c c' : Course) (before : Mode) (e : Entry) (longer : Option (
   pub kept : c'.entries.items ≡ c.entries.items ++ e ∷ []
   pub room : vec_capacity c'.entries ≡ vec_capacity c.entries
   pub noted : IsNoted c.job c.turns before e c'.turns
-  pub places : still_out c'.pass.taken.items c'.pass.phase ≡ still_out c.pass.taken.items c.pass.phase
-  pub sealing : is_sealing c'.pass.phase ≡ is_sealing c.pass.phase
-  pub kicks : is_kicked c'.pass.phase ≡ is_kicked c.pass.phase
+  pub places : still_out c'.pass ≡ still_out c.pass
+  pub sealing : is_sealing c'.pass ≡ is_sealing c.pass
+  pub kicks : is_kicked c'.pass ≡ is_kicked c.pass
 
 -- all that is said of it for whatever made it
 pub record Takes (c c' : Course) (before : Mode) (e : Entry) : Type 0 where
@@ -103,9 +104,9 @@ pub record Takes (c c' : Course) (before : Mode) (e : Entry) : Type 0 where
   pub kept : c'.entries.items ≡ c.entries.items ++ e ∷ []
   pub room : vec_capacity c'.entries ≡ vec_capacity c.entries
   pub noted : IsNoted c.job c.turns before e c'.turns
-  pub places : still_out c'.pass.taken.items c'.pass.phase ≡ still_out c.pass.taken.items c.pass.phase
-  pub sealing : is_sealing c'.pass.phase ≡ is_sealing c.pass.phase
-  pub kicks : is_kicked c'.pass.phase ≡ is_kicked c.pass.phase
+  pub places : still_out c'.pass ≡ still_out c.pass
+  pub sealing : is_sealing c'.pass ≡ is_sealing c.pass
+  pub kicks : is_kicked c'.pass ≡ is_kicked c.pass
 
 -- .. where it could be taken in
 pub took_in : (c c' : Course) (before : Mode) (e : Entry) → Takes c c' before e → (take : CanTake c before e)
@@ -134,7 +135,7 @@ took_past c c' past longer before e same took =
 
 -- by one entry
 pub grows_one : (old new : Course) (cpu : Cpu) (e : Entry) (told : Option (List Call)) (spare : ℕ) → e.actor ≡ actors.Cpu cpu
-    → past_of new ≡ e ∷ past_of old → new.job ≡ old.job → is_kicked new.pass.phase ≡ is_kicked old.pass.phase → KeepsCourse new told spare
+    → past_of new ≡ e ∷ past_of old → new.job ≡ old.job → is_kicked new.pass ≡ is_kicked old.pass → KeepsCourse new told spare
     → Grows old (actors.Cpu cpu) 1 new told spare
 grows_one old new cpu e told spare by past job kicks keeps = record {
   entries = e ∷ [];
@@ -149,7 +150,7 @@ grows_one old new cpu e told spare by past job kicks keeps = record {
 -- .. by two
 pub grows_two : (old new : Course) (cpu : Cpu) (e e' : Entry) (told : Option (List Call)) (spare : ℕ) → e.actor ≡ actors.Cpu cpu
     → e'.actor ≡ actors.Cpu cpu → past_of new ≡ e' ∷ e ∷ past_of old → new.job ≡ old.job
-    → is_kicked new.pass.phase ≡ is_kicked old.pass.phase → KeepsCourse new told spare → Grows old (actors.Cpu cpu) 2 new told spare
+    → is_kicked new.pass ≡ is_kicked old.pass → KeepsCourse new told spare → Grows old (actors.Cpu cpu) 2 new told spare
 grows_two old new cpu e e' told spare by by' past job kicks keeps = record {
   entries = e' ∷ e ∷ [];
   count = refl;
@@ -216,21 +217,29 @@ clear_more c c' past e job calm clear none =
 -- what stands behind an entry that was taken in
 pub took_stands : (c c' : Course) (past : List Entry) (told longer : Option (List Call)) (spare : ℕ) (d : Driver) (m : Parts)
     (before : Mode) (e : Entry) → Stands c past told spare d m → TookIn c c' before e longer → IsForRecord past e.event
-    → Stands c' (e ∷ past) longer spare c'.driver c'.machine
+    → is_reclaimer e.actor ≡ false → Stands c' (e ∷ past) longer spare c'.driver c'.machine
 took_stands c c' past told longer spare d m before e s took =
     taken_stands c c' past told longer spare d m e s took.job took.kept took.book took.stands took.places
 
--- behind the entry of a fault step is a course between two turns
+-- the arrays behind it
+pub took_arrays : (c c' : Course) (past : List Entry) (longer : Option (List Call)) (before : Mode) (e : Entry)
+    → TookIn c c' before e longer → KeepsArrays c.job c.driver.slots past → KeepsArrays c'.job c'.driver.slots past
+took_arrays c c' past longer before e took k =
+    subst (λ (j : JobView). KeepsArrays j c'.driver.slots past) (sym took.job)
+    (subst (λ (x : Keeper). KeepsArrays c.job x past) (sym (ap (λ (x : Driver). x.slots) took.driver)) k)
+
+-- behind the entry of a fault step that is not refused is a course between two turns
 pub fetched_keeps : (c c' : Course) (past : List Entry) (told longer : Option (List Call)) (spare : ℕ) (d : Driver) (m : Parts)
     (before : Mode) (e : Entry) (page : Page) → Stands c past told spare d m → TookIn c c' before e longer
-    → IsOfAway past e.event (place past page) → spends e.event ≡ false → IsClear c.job past
+    → IsOfAway past e.event (place past page) → is_refused e.event ≡ false → is_reclaimer e.actor ≡ false
+    → KeepsArrays c.job c.driver.slots (e ∷ past) → spends e.event ≡ false → IsClear c.job past
     → vec_len c.entries + 64 ≤ vec_capacity c.entries → KeepsCourse c' longer spare
-fetched_keeps c c' past told longer spare d m before e page s took away calm clear room =
-    let s' = took_stands c c' past told longer spare d m before e s took away.quiet.for_record in
+fetched_keeps c c' past told longer spare d m before e page s took away done other arrays calm clear room =
+    let s' = took_stands c c' past told longer spare d m before e s took away.quiet.for_record other in
     let longer_by = one_longer c.entries c'.entries e took.kept in
     let cap = took.room in
-    stands_keeps c' (e ∷ past) longer spare s' (arrays_late c'.job c'.driver.slots past e page s.book.agrees.sound away.there)
-    (clear_more c c' past e took.job calm clear (none_more past e away.quiet.fails clear.none))
+    stands_keeps c' (e ∷ past) longer spare s' (took_arrays c c' (e ∷ past) longer before e took arrays)
+    (clear_more c c' past e took.job calm clear (none_more past e (away.quiet.fails done) clear.none))
     (room_behind c' (few_cpus (machine_of c'.job) c'.job (e ∷ past) longer c'.driver c'.machine c'.turns s'.book)
     (omega (arith, longer_by, cap, room)))
 
@@ -245,29 +254,20 @@ loads_open j past t p n page shows mine last = loading_told (turn_at t.cpus p).l
 pub turns_room : (j : JobView) (past : List Entry) (t : Turns) (p : ℕ) → ShowsTurns j past t → p < length j.scripts → p < length t.cpus
 turns_room j past t p shows mine = let each = shows.each in omega (arith, each, mine)
 
--- the arrays behind it
-end_arrays : (j : JobView) (keeper : Keeper) (past : List Entry) (told : Option (List Call)) (c c' : Course) (spare : ℕ) (d : Driver)
-    (m : Parts) (f : Frame) (e : Entry) → Stands c past told spare d m
-    → IsMade (machine_of c.job) c.job past told d m e told c.driver c.machine → action_of e.event ≡ Some (actions.Eld f)
-    → KeepsArrays j keeper (e ∷ past)
-end_arrays j keeper past told c c' spare d m f e s made acts =
-    arrays_moved j keeper past e s.book.agrees.sound made.next.can (end_of_load f e.event acts).moves
-
 -- a load that is back leaves a course between two turns
 pub back_keeps : (c c' : Course) (past : List Entry) (told : Option (List Call)) (spare : ℕ) (d : Driver) (m : Parts) (before : Mode)
-    (e : Entry) (cpu : Cpu) (f : Frame) → Stands c past told spare d m
-    → IsMade (machine_of c.job) c.job past told d m e told c.driver c.machine → TookIn c c' before e told → e.actor ≡ actors.Cpu cpu
+    (e : Entry) (cpu : Cpu) (f : Frame) → Stands c past told spare d m → TookIn c c' before e told → e.actor ≡ actors.Cpu cpu
     → action_of e.event ≡ Some (actions.Eld f) → is_refused e.event ≡ false → cpu.0 < length c.turns.cpus
-    → has_open_load (turn_at c.turns.cpus cpu.0) ≡ true → IsClear c.job past
+    → has_open_load (turn_at c.turns.cpus cpu.0) ≡ true → KeepsArrays c.job c.driver.slots (e ∷ past) → IsClear c.job past
     → vec_len c.entries + 2 * open_starts c ≤ vec_capacity c.entries → KeepsCourse c' told spare
-back_keeps c c' past told spare d m before e cpu f s made took by acts done low loads clear room =
+back_keeps c c' past told spare d m before e cpu f s took by acts done low loads arrays clear room =
     let quiet = end_quiet past f e.event acts done in
-    let s' = took_stands c c' past told told spare d m before e s took quiet.for_record in
+    let s' = took_stands c c' past told told spare d m before e s took quiet.for_record (ap is_reclaimer by) in
     let longer_by = one_longer c.entries c'.entries e took.kept in
     let cap = took.room in
     let closed = ended_starts c.job c c' before cpu e low loads by (end_of_load f e.event acts) took.noted took.sealing in
-    stands_keeps c' (e ∷ past) told spare s' (end_arrays c'.job c'.driver.slots past told c c' spare d m f e s made acts)
-    (clear_more c c' past e took.job (done_calm e.event done) clear (none_more past e quiet.fails clear.none))
+    stands_keeps c' (e ∷ past) told spare s' (took_arrays c c' (e ∷ past) told before e took arrays)
+    (clear_more c c' past e took.job (done_calm e.event done) clear (none_more past e (quiet.fails done) clear.none))
     (omega (arith, longer_by, cap, closed, room))
 
 -- ---- a refused load
@@ -286,11 +286,19 @@ fails_go_on (Some g) (why.BadHeader enclave address flags) page reason action is
 fails_go_on (Some g) refusal page reason action is = cc
 fails_go_on None refusal page reason action is = cc
 
+-- nor does the start of one that finds no version
+start_goes_on : (g : Page) (refusal : Refusal) (page : Page) (reason : BusWhy) (action : Action)
+    → start_fails g refusal ≡ Fails page reason → spends (Refused action refusal) ≡ false
+start_goes_on g why.SlotEmpty page reason action is = refl
+start_goes_on g refusal page reason action is = cc
+
 -- .. whatever the entry
 pub fails_not_spent : (past : List Entry) (event : Event) (page : Page) (reason : BusWhy)
     → last_by event (open_start past) ≡ Fails page reason → spends event ≡ false
 fails_not_spent past (Refused (actions.Eld f) refusal) page reason is =
     fails_go_on (load_of (open_start past f.0)) refusal page reason (actions.Eld f) is
+fails_not_spent past (Refused (actions.EldStart f g at) refusal) page reason is =
+    start_goes_on g refusal page reason (actions.EldStart f g at) is
 fails_not_spent past (Refused action refusal) page reason is = cc
 fails_not_spent past (Did action answer) page reason is = refl
 fails_not_spent past (Age g look) page reason is = refl
@@ -301,67 +309,6 @@ fails_not_spent past (Bus g other) page reason is = refl
 pub fails_reports : (j : JobView) (h : List Entry) (p : ℕ) (page : Page) (reason : BusWhy) → is_spent h ≡ false
     → last_of h p ≡ Fails page reason → is_last h p ≡ true → cpu_due j h p ≡ Reports page reason
 fails_reports j h p page reason going last own = rw (going, last, own) refl
-
--- by what it left the bus is made
-pub refused_bus : (c c' : Course) (past : List Entry) (told : Option (List Call)) (spare : ℕ) (before : Mode) (e : Entry) (cpu : Cpu)
-    (page : Page) (reason : BusWhy) → Stands c' (e ∷ past) told spare c'.driver c'.machine → TookIn c c' before e told
-    → e.actor ≡ actors.Cpu cpu → last_of (e ∷ past) cpu.0 ≡ Fails page reason → is_spent past ≡ false → cpu.0 < length c.job.scripts
-    → ShowsTables c.job c.driver (bus_of cpu page reason ∷ e ∷ past)
-    → AreTold c.job (e ∷ past) (bus_of cpu page reason) told told c.driver c.driver
-    → NotesBus c'.job (e ∷ past) c'.machine (bus_of cpu page reason)
-    → IfSome told (λ calls. IsHonest calls → ⊥)
-    → IsMade (machine_of c'.job) c'.job (e ∷ past) told c'.driver c'.machine (bus_of cpu page reason) told c'.driver c'.machine
-refused_bus c c' past told spare before e cpu page reason s took by last going mine shows store notes never =
-    bus_made c'.job (e ∷ past) told c'.driver c'.machine c'.turns c'.pass.taken.items c'.pass.phase cpu page reason s.book s.stands still
-    (subst (λ (j : JobView). cpu.0 < length j.scripts) (sym took.job) mine)
-    (fails_reports c'.job (e ∷ past) cpu.0 page reason still last (ap (is_by cpu.0) by ∙ eq-eqb cpu.0 cpu.0 refl))
-    (subst (λ (j : JobView). ShowsTables j c'.driver (bus_of cpu page reason ∷ e ∷ past)) (sym took.job)
-    (subst (λ (x : Driver). ShowsTables c.job x (bus_of cpu page reason ∷ e ∷ past)) (sym took.driver)
-    (shows_with c.job c.driver (bus_of cpu page reason ∷ e ∷ past) c'.driver.active.own shows)))
-    (subst (λ (j : JobView). AreTold j (e ∷ past) (bus_of cpu page reason) told told c'.driver c'.driver) (sym took.job)
-    (bus_told c.job (e ∷ past) told cpu page reason c.driver c'.driver store)) notes never
-  where
-    still : is_spent (e ∷ past) ≡ false
-    still =
-        ap (λ b. if b then true else is_spent past) (fails_not_spent past e.event page reason (sym (own_last past cpu e by) ∙ last)) ∙ going
-
--- behind a refused load and its bus is a course between two turns
-pub refused_keeps : (c c' c'' : Course) (past : List Entry) (told : Option (List Call)) (spare : ℕ) (d : Driver) (m : Parts)
-    (before between : Mode) (e : Entry) (cpu : Cpu) (f : Frame) (page : Page) (reason : BusWhy) → Stands c past told spare d m
-    → IsMade (machine_of c.job) c.job past told d m e told c.driver c.machine
-    → Stands c' (e ∷ past) told spare c'.driver c'.machine → TookIn c c' before e told
-    → TookIn c' c'' between (bus_of cpu page reason) told → e.actor ≡ actors.Cpu cpu → action_of e.event ≡ Some (actions.Eld f)
-    → cpu.0 < length c.turns.cpus → has_open_load (turn_at c.turns.cpus cpu.0) ≡ true → cpu.0 < length c'.turns.cpus
-    → spends e.event ≡ false → IsClear c.job past
-    → vec_len c.entries + 2 * open_starts c ≤ vec_capacity c.entries → KeepsCourse c'' told spare
-refused_keeps c c' c'' past told spare d m before between e cpu f page reason s made s' took took' by acts low loads low' calm clear room =
-    let s'' = took_stands c' c'' (e ∷ past) told told spare c'.driver c'.machine between (bus_of cpu page reason) s' took' tt in
-    let longer_by = one_longer c.entries c'.entries e took.kept in
-    let longer_by' = one_longer c'.entries c''.entries (bus_of cpu page reason) took'.kept in
-    let cap = took.room in
-    let cap' = took'.room in
-    let closed = ended_starts c.job c c' before cpu e low loads by (end_of_load f e.event acts) took.noted took.sealing in
-    let opens = bus_starts c'.job c' c'' between cpu page reason low' took'.noted took'.sealing in
-    let slots : c''.driver.slots ≡ c'.driver.slots = ap (λ (x : Driver). x.slots) took'.driver in
-    stands_keeps c'' (bus_of cpu page reason ∷ e ∷ past) told spare s''
-    (arrays_stay c''.job c'.driver.slots c''.driver.slots (e ∷ past) (bus_of cpu page reason) refl (ap (λ (k : Keeper). k.frames) slots)
-    (ap (λ (k : Keeper). k.room) slots) (end_arrays c''.job c'.driver.slots past told c c' spare d m f e s made acts))
-    (subst (λ (j : JobView). IsClear j (bus_of cpu page reason ∷ e ∷ past)) (sym (took'.job ∙ took.job))
-    (record {
-      none = none_behind_bus past cpu page reason e by clear.none;
-      spent = (refl, (used_calm c.job past e.event calm, clear.spent));
-    })) (omega (arith, longer_by, longer_by', cap, cap', closed, opens, room))
-
--- there is room for the bus
-pub room_for_bus : (c c' : Course) (before : Mode) (e : Entry) (cpu : Cpu) (f : Frame) (told : Option (List Call))
-    → TookIn c c' before e told → e.actor ≡ actors.Cpu cpu → action_of e.event ≡ Some (actions.Eld f) → cpu.0 < length c.turns.cpus
-    → has_open_load (turn_at c.turns.cpus cpu.0) ≡ true → vec_len c.entries + 2 * open_starts c ≤ vec_capacity c.entries
-    → vec_len c'.entries + 1 ≤ vec_capacity c'.entries
-room_for_bus c c' before e cpu f told took by acts low loads room =
-    let longer_by = one_longer c.entries c'.entries e took.kept in
-    let cap = took.room in
-    let closed = ended_starts c.job c c' before cpu e low loads by (end_of_load f e.event acts) took.noted took.sealing in
-    omega (arith, longer_by, cap, closed, room)
 
 -- ---- what a processor's call gives
 
@@ -389,6 +336,7 @@ pub record EndFacts (s : Course) (d' : Driver) (m' : Parts) (told : Option (List
     pub shows : ShowsEnd s.job (past_of s) cpu page loaded d'
     pub store : OfBus cpu page loaded (λ e bus. AreTold s.job (e ∷ past_of s) bus told told d' d')
     pub back : IfSome told (λ calls. IsHonest calls → IsBack loaded)
+    pub arrays : KeepsArrays s.job d'.slots (entry_in loaded ∷ past_of s)
 
 -- who loads a page can end that
 pub opened_can : (s : Course) (told : Option (List Call)) (spare : ℕ) (cpu : Cpu) (page : Page) → KeepsCourse s told spare
@@ -406,8 +354,8 @@ pub end_facts : (s : Course) (d' : Driver) (m' : Parts) (told : Option (List Cal
     → IsFinished cpu page can.slot can.frame can.kept s.driver (state_of s.machine) loaded d' (state_of m'))
     → length m'.cpus ≡ length s.machine.cpus → EndFacts s d' m' told cpu page loaded
 end_facts s d' m' told spare cpu page loaded k mine going loads does cpus = record {
-  made = end_made s.job past told s.driver d' s.machine m' s.turns s.pass.taken.items s.pass.phase cpu page loading.0 loaded can k.book
-      k.stands going mine loading.1 (does can) right cpus;
+  made = end_made s.job past told s.driver d' s.machine m' s.turns s.pass cpu page loading.0 loaded can k.book
+      k.stands k.whole going mine loading.1 (does can) right cpus;
   by = end_by s.job past cpu page can.frame loaded d' right;
   frame = can.frame;
   acts = end_acts s.job past cpu page can.frame loaded d' right;
@@ -424,6 +372,12 @@ end_facts s d' m' told spare cpu page loaded k mine going loads does cpus = reco
       (does can)).1;
   back = ended_back (machine_of s.job) s.job past told s.driver d' s.machine m' s.turns cpu page loading.0 loaded can k.book refl loading.1
       (does can);
+  arrays = arrays_moved s.job s.driver.slots d'.slots past (entry_in loaded) page k.book.agrees.sound
+      (ap is_builder (end_by s.job past cpu page can.frame loaded d' right))
+      (end_of_load can.frame (entry_in loaded).event (end_acts s.job past cpu page can.frame loaded d' right)).moves there
+      (λ other.
+      let same = end_slots s.driver d' s.machine (state_of m') cpu page loaded can (does can) other in
+      record { pages = ap (λ (x : Keeper). length x.arrays) same; room = ap (λ (x : Keeper). x.room) same }) k.arrays;
 }
   where
     past : List Entry
@@ -440,6 +394,11 @@ end_facts s d' m' told spare cpu page loaded k mine going loads does cpus = reco
         finished_is_right (machine_of s.job) s.job (past_of s) s.driver d' s.machine (state_of m') k.book.agrees cpu page can loading.0
         loading.1 loaded (does can)
 
+    there : is_absent (place (past_of s) page) ≡ false
+    there =
+        ap is_absent
+        (sym (k.book.agrees.shows.states page can.tables.placed) ∙ ap place_in can.tables.loading)
+
     low : cpu.0 < length s.turns.cpus
     low = turns_room s.job (past_of s) s.turns cpu.0 k.book.turns mine
 
@@ -451,14 +410,16 @@ abbrev pub IsOwnAway : List Entry → Cpu → Page → Entry → Type 0
 IsOwnAway past cpu page e = (e.actor ≡ actors.Cpu cpu) × IsOfAway past e.event (place past page)
 
 -- its entry is its processor's, and of a page that is away
-pub right_away : (j : JobView) (past : List Entry) (cpu : Cpu) (page : Page) (answer : FaultAnswer) (d : Driver)
-    → IsRight j past cpu page answer d → OfAnswer cpu page answer (IsOwnAway past cpu page)
-right_away j past cpu page (answers.Started e work) d right =
+pub right_away : (j : JobView) (past : List Entry) (cpu : Cpu) (page asked : Page) (answer : FaultAnswer) (d : Driver)
+    → IsRight j past cpu page asked answer d → OfAnswer cpu asked answer (IsOwnAway past cpu page)
+right_away j past cpu page asked (answers.Started e work) d right =
     (right.due.1, due_quiet past j.epc page (place past page) e.event right.due.2)
-right_away j past cpu page (answers.Bus reason) d right =
-    (refl, due_quiet past j.epc page (place past page) (Bus page reason) right.due.1)
-right_away j past cpu page answers.Here d right = tt
-right_away j past cpu page (answers.Again reason) d right = tt
+right_away j past cpu page asked (answers.Slot e) d right =
+    (right.due.1, due_quiet past j.epc page (place past page) e.event right.due.2)
+right_away j past cpu page asked (answers.Bus reason) d right =
+    (refl, due_quiet past j.epc page (place past page) (Bus asked reason) right.due.1)
+right_away j past cpu page asked answers.Here d right = tt
+right_away j past cpu page asked (answers.Again reason) d right = tt
 
 -- a processor that needs a page is not stopped
 pub fetch_going : (j : JobView) (past : List Entry) (p : ℕ) (page : Page) → cpu_due j past p ≡ fetches j.epc past page (place past page)
@@ -479,22 +440,22 @@ fetch_going j past p page due = by_spent (is_spent past) refl
         (sym (ap (λ b. if b then Stopped else due_after (last_of past p) (is_last past p) (turn_due j past p)) is) ∙ due))
 
 -- its answer's entry was made
-pub fetch_made : (s : Course) (d' : Driver) (m' : Parts) (told told' : Option (List Call)) (spare : ℕ) (cpu : Cpu) (page : Page)
+pub fetch_made : (s : Course) (d' : Driver) (m' : Parts) (told told' : Option (List Call)) (spare : ℕ) (cpu : Cpu) (page asked : Page)
     (answer : FaultAnswer) → KeepsCourse s told spare → cpu.0 < length s.job.scripts
     → cpu_due s.job (past_of s) cpu.0 ≡ fetches s.job.epc (past_of s) page (place (past_of s) page)
-    → IsPlaced s.driver.states.counts page
-    → IsResolved cpu page (page_state s.driver.states page) s.driver s.machine told answer d' m' told'
-    → IsRight s.job (past_of s) cpu page answer d' → length m'.cpus ≡ length s.machine.cpus
+    → IsPlaced s.driver.states.counts asked
+    → IsResolved cpu asked (page_state s.driver.states asked) s.driver s.machine told answer d' m' told'
+    → IsRight s.job (past_of s) cpu page asked answer d' → length m'.cpus ≡ length s.machine.cpus
     → ((reason : BusWhy) → answer ≡ answers.Bus reason → Agrees (machine_of s.job) s.job (past_of s) s.driver m'
-    → NotesBus s.job (past_of s) m' (bus_of cpu page reason))
-    → OfAnswer cpu page answer (λ e. IsMade (machine_of s.job) s.job (past_of s) told s.driver s.machine e told' d' m')
-fetch_made s d' m' told told' spare cpu page answer k mine due placed is right cpus notes =
-    fault_made s.job (past_of s) told told' s.driver d' s.machine m' s.turns s.pass.taken.items s.pass.phase cpu page answer k.book k.stands
+    → NotesBus s.job (past_of s) m' (bus_of cpu asked reason))
+    → OfAnswer cpu asked answer (λ e. IsMade (machine_of s.job) s.job (past_of s) told s.driver s.machine e told' d' m')
+fetch_made s d' m' told told' spare cpu page asked answer k mine due placed is right cpus notes =
+    fault_made s.job (past_of s) told told' s.driver d' s.machine m' s.turns s.pass cpu page asked answer k.book k.stands k.whole
     (fetch_going s.job (past_of s) cpu.0 page due) mine due (kept_room s.job s.driver (past_of s) cpu.0 k.book.agrees.shows mine) placed is
     right cpus (λ reason same. notes reason same (there reason same))
   where
     there : (reason : BusWhy) → answer ≡ answers.Bus reason → Agrees (machine_of s.job) s.job (past_of s) s.driver m'
     there reason same =
-        let left = subst (λ a. Leaves cpu page a s.driver d' s.machine m' told told') same
-        (resolved_leaves cpu page (page_state s.driver.states page) answer s.driver d' s.machine m' told told' is) in
+        let left = subst (λ a. Leaves cpu asked a s.driver d' s.machine m' told told') same
+        (resolved_leaves cpu asked (page_state s.driver.states asked) answer s.driver d' s.machine m' told told' is) in
         subst (Agrees (machine_of s.job) s.job (past_of s) s.driver) (sym left.machine) k.book.agrees

@@ -3,7 +3,9 @@ use Rattle.std.proofs.Common.{◌≡◌, ℕ, ◌+◌, ◌<◌, Bool, true, fals
 use Rattle.std.proofs.Common.{None, length, count_by, set, refl, sym, ap, subst, ◌∙◌}
 use Rattle.std.proofs.lemmas.Bool.{false≢true}
 use Rattle.std.proofs.lemmas.List.Sums.{sum_by-set}
+use Rattle.sgx_rules.specs.declared.entries.Action.{Action}
 use Rattle.sgx_rules.specs.declared.entries.Action.TheVariants as actions
+use Rattle.sgx_rules.specs.declared.entries.Answer.{Answer}
 use Rattle.sgx_types.specs.declared.names.Actor.TheVariants as actors
 use Rattle.sgx_rules.specs.declared.entries.BusWhy.{BusWhy}
 use Rattle.sgx_rules.specs.declared.entries.Entry.{Entry}
@@ -18,11 +20,12 @@ use Rattle.sgx_rules.specs.declared.refusals.Refusal.TheVariants as why
 use Rattle.sgx_rules.specs.Processors.{is_by}
 use Rattle.sgx_rules.specs.Starts.{open_start}
 use Rattle.sgx_types.proofs.CountLaws.{one_if}
-use Rattle.turn_rules.specs.Script.{action_of}
-use Rattle.driver_rules.specs.Dues.{IsFetch, IsNext}
+use Rattle.turn_rules.specs.Script.{action_of, frame_at}
+use Rattle.driver_rules.specs.Dues.{Asks, Fetch, IsFetch, IsNext, load_by}
 use Rattle.driver_rules.specs.Places.{Absent, Away, Here, Leaving, Loading, Place}
 use Rattle.driver_rules.specs.inner.Reclaims.{is_refused}
-use Rattle.driver_rules.specs.Turns.{Fails, Loads, WasEnded, fetches, last_by, last_of}
+use Rattle.driver_rules.specs.Targets.{target_by}
+use Rattle.driver_rules.specs.Turns.{Fails, Loads, WasEnded, fetch, fetches, last_by, last_of}
 use Rattle.driver_laws.specs.inner.Sound.{is_absent}
 use Rattle.driver_calls.specs.inner.Comes.{bus_of}
 use Rattle.table_notes.specs.inner.Arrays.{is_move}
@@ -60,31 +63,39 @@ none_behind_bus past cpu page why e by none p g reason is = by_test (is_by p (ac
 
 -- ---- the entry of a fault step
 
--- an entry that refuses no load, and enters nowhere
+-- an entry that enters nowhere. Where it is not refused, it refuses no load
 pub record IsQuiet (past : List Entry) (event : Event) : Type 0 where
-  pub fails : (page : Page) (why : BusWhy) → last_by event (open_start past) ≡ Fails page why → ⊥
+  pub fails : is_refused event ≡ false → (page : Page) (why : BusWhy) → last_by event (open_start past) ≡ Fails page why → ⊥
   pub for_record : IsForRecord past event
   pub enters : EntersApart event
 
 -- a bus is one
 pub bus_quiet : (past : List Entry) (page : Page) (why : BusWhy) → IsQuiet past (Bus page why)
-bus_quiet past page why = record { fails = λ g reason is. cc; for_record = tt; enters = tt }
+bus_quiet past page why = record { fails = λ done g reason is. cc; for_record = tt; enters = tt }
+
+-- so is the start of a load
+loads_quiet : (past : List Entry) (page : Page) (at : Option SlotAt) (f : ℕ) (action : Action) (answer : Answer)
+    → load_by page at f ≡ Some action → IsQuiet past (Did action answer)
+loads_quiet past page None f action answer h = cc
+loads_quiet past page (Some at) f action answer h =
+    let same : action ≡ actions.EldStart (frame_at f) page at = cc in
+    subst (λ a. IsQuiet past (Did a answer)) (sym same) record { fails = λ done g reason is. cc; for_record = tt; enters = tt }
+
+-- .. and one that finds no version in the slot
+empty_quiet : (past : List Entry) (page : Page) (at : Option SlotAt) (f : ℕ) (action : Action) → load_by page at f ≡ Some action
+    → IsQuiet past (Refused action why.SlotEmpty)
+empty_quiet past page None f action h = cc
+empty_quiet past page (Some at) f action h =
+    let same : action ≡ actions.EldStart (frame_at f) page at = cc in
+    subst (λ a. IsQuiet past (Refused a why.SlotEmpty)) (sym same)
+    record { fails = λ done g reason is. false≢true (sym done); for_record = λ is. cc; enters = tt }
 
 -- so is what may come of asking for a page's record
-fetch_quiet : (past : List Entry) (page : Page) (slot : SlotAt) (free : Option ℕ) (event : Event) → IsFetch page slot free event
-    → IsQuiet past event
-fetch_quiet past page slot (Some f) (Did action answer) h =
-    subst (λ a. IsQuiet past (Did a answer)) (sym h) record { fails = λ g reason is. cc; for_record = tt; enters = tt }
-fetch_quiet past page slot (Some f) (Refused action refusal) h =
-    subst (λ a. IsQuiet past (Refused a refusal)) (sym h) record { fails = λ g reason is. cc; for_record = tt; enters = tt }
-fetch_quiet past page slot (Some f) (Age g look) h = absurd h
-fetch_quiet past page slot (Some f) (Kick cpu) h = absurd h
-fetch_quiet past page slot (Some f) (Bus g why) h = bus_quiet past g why
-fetch_quiet past page slot None (Did action answer) h = absurd h
-fetch_quiet past page slot None (Refused action refusal) h = absurd h
-fetch_quiet past page slot None (Age g look) h = absurd h
-fetch_quiet past page slot None (Kick cpu) h = absurd h
-fetch_quiet past page slot None (Bus g why) h = bus_quiet past g why
+fetch_quiet : (past : List Entry) (page : Page) (fetch : Fetch) (event : Event) → IsFetch page fetch event → IsQuiet past event
+fetch_quiet past page fetch (Bus g why) h = bus_quiet past g why
+fetch_quiet past page (Asks target at (Some f)) (Did action answer) h = loads_quiet past target at f action answer h
+fetch_quiet past page (Asks target at (Some f)) (Refused action why.SlotEmpty) h = empty_quiet past target at f action h
+fetch_quiet past page fetch event h = absurd h
 
 -- .. where a page is needed, which was added then
 pub record IsOfAway (past : List Entry) (event : Event) (at : Place) : Type 0 where
@@ -94,7 +105,8 @@ pub record IsOfAway (past : List Entry) (event : Event) (at : Place) : Type 0 wh
 -- what is due then is one
 pub due_quiet : (past : List Entry) (frames : ℕ) (page : Page) (at : Place) (event : Event) → IsNext (fetches frames past page at) event
     → IsOfAway past event at
-due_quiet past frames page (Away slot) event h = record { quiet = fetch_quiet past page slot _ event h; there = refl }
+due_quiet past frames page (Away slot) event h =
+    record { quiet = fetch_quiet past page (fetch frames past (target_by past page (Away slot))) event h; there = refl }
 due_quiet past frames page Absent event h = absurd h
 due_quiet past frames page (Here f) event h = absurd h
 due_quiet past frames page (Leaving f) event h = absurd h
@@ -136,7 +148,7 @@ pub end_quiet : (past : List Entry) (f : Frame) (event : Event) → action_of ev
     → IsQuiet past event
 end_quiet past f (Did action answer) h done =
     let same : action ≡ actions.Eld f = cc in
-    subst (λ a. IsQuiet past (Did a answer)) (sym same) record { fails = λ g reason is. cc; for_record = tt; enters = tt }
+    subst (λ a. IsQuiet past (Did a answer)) (sym same) record { fails = λ own g reason is. cc; for_record = tt; enters = tt }
 end_quiet past f (Refused action refusal) h done = absurd (false≢true (sym done))
 end_quiet past f (Age page look) h done = cc
 end_quiet past f (Kick cpu) h done = cc
@@ -146,6 +158,8 @@ end_quiet past f (Bus page why) h done = cc
 pub fails_for_record : (past : List Entry) (event : Event) (page : Page) (why : BusWhy)
     → last_by event (open_start past) ≡ Fails page why → IsForRecord past event
 fails_for_record past (Refused (actions.Eld f) refusal) page why is = λ ended. (let no : Fails page why ≡ WasEnded = sym is ∙ ended in cc)
+fails_for_record past (Refused (actions.EldStart f g at) refusal) page why is =
+    λ ended. (let no : Fails page why ≡ WasEnded = sym is ∙ ended in cc)
 fails_for_record past (Refused action refusal) page why is = tt
 fails_for_record past (Did action answer) page why is = tt
 fails_for_record past (Age g look) page why is = tt

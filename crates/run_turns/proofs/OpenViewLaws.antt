@@ -6,7 +6,7 @@ use Rattle.sgx_types.specs.declared.names.Actor.TheVariants as actors
 use Rattle.sgx_types.specs.declared.names.Cpu.{Cpu}
 use Rattle.sgx_types.specs.declared.names.Memory.{Memory}
 use Rattle.sgx_types.specs.declared.names.Page.{Page}
-use Rattle.sgx_types.specs.declared.names.SlotAt.{SlotAt}
+use Rattle.sgx_types.specs.declared.names.VaSlot.{VaSlot}
 use Rattle.sgx_types.specs.Making.{Making}
 use Rattle.sgx_rules.specs.Starts.{Start, open_start}
 use Rattle.sgx_rules.specs.inner.Starts.{BareStart, bare_start}
@@ -45,7 +45,7 @@ bare_version (Some x) version h = h
 -- ---- works
 
 module _ (c : Course) (told : Option (List Call)) (spare : ℕ) (cpu : Cpu) (work : Box UnsealWork) (k : KeepsCourse c told spare) where
-  into : (a b : ℕ) (x y : SlotAt) → Loading a x ≡ Loading b y → a ≡ b
+  into : (a b : ℕ) (x y : VaSlot) → Loading a x ≡ Loading b y → a ≡ b
   into a b x y h = cc
 
   given : (o : Option (List Call)) (n : ℕ) (page : Page) (kept : Kept) → IfSome o (λ calls. TellsStore c.job.key (past_of c) calls c.driver)
@@ -99,8 +99,8 @@ module _ (c c' : Course) (told told' : Option (List Call)) (plans plans' : List 
 
   run_seen : (turn : Turn) → (past_of c' ≡ past_of c → told' ≡ told) → IsCpuTurn c cpu turn c' told' spare'
       → IsRun (view_of c told plans false) cpu turn (view_of c' told' plans' false)
-  run_seen (turns.Did n) calm (one, quiet, g) =
-      (one, quiet, grown_seen c c' (actors.Cpu cpu) 1 told told' told' plans plans' spare' false tells g)
+  run_seen (turns.Did n) calm (many, quiet, g) =
+      (many, quiet, grown_seen c c' (actors.Cpu cpu) n told told' told' plans plans' spare' false tells g)
   run_seen (turns.Unseal work) calm (opens, inl g) = (
     opens_seen c' told' spare' cpu work k plans' false opens,
     inl (grown_seen c c' (actors.Cpu cpu) 1 told told' told' plans plans' spare' false tells g),
@@ -124,7 +124,7 @@ module _ (c c' : Course) (told told' : Option (List Call)) (plans plans' : List 
   run_turn_seen (Err memory) calm is = tt
 
   run_job : (turn : Turn) → IsCpuTurn c cpu turn c' told' spare' → c'.job ≡ c.job
-  run_job (turns.Did n) (one, quiet, g) = g.job
+  run_job (turns.Did n) (many, quiet, g) = g.job
   run_job (turns.Unseal work) (opens, inl g) = g.job
   run_job (turns.Unseal work) (opens, inr s) = s.job
   run_job (turns.Again why) (due, there, s) = s.job

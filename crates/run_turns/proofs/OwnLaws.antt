@@ -10,8 +10,7 @@ use Rattle.cached_translations.specs.declared.processor.Mode.TheVariants.{Outsid
 use Rattle.job_grammar.specs.Jobs.{JobView}
 use Rattle.backing_store.specs.Calls.{Call}
 use Rattle.driver_tables.specs.declared.driver.Driver.{Driver}
-use Rattle.reclaim_worker.specs.inner.Standing.{is_sealing}
-use Rattle.reclaim_worker.specs.inner.Stored.{still_out}
+use Rattle.reclaim_pass.specs.inner.Viewed.{is_sealing, still_out}
 use Rattle.run_book.specs.inner.Books.{with_own}
 use Rattle.table_notes.specs.inner.Arrays.{KeepsArrays}
 use Rattle.turn_tables.specs.declared.cpu_turns.CpuTurn.{CpuTurn}
@@ -58,8 +57,8 @@ pub own_grows : (c c' : Course) (e : Entry) (longer : Option (List Call)) (spare
     → IsRecorded c e own.take.can.longer c' → IsTaken c e c' → c'.entries.items ≡ c.entries.items ++ e ∷ []
     → vec_capacity c'.entries ≡ vec_capacity c.entries → IsNoted c.job c.turns Outside e c'.turns
     → c'.driver ≡ with_own c.driver c'.driver.active.own
-    → still_out c'.pass.taken.items c'.pass.phase ≡ still_out c.pass.taken.items c.pass.phase
-    → is_sealing c'.pass.phase ≡ is_sealing c.pass.phase → c'.job ≡ c.job → Grows c actors.Reclaimer 1 c' longer spare
+    → still_out c'.pass ≡ still_out c.pass
+    → is_sealing c'.pass ≡ is_sealing c.pass → c'.job ≡ c.job → Grows c actors.Reclaimer 1 c' longer spare
 own_grows c c' e longer spare own book stands kept capacity noted driver places sealing job =
     record {
       entries = e ∷ [];
@@ -69,15 +68,15 @@ own_grows c c' e longer spare own book stands kept capacity noted driver places 
       job = job;
       kicks = tt;
       keeps = taken_keeps c c' e longer spare own.take.can.tcs job kept
-          (subst (λ told. IsRecorded c e told c') own.same book) stands
+          (subst (λ told. IsRecorded c e told c') own.same book) stands own.first
           (subst (λ n. n ≤ spare) (sym places) own.places)
           (subst (λ (d : Driver). KeepsArrays c.job d.slots (e ∷ past_of c)) (sym driver) own.arrays)
           own.ends own.clear room;
     }
   where
-    starts : open_starts c' ≡ count_by has_open_load (with_kick e.event c.turns.cpus) + (if is_sealing c.pass.phase then 1 else 0)
+    starts : open_starts c' ≡ count_by has_open_load (with_kick e.event c.turns.cpus) + (if is_sealing c.pass then 1 else 0)
     starts =
-        ap (λ (turns : List CpuTurn). count_by has_open_load turns + (if is_sealing c'.pass.phase then 1 else 0))
+        ap (λ (turns : List CpuTurn). count_by has_open_load turns + (if is_sealing c'.pass then 1 else 0))
         (own_noted c.job c.turns c'.turns e own.actor noted)
         ∙ ap (λ (b : Bool). count_by has_open_load (with_kick e.event c.turns.cpus) + (if b then 1 else 0)) sealing
 

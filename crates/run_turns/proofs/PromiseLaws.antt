@@ -5,6 +5,7 @@ use Rattle.sgx_rules.specs.declared.entries.Entry.{Entry}
 use Rattle.sgx_rules.specs.Rules.{Along, AtEachPlace, EvictRule, NoPageTwice, NoneStale, RefusalRule}
 use Rattle.sgx_rules.specs.inner.Rules.{KeepsRules}
 use Rattle.io_edges.specs.declared.plans.PlanLine.{PlanLine}
+use Rattle.sgx_types.specs.Making.{Making}
 use Rattle.job_grammar.specs.Jobs.{JobView}
 use Rattle.turn_rules.specs.Machines.{machine_of}
 use Rattle.seal_record.specs.Records.{Made}
@@ -12,7 +13,9 @@ use Rattle.backing_store.specs.Calls.{Call}
 use Rattle.paging_laws.specs.inner.Histories.{StandsWithAllRules}
 use Rattle.paging_laws.specs.inner.State.{State}
 use Rattle.paging_machine.specs.inner.Parts.{Parts, state_of}
-use Rattle.driver_rules.specs.Ages.{AgeRule, KickRule}
+use Rattle.driver_rules.specs.Ages.{AgeRule, KeptAgeRule, KickRule}
+use Rattle.driver_rules.specs.inner.Slotted.{SlotRule}
+use Rattle.driver_rules.proofs.OutLaws.{ages_kept, none_occupied}
 use Rattle.driver_rules.specs.Scripts.{ScriptRule}
 use Rattle.driver_tables.specs.declared.driver.Driver.{Driver}
 use Rattle.run_history.specs.declared.rules.Rule.TheVariants as rules
@@ -58,9 +61,10 @@ said_script j (e ∷ past) h = (h.0, said_script j past h.1)
 -- ---- where no record was forged
 
 -- the rules of the driver, and a machine that stands for the entries with all its rules, make them a history that goes on
-goes_on : (j : JobView) (past : List Entry) (s : State) (records : List Made) → Along (ScriptRule j) past → Along (AgeRule j) past
-    → Along (KickRule j) past → StandsWithAllRules (machine_of j) s past records → GoesOn j past
-goes_on j past s records script age kick all =
+goes_on : (j : JobView) (past : List Entry) (s : State) (records : List Made) → Along (ScriptRule j) past
+    → Along (KeptAgeRule j) past → Along (KickRule j) past → Along (SlotRule j) past → StandsWithAllRules (machine_of j) s past records
+    → GoesOn j past
+goes_on j past s records script age kick slots all =
     let keeps : KeepsRules (machine_of j) past = subst (λ k. KeepsRules k past) all.shaped.shape.making all.standing.rules in
     record {
       script = said_script j past script;
@@ -72,17 +76,17 @@ goes_on j past s records script age kick all =
       fresh = (tt, said _ past all.fresh);
       sealed = (tt, said _ past all.sealed);
       measure = (tt, said _ past all.standing.measure);
-      age = (tt, said (AgeRule j) past age);
+      age = (tt, said (AgeRule j) past (ages_kept j past (none_occupied (machine_of j) j past keeps.refusal slots) age));
       kick = (tt, said (KickRule j) past kick);
     }
 
 -- .. so they are one where a store tells its calls and none of its records was forged
 goes_unforged : (j : JobView) (past : List Entry) (told : Option (List Call)) (m : Parts) → Along (ScriptRule j) past
-    → Along (AgeRule j) past → Along (KickRule j) past → IfSome told (KeepsBytes (machine_of j) j past m)
+    → Along (KeptAgeRule j) past → Along (KickRule j) past → Along (SlotRule j) past → IfSome told (KeepsBytes (machine_of j) j past m)
     → IfSome told (λ calls. UnforgedRun j.key past calls → GoesOn j past)
-goes_unforged j past None m script age kick bytes = tt
-goes_unforged j past (Some calls) m script age kick bytes =
-    λ unforged. goes_on j past (state_of m) _ script age kick (bytes unforged)
+goes_unforged j past None m script age kick slots bytes = tt
+goes_unforged j past (Some calls) m script age kick slots bytes =
+    λ unforged. goes_on j past (state_of m) _ script age kick slots (bytes unforged)
 
 -- ---- whatever the store gave
 
@@ -93,10 +97,10 @@ store_true j past plans None d tells plans_are = tt
 store_true j past plans (Some calls) d tells plans_are = (plans_are, tells.store)
 
 -- over an honest store all pages came back
-all_back : (past : List Entry) (told : Option (List Call)) → IfSome told (KeepsHonest past)
+all_back : (made : Making) (past : List Entry) (m : Parts) (told : Option (List Call)) → IfSome told (KeepsHonest made past m)
     → IfSome told (λ calls. IsHonest calls → AllCameBack past)
-all_back past None keeps = tt
-all_back past (Some calls) keeps = λ honest. (keeps honest).0
+all_back made past m None keeps = tt
+all_back made past m (Some calls) keeps = λ honest. (keeps honest).back
 
 -- the rules that no page's bytes decide, the driver's, and the store's calls
 holds_anyhow : (c : Course) (told : Option (List Call)) (plans : List PlanLine) (spare : ℕ) (out_of_memory : Bool)
@@ -116,7 +120,7 @@ holds_anyhow c told plans spare out_of_memory kept =
       spent = kept.keeps.clear.spent;
       store = store_true c.job (past_of c) plans told c.driver book.store kept.plans_are;
       ended = run_ended c.job (past_of c) book.script kept.keeps.ends kept.keeps.clear.none;
-      honest = all_back (past_of c) told book.honest;
+      honest = all_back (machine_of c.job) (past_of c) c.machine told book.honest;
     }
 
 -- ---- together
@@ -129,7 +133,7 @@ promises c told plans spare out_of_memory kept =
     let book = kept.keeps.book in
     record {
       anyhow = holds_anyhow c told plans spare out_of_memory kept;
-      unforged = both told (goes_unforged c.job (past_of c) told c.machine book.script book.age book.kick book.bytes)
+      unforged = both told (goes_unforged c.job (past_of c) told c.machine book.script book.age book.kick book.slots book.bytes)
           (puts_are_flat c told plans spare kept);
     }
   where

@@ -1,41 +1,32 @@
 -- The turns of the reclaimer, as the book shows them.
-use Rattle.std.proofs.Common.{◌≡◌, ℕ, zero, suc, Bool, true, false, List, Option, Some, None, is_some, Result, Ok}
-use Rattle.std.proofs.Common.{Err, IfOk, OnErr, IfSome, reverse, slice_get, refl, sym, ap, subst, ◌∙◌, inl, inr}
+use Rattle.std.proofs.Common.{◌≡◌, ◌≤◌, arith, ℕ, zero, suc, Bool, true, false, List, Option, Some, None, is_some, Result, Ok}
+use Rattle.std.proofs.Common.{Err, IfOk, OnErr, IfSome, reverse, refl, sym, ap, subst, ◌∙◌, inl, inr}
 use Rattle.std.specs.Option.{IsSomeAnd}
 use Rattle.std.proofs.lemmas.Bool.{false≢true}
 use Rattle.sgx_types.specs.declared.names.Actor.TheVariants as actors
 use Rattle.sgx_types.specs.declared.names.Memory.{Memory}
-use Rattle.sgx_types.specs.declared.names.Page.{Page}
-use Rattle.sgx_rules.specs.Flat.{page_words}
 use Rattle.sgx_rules.specs.PageBytes.{bytes_at}
-use Rattle.sgx_rules.specs.Frames.{is_page, page_there}
-use Rattle.sgx_types.specs.Pages.{is_own_page}
-use Rattle.sgx_rules.proofs.Contents.{IsHeld}
-use Rattle.sgx_types.specs.Layouts.{bytes_of}
+use Rattle.sgx_rules.specs.Frames.{content, page_there, vas_made}
+use Rattle.driver_laws.proofs.ArrayLaws.{arrays_few}
+use Rattle.job_grammar.specs.Jobs.{va_pages}
+use Rattle.run_turns.proofs.PageLaws.{named_right, page_bytes}
+use Rattle.paging_laws.specs.inner.Guarded.{IsNamedRight}
 use Rattle.sgx_types.specs.Making.{Making}
-use Rattle.sgx_types.proofs.Pages.{same_page-refl}
 use Rattle.sgx_rules.specs.inner.Starts.{BareStart}
 use Rattle.io_edges.specs.declared.plans.PlanLine.{PlanLine}
 use Rattle.seal_record.specs.declared.seal.SealWork.{SealWork}
 use Rattle.backing_store.specs.Calls.{Call}
-use Rattle.paging_laws.specs.inner.Steps.{HasBytesOf, SealsPage}
-use Rattle.paging_laws.proofs.OutsideLaws.{own_bytes}
-use Rattle.driver_laws.proofs.RowLaws.{leaves_there}
+use Rattle.paging_laws.specs.inner.Steps.{SealsPage}
 use Rattle.paging_laws.proofs.ColumnLaws.{content_is}
 use Rattle.paging_laws.proofs.SlotLaws.{started_as}
 use Rattle.paging_machine.specs.inner.Parts.{state_of}
 use Rattle.turn_rules.specs.Machines.{machine_of}
-use Rattle.driver_rules.specs.Passes.{Tries, pass}
 use Rattle.driver_rules.specs.inner.Stops.{frame_started, last_event}
 use Rattle.run_history.specs.Given.{UnforgedRun}
 use Rattle.run_book.specs.inner.Books.{KeepsBytes}
 use Rattle.run_records.proofs.PassRecords.{header_held}
-use Rattle.reclaim_worker.specs.declared.turns.Phase.{Phase}
-use Rattle.reclaim_worker.specs.declared.turns.Phase.TheVariants as phases
-use Rattle.reclaim_worker.specs.declared.turns.Taken.{Taken}
-use Rattle.reclaim_worker.specs.inner.Standing.{is_kicked, is_sealing}
-use Rattle.reclaim_worker.specs.declared.turns.Form.TheVariants as code
-use Rattle.reclaim_worker.specs.inner.Stored.{IsToSeal}
+use Rattle.reclaim_pass.specs.declared.stages.Taken.{Taken}
+use Rattle.reclaim_pass.specs.inner.Viewed.{is_kicked, is_sealing, sealing_in}
 use Rattle.run_turns.specs.declared.course.Course.{Course}
 use Rattle.run_turns.specs.declared.turn.Turn.{Turn}
 use Rattle.run_turns.specs.declared.turn.Turn.TheVariants as turns
@@ -52,17 +43,25 @@ use Rattle.run_turns.proofs.ViewLaws.{grown_seen, plans_told}
 -- the work is of a page that has started to go out
 seals_seen : (c : Course) (told : Option (List Call)) (spare : ℕ) (work : SealWork) (plans : List PlanLine) (out_of_memory : Bool)
     → KeepsCourse c told spare → SealsFor c work → SealsPageOut (view_of c told plans out_of_memory) work
-seals_seen c told spare work plans out_of_memory k = by_phase c.pass.phase
+seals_seen c told spare work plans out_of_memory k = by_one (sealing_in c.pass)
   where
-    bytes_seen : (o : Option (List Call)) (n : ℕ) (g : Page) (bytes : List ℕ) (w : SealWork) → IsHeld ((state_of c.machine).content n) g
-        → is_own_page g ≡ true → HasBytesOf (state_of c.machine) n ((state_of c.machine).content n) bytes → w.plain.items ≡ bytes
+    few : vas_made (past_of c) ≤ 4096
+    few =
+        let low : vas_made (past_of c) ≤ va_pages c.job = arrays_few c.job (past_of c) k.book.agrees.built in
+        omega (arith, low, k.book.turns.valid.enough_frames, k.book.turns.valid.few_frames)
+
+    bytes_seen : (o : Option (List Call)) (f : ℕ)
+        → (w : SealsPage (state_of c.machine) f work.key work.version work.header work.plain.items)
         → IfSome o (KeepsBytes (machine_of c.job) c.job (past_of c) c.machine)
-        → IfSome o (λ calls. UnforgedRun c.job.key (past_of c) calls → w.plain.items ≡ bytes_at (past_of c) g)
-    bytes_seen None n g bytes w held own kept plain keeps = tt
-    bytes_seen (Some calls) n g bytes w held own kept plain keeps = λ unforged.
-        plain ∙ (subst (λ x. HasBytesOf (state_of c.machine) n x bytes) held.holds kept).0
-        ∙ ap bytes_of (sym (ap page_words ((keeps unforged).standing.stands.memory.words n g held.kind held.perm held.holds)))
-        ∙ sym (own_bytes (past_of c) g own)
+        → IfSome o (λ calls. UnforgedRun c.job.key (past_of c) calls → work.plain.items ≡ bytes_at (past_of c) w.leaving.page)
+    bytes_seen None f w keeps = tt
+    bytes_seen (Some calls) f w keeps = λ unforged.
+        (let columns = k.book.agrees.follows.shape.columns in
+        let its = started_as (state_of c.machine) (past_of c) columns f w.leaving.start w.leaving.opened in
+        let right = named_right (past_of c) f its.start w.leaving.page k.book.agrees.sound few its.opened
+        (ap page_there (sym (content_is columns f)) ∙ w.leaving.held) in
+        w.plain ∙ sym (page_bytes (state_of c.machine) (past_of c) f w.leaving (subst IsNamedRight (sym (content_is columns f)) right)
+        (keeps unforged).standing))
 
     by_one : (o : Option Taken)
         → IsSomeAnd o (λ one. SealsPage (state_of c.machine) one.frame.0 work.key work.version work.header work.plain.items)
@@ -72,8 +71,8 @@ seals_seen c told spare work plans out_of_memory k = by_phase c.pass.phase
         let shape = k.book.agrees.follows.shape in
         let page = s.leaving.page in
         let its = started_as (state_of c.machine) (past_of c) shape.columns one.frame.0 s.leaving.start s.leaving.opened in
-        let there = leaves_there (past_of c) one.frame.0 its.start page k.book.agrees.sound its.opened
-        (ap page_there (sym (content_is shape.columns one.frame.0)) ∙ s.leaving.held) in
+        let there : page_there (content (past_of c) one.frame.0) ≡ Some page =
+        ap page_there (sym (content_is shape.columns one.frame.0)) ∙ s.leaving.held in
         record {
           key = s.key ∙ ap (λ (m : Making). m.key) shape.making;
           frame = one.frame.0;
@@ -81,66 +80,51 @@ seals_seen c told spare work plans out_of_memory k = by_phase c.pass.phase
           opened = its.opened;
           version = s.version ∙ sym (ap (λ (y : BareStart). y.version) its.same);
           page = page;
-          held = ap (λ o. is_page o page) there.0.holds ∙ same_page-refl page;
+          held = there;
           header = header_held (machine_of c.job) c.job (past_of c) told c.driver c.machine c.turns page s.leaving.header k.book
-              s.leaving.headed
-              ∙ ap Some (sym s.header);
-          bytes = bytes_seen told one.frame.0 page s.leaving.bytes work
-              (subst (λ x. IsHeld x page) (sym (content_is shape.columns one.frame.0)) there.0) there.1
-              s.leaving.kept s.plain k.book.bytes;
+              s.leaving.headed ∙ ap Some (sym s.header);
+          bytes = bytes_seen told one.frame.0 s k.book.bytes;
         }
-
-    by_phase : (phase : Phase)
-        → IsToSeal c.pass.taken.items phase (state_of c.machine) work.key work.version work.header work.plain.items
-        → SealsPageOut (view_of c told plans out_of_memory) work
-    by_phase (phases.Sealing next slot) s = by_one (slice_get c.pass.taken.items next) s
-    by_phase (phases.Idle works) s = absurd s
-    by_phase (phases.Scan left) s = absurd s
-    by_phase (phases.Block next) s = absurd s
-    by_phase (phases.Tries next form block) s = absurd s
 
 -- ---- turns
 
 -- a write-out that has started is the one that the pass waits for
 pub open_seals : (c : Course) (told : Option (List Call)) (spare : ℕ) → KeepsCourse c told spare
-    → is_some (frame_started (last_event (past_of c) actors.Reclaimer)) ≡ true → is_sealing c.pass.phase ≡ true
-open_seals c told spare k pending = by (is_sealing c.pass.phase) refl
+    → is_some (frame_started (last_event (past_of c) actors.Reclaimer)) ≡ true → is_sealing c.pass ≡ true
+open_seals c told spare k pending = by (is_sealing c.pass) refl
   where
-    by : (b : Bool) → is_sealing c.pass.phase ≡ b → b ≡ true
+    by : (b : Bool) → is_sealing c.pass ≡ b → b ≡ true
     by true at = refl
     by false at =
-        absurd (false≢true (rw (none_started c.job.start_epoch c.job (past_of c) c.pass.taken.items c.pass.phase k.stands k.book.age at)
+        absurd (false≢true (rw (none_started c.job.start_epoch c.job (past_of c) c.pass k.stands k.book.age at)
         at pending))
 
 module _ (c c' : Course) (told told' : Option (List Call)) (plans plans' : List PlanLine) (spare' : ℕ) (k : KeepsCourse c' told' spare')
     (same_plans : plans' ≡ plans) (tells : is_some told' ≡ is_some told) where
   -- where entries and job are as before, the book is the one that it was
-  rest_seen : c'.job ≡ c.job → c'.entries.items ≡ c.entries.items → c'.pass.phase ≡ c.pass.phase → told' ≡ told
+  rest_seen : c'.job ≡ c.job → c'.entries.items ≡ c.entries.items → c'.pass ≡ c.pass → told' ≡ told
       → view_of c' told' plans' false ≡ view_of c told plans false
-  rest_seen job items phase calm = λ i. record {
+  rest_seen job items same calm = λ i. record {
     job = job i;
     past = reverse (items i);
     told = calm i;
     plans = same_plans i;
     out_of_memory = false;
-    kicked = is_kicked (phase i);
+    kicked = is_kicked (same i);
   }
 
   -- a work for it is of a write-out that is open
-  open_work : (work : SealWork) → SealsFor c' work → is_sealing c'.pass.phase ≡ true
-  open_work work = by_phase c'.pass.phase
+  open_work : (work : SealWork) → SealsFor c' work → is_sealing c'.pass ≡ true
+  open_work work = by_one (sealing_in c'.pass)
     where
-      by_phase : (phase : Phase)
-          → IsToSeal c'.pass.taken.items phase (state_of c'.machine) work.key work.version work.header work.plain.items
-          → is_sealing phase ≡ true
-      by_phase (phases.Sealing next slot) s = refl
-      by_phase (phases.Idle works) s = absurd s
-      by_phase (phases.Scan left) s = absurd s
-      by_phase (phases.Block next) s = absurd s
-      by_phase (phases.Tries next form block) s = absurd s
+      by_one : (o : Option Taken)
+          → IsSomeAnd o (λ one. SealsPage (state_of c'.machine) one.frame.0 work.key work.version work.header work.plain.items)
+          → is_some o ≡ true
+      by_one None s = absurd s
+      by_one (Some one) s = refl
 
   reclaim_seen : (turn : Turn) (spare : ℕ) → KeepsCourse c told spare → (IsWaiting turn → told' ≡ told)
-      → (is_sealing c.pass.phase ≡ true → told' ≡ told) → IsReclaimerTurn c turn c' told' spare'
+      → (is_sealing c.pass ≡ true → told' ≡ told) → IsReclaimerTurn c turn c' told' spare'
       → IsReclaim (view_of c told plans false) turn (view_of c' told' plans' false)
   reclaim_seen (turns.Did n) spare before calm again (many, kicks, quiet, g) = (
     many,
@@ -154,15 +138,15 @@ module _ (c c' : Course) (told told' : Option (List Call)) (plans plans' : List 
   )
   reclaim_seen (turns.Seal work) spare before calm again (seals, inr s) = (
     seals_seen c' told' spare' work.value plans' false k seals,
-    inr (rest_seen s.job s.entries s.phase (again (ap is_sealing (sym s.phase) ∙ open_work work.value seals))),
+    inr (rest_seen s.job s.entries s.pass (again (ap is_sealing (sym s.pass) ∙ open_work work.value seals))),
   )
-  reclaim_seen (turns.Again why) spare before calm again (due, s) = (due, rest_seen s.job s.entries s.phase (calm tt))
-  reclaim_seen turns.Finished spare before calm again (due, s) = (due, rest_seen s.job s.entries s.phase (calm tt))
-  reclaim_seen turns.Stopped spare before calm again (spent, s) = (spent, rest_seen s.job s.entries s.phase (calm tt))
+  reclaim_seen (turns.Again why) spare before calm again (due, s) = (due, rest_seen s.job s.entries s.pass (calm tt))
+  reclaim_seen turns.Finished spare before calm again (due, s) = (due, rest_seen s.job s.entries s.pass (calm tt))
+  reclaim_seen turns.Stopped spare before calm again (spent, s) = (spent, rest_seen s.job s.entries s.pass (calm tt))
   reclaim_seen (turns.Unseal work) spare before calm again is = absurd is
 
   pub reclaim_turn_seen : (r : Result Turn Memory) (spare : ℕ) (X : Type 0) → KeepsCourse c told spare → (X → told' ≡ told)
-      → IfOk r (λ turn. IsWaiting turn → X) → (is_sealing c.pass.phase ≡ true → X)
+      → IfOk r (λ turn. IsWaiting turn → X) → (is_sealing c.pass ≡ true → X)
       → IfOk r (λ turn. IsReclaimerTurn c turn c' told' spare')
       → IfOk r (λ turn. IsReclaim (view_of c told plans false) turn (view_of c' told' plans' false))
   reclaim_turn_seen (Ok turn) spare X before calm rests again is =
@@ -193,12 +177,12 @@ module _ (c c' : Course) (told told' : Option (List Call)) (plans plans' : List 
   pub sealed_seen : (turn : Turn) (spare : ℕ) → KeepsCourse c told spare → (EndsNone turn → told' ≡ told)
       → IsSealed c turn c' told' spare' → IsOutEnd (view_of c told plans false) turn (view_of c' told' plans' false)
   sealed_seen (turns.Did zero) spare before calm (idle, s) = (
-    none_started c.job.start_epoch c.job (past_of c) c.pass.taken.items c.pass.phase before.stands before.book.age idle,
-    rest_seen s.job s.entries s.phase (calm tt),
+    none_started c.job.start_epoch c.job (past_of c) c.pass before.stands before.book.age idle,
+    rest_seen s.job s.entries s.pass (calm tt),
   )
   sealed_seen (turns.Did (suc n)) spare before calm (one, ends, kicks, g) =
       (one, ends, kicks, grown_seen c c' actors.Reclaimer 1 told told' told' plans plans' spare' false tells g)
-  sealed_seen turns.Stopped spare before calm (spent, s) = (spent, rest_seen s.job s.entries s.phase (calm tt))
+  sealed_seen turns.Stopped spare before calm (spent, s) = (spent, rest_seen s.job s.entries s.pass (calm tt))
   sealed_seen (turns.Seal work) spare before calm is = absurd is
   sealed_seen (turns.Unseal work) spare before calm is = absurd is
   sealed_seen (turns.Again why) spare before calm is = absurd is

@@ -1,5 +1,5 @@
 -- What a course keeps, it keeps where nothing has changed.
-use Rattle.std.proofs.Common.{◌≡◌, ℕ, ◌+◌, ◌≤◌, ◌++◌, if◌then◌else◌, List, Option, IfSome, length, count_by}
+use Rattle.std.proofs.Common.{◌≡◌, ℕ, ◌+◌, ◌≤◌, ◌++◌, if◌then◌else◌, List, Option, Some, None, IfSome, length, count_by}
 use Rattle.std.proofs.Common.{reverse, sym, ap, subst, ◌∙◌, arith}
 use Rattle.sgx_types.specs.declared.names.Actor.{Actor}
 use Rattle.sgx_rules.specs.declared.entries.Entry.{Entry}
@@ -12,19 +12,33 @@ use Rattle.paging_laws.specs.inner.Shape.{ShapeWithRules}
 use Rattle.paging_laws.specs.inner.State.{State}
 use Rattle.paging_machine.specs.inner.Parts.{Parts, state_of}
 use Rattle.driver_laws.specs.inner.Three.{TcsAreApart}
-use Rattle.driver_rules.specs.Passes.{pass}
 use Rattle.driver_tables.specs.declared.driver.Driver.{Driver}
-use Rattle.reclaim_worker.specs.declared.turns.Phase.{Phase}
-use Rattle.reclaim_worker.specs.inner.Standing.{StandsFor, is_kicked, is_sealing}
-use Rattle.reclaim_worker.specs.inner.Stored.{still_out}
+use Rattle.reclaim_worker.specs.inner.Ready.{HasFirst}
+use Rattle.reclaim_pass.specs.inner.Standing.{StandsAt}
+use Rattle.reclaim_pass.specs.inner.Viewed.{is_amid, is_kicked, is_sealing, PassView, still_out}
 use Rattle.run_history.specs.Given.{UnforgedRun, made_in}
-use Rattle.run_book.specs.inner.Books.{KeepsBook}
+use Rattle.paging_laws.specs.inner.Columns.{HasAllVersions}
+use Rattle.run_book.specs.inner.Books.{KeepsBook, KeepsHonest}
 use Rattle.table_notes.specs.inner.Arrays.{KeepsArrays}
 use Rattle.turn_tables.specs.declared.turns.Turns.{Turns}
 use Rattle.turn_tables.specs.inner.Ending.{EndsAreTold}
 use Rattle.run_turns.specs.declared.course.Course.{Course}
 use Rattle.run_turns.specs.inner.Courses.{Grows, IsClear, IsSame, KeepsCourse, KeepsKicks, has_open_load, open_starts, past_of}
 use Rattle.run_turns.specs.inner.Turns.{IsAtRest}
+
+-- what it keeps over an honest store is of the machine's state
+rest_honest : (made : Making) (past : List Entry) (told : Option (List Call)) (m m' : Parts) → state_of m' ≡ state_of m
+    → IfSome told (KeepsHonest made past m) → IfSome told (KeepsHonest made past m')
+rest_honest made past None m m' same h = tt
+rest_honest made past (Some calls) m m' same h = λ honest.
+    let k = h honest in
+    record {
+      back = k.back;
+      gifts = k.gifts;
+      found = k.found;
+      arrays = subst (λ s. HasAllVersions s past) (sym same) k.arrays;
+      puts = k.puts;
+    }
 
 -- what a book keeps of a machine it keeps of another one in the same state
 pub book_of_state : (made : Making) (j : JobView) (past : List Entry) (told : Option (List Call)) (d : Driver) (m m' : Parts) (t : Turns)
@@ -34,9 +48,13 @@ book_of_state made j past told d m m' t same k = record {
     follows = subst (λ s. ShapeWithRules made s past) (sym same) k.agrees.follows;
     fits = k.agrees.fits;
     sound = k.agrees.sound;
+    home = k.agrees.home;
     used = k.agrees.used;
+    stand = k.agrees.stand;
+    fixed = k.agrees.fixed;
     counted = k.agrees.counted;
     built = k.agrees.built;
+    inits = k.agrees.inits;
     theirs = k.agrees.theirs;
     tracks = k.agrees.tracks;
     pages = k.agrees.pages;
@@ -52,11 +70,12 @@ book_of_state made j past told d m m' t same k = record {
   script = k.script;
   age = k.age;
   kick = k.kick;
+  slots = k.slots;
   tracking = k.tracking;
   store = k.store;
   bytes = subst (λ s. IfSome told (λ calls. UnforgedRun j.key past calls → StandsWithAllRules made s past (made_in past calls))) (sym same)
       k.bytes;
-  honest = k.honest;
+  honest = rest_honest made past told m m' same k.honest;
 }
 
 -- the entries are the same, so their list from the newest on
@@ -64,10 +83,10 @@ pub same_past : (c c' : Course) → c'.entries.items ≡ c.entries.items → pas
 same_past c c' same = ap reverse same
 
 -- so many starts are open as before
-same_starts : (c c' : Course) → c'.turns ≡ c.turns → c'.pass.phase ≡ c.pass.phase → open_starts c' ≡ open_starts c
-same_starts c c' turns phase =
-    ap (λ (t : Turns). count_by has_open_load t.cpus + (if is_sealing c'.pass.phase then 1 else 0)) turns
-    ∙ ap (λ (x : Phase). count_by has_open_load c.turns.cpus + (if is_sealing x then 1 else 0)) phase
+same_starts : (c c' : Course) → c'.turns ≡ c.turns → c'.pass ≡ c.pass → open_starts c' ≡ open_starts c
+same_starts c c' turns same =
+    ap (λ (t : Turns). count_by has_open_load t.cpus + (if is_sealing c'.pass then 1 else 0)) turns
+    ∙ ap (λ (v : PassView). count_by has_open_load c.turns.cpus + (if is_sealing v then 1 else 0)) same
 
 -- a course where nothing but the machine's way to keep its state has changed
 pub rest_keeps : (c c' : Course) (told : Option (List Call)) (spare : ℕ) → IsAtRest c c' → KeepsCourse c told spare
@@ -83,15 +102,12 @@ rest_keeps c c' told spare rests k =
           (subst (λ t. KeepsBook (machine_of c.job) c.job (past_of c) told c.driver c'.machine t) (sym rests.turns)
           (book_of_state (machine_of c.job) c.job (past_of c) told c.driver c.machine c'.machine c.turns rests.state k.book))));
       stands =
-          subst (λ (j : JobView). StandsFor j.start_epoch (past_of c') c'.pass.taken.items c'.pass.phase (pass j (past_of c')))
-          (sym rests.job)
-          (subst (λ h. StandsFor c.job.start_epoch h c'.pass.taken.items c'.pass.phase (pass c.job h)) (sym past)
-          (subst (λ taken. StandsFor c.job.start_epoch (past_of c) taken c'.pass.phase (pass c.job (past_of c))) (sym rests.taken)
-          (subst (λ phase. StandsFor c.job.start_epoch (past_of c) c.pass.taken.items phase (pass c.job (past_of c))) (sym rests.phase)
-          k.stands)));
-      places =
-          subst (λ taken. still_out taken c'.pass.phase ≤ spare) (sym rests.taken)
-          (subst (λ phase. still_out c.pass.taken.items phase ≤ spare) (sym rests.phase) k.places);
+          subst (λ (j : JobView). StandsAt j.start_epoch j (past_of c') c'.pass) (sym rests.job)
+          (subst (λ h. StandsAt c.job.start_epoch c.job h c'.pass) (sym past)
+          (subst (StandsAt c.job.start_epoch c.job (past_of c)) (sym rests.pass) k.stands));
+      whole = ap is_amid rests.pass ∙ k.whole;
+      first = subst HasFirst (sym past) k.first;
+      places = subst (λ (v : PassView). still_out v ≤ spare) (sym rests.pass) k.places;
       arrays =
           subst (λ (j : JobView). KeepsArrays j c'.driver.slots (past_of c')) (sym rests.job)
           (subst (KeepsArrays c.job c'.driver.slots) (sym past)
@@ -100,7 +116,7 @@ rest_keeps c c' told spare rests k =
       clear = subst (λ (j : JobView). IsClear j (past_of c')) (sym rests.job) (subst (IsClear c.job) (sym past) k.clear);
       room =
           let long = c'.entries.ok.0 ∙ ap length rests.entries ∙ sym c.entries.ok.0 in
-          let starts = same_starts c c' rests.turns rests.phase in
+          let starts = same_starts c c' rests.turns rests.pass in
           let room = k.room in
           let more = rests.room in
           omega (arith, long, starts, room, more);
@@ -113,8 +129,7 @@ same_rests c c' same = record {
   state = ap state_of same.machine;
   driver = same.driver;
   turns = same.turns;
-  taken = same.taken;
-  phase = same.phase;
+  pass = same.pass;
   entries = same.entries;
   room = same.room;
 }
@@ -130,8 +145,7 @@ same_twice a b c one two = record {
   machine = two.machine ∙ one.machine;
   driver = two.driver ∙ one.driver;
   turns = two.turns ∙ one.turns;
-  taken = two.taken ∙ one.taken;
-  phase = two.phase ∙ one.phase;
+  pass = two.pass ∙ one.pass;
   entries = two.entries ∙ one.entries;
   room = let first = one.room in let next = two.room in omega (arith, first, next);
 }
@@ -142,15 +156,14 @@ rest_behind a b c one two = record {
   state = two.state ∙ ap state_of one.machine;
   driver = two.driver ∙ one.driver;
   turns = two.turns ∙ one.turns;
-  taken = two.taken ∙ one.taken;
-  phase = two.phase ∙ one.phase;
+  pass = two.pass ∙ one.pass;
   entries = two.entries ∙ one.entries;
   room = let first = one.room in let next = two.room in omega (arith, first, next);
 }
 
 -- a course that is the same but for its room grows by the same entries
 pub same_grows : (a b c : Course) (by : Actor) (n : ℕ) (told : Option (List Call)) (spare : ℕ) → b.job ≡ a.job → past_of b ≡ past_of a
-    → KeepsKicks by (is_kicked a.pass.phase) (is_kicked c.pass.phase) → Grows b by n c told spare → Grows a by n c told spare
+    → KeepsKicks by (is_kicked a.pass) (is_kicked c.pass) → Grows b by n c told spare → Grows a by n c told spare
 same_grows a b c by n told spare job past kicks g = record {
   entries = g.entries;
   count = g.count;

@@ -12,7 +12,8 @@ use Rattle.sgx_rules.specs.declared.entries.Event.{Event}
 use Rattle.sgx_rules.specs.declared.entries.Event.TheVariants.{Did, Refused}
 use Rattle.sgx_rules.specs.declared.refusals.Refusal.{Refusal}
 use Rattle.sgx_rules.specs.declared.refusals.Refusal.TheVariants as why
-use Rattle.sgx_types.specs.Pages.{page_at}
+use Rattle.sgx_types.specs.Pages.{is_own_page, page_at}
+use Rattle.sgx_types.specs.declared.names.Page.{Page}
 use Rattle.sgx_types.specs.declared.names.SlotAt.{SlotAt}
 use Rattle.sgx_types.specs.declared.names.TheConstants.{LAST_EPOCH}
 use Rattle.sgx_rules.specs.Epochs.{epoch, epoch_in}
@@ -31,7 +32,7 @@ use Rattle.driver_rules.specs.Stops.{is_last_refusal, spends}
 use Rattle.driver_rules.specs.inner.Reclaims.{is_refused}
 use Rattle.reclaim_worker.specs.declared.turns.PassTurn.{PassTurn}
 use Rattle.reclaim_worker.specs.declared.turns.PassTurn.TheVariants as turns
-use Rattle.reclaim_worker.specs.inner.Answers.{IsTurn, by_reclaimer, track_turn, try_turn}
+use Rattle.reclaim_worker.specs.inner.Answers.{IsTryOut, IsTurn, by_reclaimer, start_turn, track_turn, try_turn}
 use Rattle.run_book.specs.inner.Turns.{OfEntry}
 use Rattle.table_notes.proofs.EntryLaws.{IsEntryOf, entry_by, is_init}
 use Rattle.table_notes.specs.inner.Plain.{is_plain}
@@ -151,25 +152,39 @@ module _ (j : JobView) (past : List Entry) (slots : Keeper) (turn : PassTurn) wh
       by_last true is = eqb-true (epoch j.start_epoch past enclave) LAST_EPOCH is
       by_last false is = refl
 
-  try_used : (f : ℕ) (slot : SlotAt) → OfEntry (try_turn (machine_of j) past f slot) (λ e. IsUsedUp j past e.event)
-  try_used f slot = by_drain (is_drained past f) (next_version j.start_version past == 2 ^ 64) refl
+  start_used : (f : ℕ) (at : SlotAt) → OfEntry (start_turn (machine_of j) past f at) (λ e. IsUsedUp j past e.event)
+  start_used f at = by_last (next_version j.start_version past == 2 ^ 64) refl
     where
-      by_drain : (b v : Bool) → (next_version j.start_version past == 2 ^ 64) ≡ v
-          → OfEntry (if b
-          then (if v then turns.Spent (by_reclaimer (Refused (EwbStart (frame_at f) slot) why.VersionSpent)) else turns.Seal
-          (by_reclaimer (Did (EwbStart (frame_at f) slot) (answers.Version (next_version j.start_version past)))))
-          else turns.One (by_reclaimer (Refused (EwbStart (frame_at f) slot)
-          (why.NotTracked (epoch_in j.start_epoch past f) (kept_back past f))))) (λ e. IsUsedUp j past e.event)
-      by_drain true true is = eqb-true (next_version j.start_version past) (2 ^ 64) is
-      by_drain true false is = refl
-      by_drain false v is = refl
+      by_last : (b : Bool) → (next_version j.start_version past == 2 ^ 64) ≡ b
+          → OfEntry (if b then turns.Spent (by_reclaimer (Refused (EwbStart (frame_at f) at) why.VersionSpent))
+          else turns.Seal (by_reclaimer (Did (EwbStart (frame_at f) at) (answers.Version (next_version j.start_version past)))))
+          (λ e. IsUsedUp j past e.event)
+      by_last true is = eqb-true (next_version j.start_version past) (2 ^ 64) is
+      by_last false is = refl
 
-  pub turn_used : (due : Due) → IsTurn (machine_of j) past slots due turn → OfEntry turn (λ e. IsUsedUp j past e.event)
+  try_used : (f : ℕ) (at : SlotAt) (version : ℕ) → OfEntry (try_turn (machine_of j) past f at version) (λ e. IsUsedUp j past e.event)
+  try_used f at version = by_drain (is_drained past f) (version == 0)
+    where
+      by_drain : (b v : Bool) → OfEntry (if b
+          then (if v then start_turn (machine_of j) past f at
+          else turns.One (by_reclaimer (Refused (EwbStart (frame_at f) at) (why.SlotOccupied version))))
+          else turns.One (by_reclaimer (Refused (EwbStart (frame_at f) at)
+          (why.NotTracked (epoch_in j.start_epoch past f) (kept_back past f))))) (λ e. IsUsedUp j past e.event)
+      by_drain true true = start_used f at
+      by_drain true false = refl
+      by_drain false v = refl
+
+  out_used : (g : Page) (f : ℕ) (own : Bool) → IsTryOut (machine_of j) j past slots g f own turn
+      → OfEntry turn (λ e. IsUsedUp j past e.event)
+  out_used g f true (inl k) = said _ k.told (try_used f k.at k.version)
+  out_used g f true (inr k) = said _ k.1 tt
+  out_used g f false k = said _ k.told (start_used f k.at)
+
+  pub turn_used : (due : Due) → IsTurn (machine_of j) j past slots due turn → OfEntry turn (λ e. IsUsedUp j past e.event)
   turn_used (Waits reason) k = said _ k tt
   turn_used (LooksAt page held young) k = said _ k.told refl
   turn_used (Makes (Block f)) k = said _ k refl
   turn_used (Makes (Track enclave)) k = said _ k (track_used enclave)
-  turn_used (TriesOut f) (inl k) = said _ k.told (try_used f k.slot)
-  turn_used (TriesOut f) (inr k) = said _ k.1 tt
+  turn_used (TriesOut g f) k = out_used g f (is_own_page g) k
   turn_used (KicksAll ps) k = said _ k tt
   turn_used due k = absurd k

@@ -1,5 +1,6 @@
 pub mod Courses
 pub mod Recording
+pub mod Refusing
 pub mod Kicking
 pub mod Turns
 pub mod Passing

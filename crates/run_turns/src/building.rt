@@ -54,7 +54,8 @@ impl Course {
         self.entries.reserve(ROOM)?;
         let before = mode_of(&self.machine, actor);
         let entry = self.machine.apply(alloc, actor, action)?;
-        note_tables(&self.turns, &mut self.driver, before, &entry);
+        let first = self.driver.first_slot(0);
+        note_tables(&self.turns, &mut self.driver, first, before, &entry);
         self.take_in(before, &entry);
         Ok(Turn::Did { entries: 1 })
     }

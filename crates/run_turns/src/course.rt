@@ -2,14 +2,14 @@
 
 ghost use Rattle.std.specs.Prelude.{◌≡◌, ℕ, [], false, List, Option, IfOk, IfSome};
 ghost use Rattle.backing_store.specs.Calls.{Call};
-ghost use Rattle.reclaim_worker.specs.inner.Standing.{is_kicked};
+ghost use Rattle.reclaim_pass.specs.inner.Viewed.{is_kicked};
 ghost use Rattle.run_turns.specs.inner.Courses.{KeepsCourse};
 
 use crate::building::ROOM;
 use driver_tables::driver::Driver;
 use job_grammar::jobs::Job;
 use paging_machine::machine::Machine;
-use reclaim_worker::passes::Pass;
+use reclaim_pass::pass::Pass;
 use seal_record::seal::SealWork;
 use sgx_rules::entries::Entry;
 use sgx_types::names::Memory;
@@ -38,7 +38,7 @@ impl Course {
     pub fn new(alloc: Global, job: Job) -> Result<Course, Memory>
         ensures job { IfOk result (λ course. course.job ≡ job) }
         ensures entries { IfOk result (λ course. course.entries.items ≡ []) }
-        ensures kicks { IfOk result (λ course. is_kicked course.pass.phase ≡ false) }
+        ensures kicks { IfOk result (λ course. is_kicked course.pass ≡ false) }
         ensures keeps { IfOk result (λ course. (told : Option (List Call)) (spare : ℕ) → IfSome told (λ calls. calls ≡ [])
             → KeepsCourse course told spare) }
     {

@@ -1,23 +1,27 @@
 //! The turns of a processor.
 
-ghost use Rattle.std.specs.Prelude.{◌≡◌, ◌<◌, false, true, IfOk, OnErr, Some, is_some, length};
+ghost use Rattle.std.specs.Prelude.{◌≡◌, ◌<◌, ◌∷◌, false, true, IfOk, OnErr, Some, is_some, length};
 ghost use Rattle.driver_calls.specs.inner.Comes.{bus_of};
 ghost use Rattle.driver_laws.specs.inner.Agrees.{loaded_by};
 ghost use Rattle.driver_rules.specs.Places.{place};
 ghost use Rattle.driver_rules.specs.Stops.{is_spent};
 ghost use Rattle.driver_rules.specs.Turns.{cpu_due, fetches, last_of};
-ghost use Rattle.run_turns.specs.inner.Courses.{IsSame, KeepsCourse, past_of};
+ghost use Rattle.run_turns.specs.declared.turn.Turn.TheVariants as turns;
+ghost use Rattle.run_turns.specs.inner.Courses.{Grows, IsSame, KeepsCourse, past_of};
+ghost use Rattle.run_turns.specs.inner.Refusing.{CanRefuse};
 ghost use Rattle.run_turns.specs.inner.Turns.{CanTurn, IsCpuTurn, IsOpened};
+ghost use Rattle.sgx_types.specs.declared.names.Actor.TheVariants as actors;
 
 use crate::building::ROOM;
 use crate::course::Course;
 use crate::turn::Turn;
 use backing_store::backing::Backing;
+use cached_translations::processor::Mode;
 use driver_rules::waits::Why;
 use fault_handler::answers::{FaultAnswer, Loaded};
 use fault_handler::finishing::finish;
 use fault_handler::repeating::again;
-use fault_handler::resolving::resolve;
+use fault_handler::resolving::{asked, resolve};
 use seal_record::unseal::UnsealedWork;
 use sgx_rules::entries::{BusWhy, Entry, Event};
 use sgx_types::names::{Actor, Cpu, Memory, Page};
@@ -102,11 +106,12 @@ impl Course {
         }
         self.entries.reserve(ROOM)?;
         let before = self.machine.mode(cpu);
+        let asked = asked(&self.driver, page);
         match resolve(alloc, &mut self.driver, &mut self.machine, store, cpu, page)? {
             FaultAnswer::Here => Ok(Turn::Again(Why::Busy(page))),
             FaultAnswer::Again(why) => Ok(Turn::Again(why)),
             FaultAnswer::Bus(why) => {
-                let entry = bus(cpu, page, why);
+                let entry = bus(cpu, asked, why);
                 self.machine.note(&entry);
                 self.take_in(before, &entry);
                 Ok(Turn::Did { entries: 1 })
@@ -114,6 +119,9 @@ impl Course {
             FaultAnswer::Started { entry, work } => {
                 self.take_in(before, &entry);
                 Ok(Turn::Unseal(work))
+            }
+            FaultAnswer::Slot { entry } => {
+                Ok(self.take_refused(cpu, asked, before, &entry, BusWhy::Slot))
             }
         }
     }
@@ -148,15 +156,31 @@ impl Course {
                 self.take_in(before, &entry);
                 Turn::Did { entries: 1 }
             }
-            Loaded::Bus { entry, why } => {
-                self.take_in(before, &entry);
-                let between = self.machine.mode(cpu);
-                let told = bus(cpu, page, why);
-                self.machine.note(&told);
-                self.take_in(between, &told);
-                Turn::Did { entries: 2 }
-            }
+            Loaded::Bus { entry, why } => self.take_refused(cpu, page, before, &entry, why),
         }
+    }
+
+    // Takes in the entry that refused a load or its start, and behind it the bus that tells why.
+    fn take_refused(
+        &mut self,
+        cpu: Cpu,
+        page: Page,
+        before: Mode,
+        entry: &Entry,
+        why: BusWhy,
+    ) -> Turn
+        requires { CanRefuse self.old cpu page before entry.now why }
+        ensures answer { result ≡ turns.Did 2 }
+        ensures past { past_of self.new ≡ bus_of cpu page why ∷ entry.now ∷ past_of self.old }
+        ensures grows { (can : CanRefuse self.old cpu page before entry.now why)
+            → Grows self.old (actors.Cpu cpu) 2 self.new can.take.can.longer can.spare }
+    {
+        self.take_in(before, entry);
+        let between = self.machine.mode(cpu);
+        let told = bus(cpu, page, why);
+        self.machine.note(&told);
+        self.take_in(between, &told);
+        Turn::Did { entries: 2 }
     }
 }
 

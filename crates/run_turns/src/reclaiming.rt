@@ -4,7 +4,7 @@ ghost use Rattle.std.specs.Prelude.{◌≡◌, ◌+◌, ◌≤◌, ◌∷◌, []
 ghost use Rattle.std.specs.Prelude.{vec_capacity};
 ghost use Rattle.driver_rules.specs.inner.Reclaims.{all_finished};
 ghost use Rattle.driver_rules.specs.Stops.{is_spent};
-ghost use Rattle.reclaim_worker.specs.inner.Standing.{is_kicked, is_sealing};
+ghost use Rattle.reclaim_pass.specs.inner.Viewed.{is_kicked, is_sealing};
 ghost use Rattle.run_turns.specs.inner.Courses.{Grows, IsSame, KeepsCourse, past_of};
 ghost use Rattle.run_turns.specs.inner.Kicking.{CanKick, CanKickOne, HasKicked};
 ghost use Rattle.run_turns.specs.inner.Passing.{CanFollow, CanTakeOwn, EndsNone, IsFollowed, IsSealOf, IsWaiting, is_building};
@@ -17,7 +17,10 @@ use crate::course::Course;
 use crate::turn::Turn;
 use backing_store::backing::Backing;
 use cached_translations::processor::Mode;
-use reclaim_worker::turns::{PassTurn, Phase};
+use reclaim_pass::pass::Pass;
+use reclaim_worker::passes::step;
+use reclaim_worker::stores::{fill_in, stored};
+use reclaim_worker::turns::PassTurn;
 use seal_record::seal::{SealWork, SealedWork};
 use sgx_rules::entries::{Entry, Event};
 use sgx_types::names::{Actor, Cpu, Memory};
@@ -33,13 +36,13 @@ impl Course {
         ensures memory { OnErr result (IsSame self.old self.new × (store.new ≡ store.old)) }
         ensures plans { S.plans store.new ≡ S.plans store.old }
         ensures rests { IfOk result (λ turn. IsWaiting turn → store.new ≡ store.old) }
-        ensures again { is_sealing self.old.pass.phase ≡ true → IsSame self.old self.new × (store.new ≡ store.old) }
+        ensures again { is_sealing self.old.pass ≡ true → IsSame self.old self.new × (store.new ≡ store.old) }
         ensures tells { is_some (S.told store.new) ≡ is_some (S.told store.old) }
     {
         if self.turns.is_spent {
             return Ok(Turn::Stopped);
         }
-        if is_sealing(self.pass.phase) {
+        if is_sealing(&self.pass) {
             let room = Box::new(alloc, SealWork::new(alloc)?)?;
             return Ok(self.sealing_with(room));
         }
@@ -52,10 +55,10 @@ impl Course {
     // The work of the started write-out, in this room.
     fn sealing_with(&self, mut room: Box<SealWork>) -> Turn
         requires can { CanTurn self.now }
-        requires sealing { is_sealing self.now.pass.phase ≡ true }
+        requires sealing { is_sealing self.now.pass ≡ true }
         ensures { IsSealOf self.now result }
     {
-        self.pass.fill_in(&self.machine, &mut room);
+        fill_in(&self.pass, &self.machine, &mut room);
         Turn::Seal(room)
     }
 
@@ -86,7 +89,7 @@ impl Course {
     fn pass_turn<S: Backing>(&mut self, alloc: Global, store: &mut S) -> Result<Turn, Memory>
         requires keeps { KeepsCourse self.old (S.told store.old) (S.spare store.old) }
         requires going { is_spent (past_of self.old) ≡ false }
-        requires idle { is_sealing self.old.pass.phase ≡ false }
+        requires idle { is_sealing self.old.pass ≡ false }
         requires some { all_finished self.old.job (past_of self.old) ≡ false }
         ensures turn { IfOk result (λ turn. IsReclaimerTurn self.old turn self.new (S.told store.new) (S.spare store.new)) }
         ensures keeps { KeepsCourse self.new (S.told store.new) (S.spare store.new) }
@@ -116,7 +119,7 @@ impl Course {
     fn step_pass<S: Backing>(&mut self, alloc: Global, store: &mut S) -> Result<Turn, Memory>
         requires keeps { KeepsCourse self.old (S.told store.old) (S.spare store.old) }
         requires going { is_spent (past_of self.old) ≡ false }
-        requires idle { is_sealing self.old.pass.phase ≡ false }
+        requires idle { is_sealing self.old.pass ≡ false }
         requires some { all_finished self.old.job (past_of self.old) ≡ false }
         requires entries { vec_len self.old.entries + 64 ≤ vec_capacity self.old.entries }
         requires room { is_some self.old.room ≡ true }
@@ -127,9 +130,13 @@ impl Course {
         ensures rests { IfOk result (λ turn. IsWaiting turn → store.new ≡ store.old) }
         ensures tells { is_some (S.told store.new) ≡ is_some (S.told store.old) }
     {
-        let turn = self
-            .pass
-            .step(alloc, &mut self.driver, &mut self.machine, store)?;
+        let turn = step(
+            alloc,
+            &mut self.pass,
+            &mut self.driver,
+            &mut self.machine,
+            store,
+        )?;
         Ok(self.follow(turn))
     }
 
@@ -151,7 +158,6 @@ impl Course {
                 self.seal()
             }
             PassTurn::Again(why) => Turn::Again(why),
-            PassTurn::NoSlot => unreachable!(),
         }
     }
 
@@ -160,8 +166,8 @@ impl Course {
         requires { CanTakeOwn self.old entry }
         ensures grows { (can : CanTakeOwn self.old entry) → Grows self.old actors.Reclaimer 1 self.new can.longer can.spare }
         ensures past { past_of self.new ≡ entry ∷ past_of self.old }
-        ensures sealing { is_sealing self.new.pass.phase ≡ is_sealing self.old.pass.phase }
-        ensures kicks { is_kicked self.new.pass.phase ≡ is_kicked self.old.pass.phase }
+        ensures sealing { is_sealing self.new.pass ≡ is_sealing self.old.pass }
+        ensures kicks { is_kicked self.new.pass ≡ is_kicked self.old.pass }
         ensures room { self.new.room ≡ self.old.room }
     {
         self.take_in(Mode::Outside, &entry);
@@ -170,7 +176,7 @@ impl Course {
     // The work of the started write-out, in the room that there is for it.
     fn seal(&mut self) -> Turn
         requires can { CanTurn self.old }
-        requires sealing { is_sealing self.old.pass.phase ≡ true }
+        requires sealing { is_sealing self.old.pass ≡ true }
         requires room { is_some self.old.room ≡ true }
         ensures seals { IsSealOf self.old result }
         ensures others { self.new ≡ record self.old { room = self.new.room } }
@@ -234,7 +240,7 @@ impl Course {
         if self.turns.is_spent {
             return Turn::Stopped;
         }
-        if !is_sealing(self.pass.phase) {
+        if !is_sealing(&self.pass) {
             return Turn::Did { entries: 0 };
         }
         self.end_write_out(store, work);
@@ -245,16 +251,20 @@ impl Course {
     fn end_write_out<S: Backing>(&mut self, store: &mut S, work: SealedWork)
         requires keeps { KeepsCourse self.old (S.told store.old) (S.spare store.old) }
         requires going { is_spent (past_of self.old) ≡ false }
-        requires sealing { is_sealing self.old.pass.phase ≡ true }
+        requires sealing { is_sealing self.old.pass ≡ true }
         ensures grows { Grows self.old actors.Reclaimer 1 self.new (S.told store.new) (S.spare store.new) }
         ensures ends { EndsOut (past_of self.new) }
-        ensures kicks { is_kicked self.new.pass.phase ≡ false }
+        ensures kicks { is_kicked self.new.pass ≡ false }
         ensures plans { S.plans store.new ≡ S.plans store.old }
         ensures tells { is_some (S.told store.new) ≡ is_some (S.told store.old) }
     {
-        let entry = self
-            .pass
-            .stored(&mut self.driver, &mut self.machine, store, work);
+        let entry = stored(
+            &mut self.pass,
+            &mut self.driver,
+            &mut self.machine,
+            store,
+            work,
+        );
         self.take_own(entry);
     }
 }
@@ -274,8 +284,8 @@ fn is_left(due: CpuDue) -> bool
 }
 
 // Whether a write-out has started.
-fn is_sealing(phase: Phase) -> bool
-    ensures { result ≡ is_sealing phase }
+fn is_sealing(pass: &Pass) -> bool
+    ensures { result ≡ is_sealing pass.now }
 {
-    matches!(phase, Phase::Sealing { .. })
+    pass.sealing().is_some()
 }

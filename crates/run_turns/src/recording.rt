@@ -1,14 +1,14 @@
 //! What is done with each entry.
 
 ghost use Rattle.std.specs.Prelude.{◌≡◌, ◌++◌, ◌∷◌, [], vec_capacity};
-ghost use Rattle.reclaim_worker.specs.inner.Standing.{is_kicked, is_sealing};
-ghost use Rattle.reclaim_worker.specs.inner.Stored.{still_out};
+ghost use Rattle.reclaim_pass.specs.inner.Viewed.{is_kicked, is_sealing, still_out};
 ghost use Rattle.run_book.specs.inner.Books.{with_own};
 ghost use Rattle.run_turns.specs.inner.Recording.{CanRecord, CanTake, IsRecorded, IsTaken};
 ghost use Rattle.turn_tables.specs.inner.Noting.{IsNoted};
 
 use crate::course::Course;
 use cached_translations::processor::Mode;
+use driver_tables::driver::Driver;
 use sgx_rules::entries::Entry;
 
 impl Course {
@@ -23,10 +23,9 @@ impl Course {
         ensures room { vec_capacity self.new.entries ≡ vec_capacity self.old.entries }
         ensures noted { IsNoted self.old.job self.old.turns before entry.now self.new.turns }
         ensures driver { self.new.driver ≡ with_own self.old.driver self.new.driver.active.own }
-        ensures taken { self.new.pass.taken ≡ self.old.pass.taken }
-        ensures places { still_out self.new.pass.taken.items self.new.pass.phase ≡ still_out self.old.pass.taken.items self.old.pass.phase }
-        ensures sealing { is_sealing self.new.pass.phase ≡ is_sealing self.old.pass.phase }
-        ensures kicks { is_kicked self.new.pass.phase ≡ is_kicked self.old.pass.phase }
+        ensures places { still_out self.new.pass ≡ still_out self.old.pass }
+        ensures sealing { is_sealing self.new.pass ≡ is_sealing self.old.pass }
+        ensures kicks { is_kicked self.new.pass ≡ is_kicked self.old.pass }
         ensures others { self.new ≡ record self.old {
           driver = self.new.driver;
           turns = self.new.turns;
@@ -36,7 +35,7 @@ impl Course {
     {
         self.record_entry(before, entry);
         let free = self.machine.free_count();
-        self.pass.note(&self.driver, free);
+        self.pass.settle(self.driver.marks, free);
     }
 
     /// .. within a pass, where nothing is decided.
@@ -50,8 +49,8 @@ impl Course {
         ensures driver { self.new.driver ≡ with_own self.old.driver self.new.driver.active.own }
         ensures others { self.new ≡ record self.old { driver = self.new.driver; turns = self.new.turns; entries = self.new.entries } }
     {
-        self.turns
-            .hold(&self.job, &mut self.driver.active, before, entry);
+        let Driver { states, active, .. } = &mut self.driver;
+        self.turns.hold(&self.job, states, active, before, entry);
         self.turns.note(&self.job, before, entry);
         self.entries.push_reserved(*entry);
     }

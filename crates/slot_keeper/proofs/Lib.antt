@@ -1,4 +1,5 @@
-pub mod SlotLaws
-pub mod KeyLaws
+pub mod ArrayLaws
 pub mod KeeperLaws
-pub mod SlabLaws
+pub mod LeastLaws
+pub mod WriteLaws
+pub mod FullLaws

@@ -1,4 +1,3 @@
 pub mod Keeper
-pub mod Pages
-pub mod Keys
 pub mod KeeperKept
+pub mod Least

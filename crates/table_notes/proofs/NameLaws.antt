@@ -9,6 +9,7 @@ use Rattle.sgx_rules.specs.declared.entries.Answer.{Answer}
 use Rattle.sgx_rules.specs.declared.entries.Entry.{Entry}
 use Rattle.sgx_rules.specs.declared.entries.Event.TheVariants.{Did}
 use Rattle.sgx_types.specs.declared.names.Page.{Page}
+use Rattle.sgx_types.specs.declared.names.SlotAt.{SlotAt}
 use Rattle.sgx_rules.specs.Flat.{at_offset}
 use Rattle.sgx_types.specs.Pages.{page_at}
 use Rattle.sgx_rules.specs.Frames.{added}
@@ -20,9 +21,8 @@ use Rattle.job_grammar.specs.Jobs.{JobView}
 use Rattle.turn_rules.specs.Script.{enter_with, frame_at, is_turned_away, resume_with}
 use Rattle.driver_rules.specs.declared.waits.Why.{Why}
 use Rattle.driver_rules.specs.declared.waits.Why.TheVariants as waits
-use Rattle.driver_rules.specs.Dues.{Due, Ends, Fetches, Finished, IsNext, IsTryOf, KicksAll, LooksAt, Makes, Reports, Stopped}
-use Rattle.driver_rules.specs.Dues.{TriesOut}
-use Rattle.driver_rules.specs.Dues.{Waits, makes_or}
+use Rattle.driver_rules.specs.Dues.{Asks, Due, Ends, Fetch, Fetches, Finished, IsFetch, IsNext, IsTryOf, KicksAll, LooksAt, Makes, Reports}
+use Rattle.driver_rules.specs.Dues.{Stopped, TriesOut, Waits, WaitsFor, load_by, makes_or}
 use Rattle.driver_rules.specs.Needs.{Interruption, interruption, needs_after, needs_to_enter, needs_to_resume, next_op}
 use Rattle.driver_rules.specs.Needs.{save_to_enter}
 use Rattle.driver_rules.specs.Needs.{save_to_resume}
@@ -199,10 +199,19 @@ module _ (j : JobView) (past : List Entry) (p : ℕ) (sound : IsSound past) wher
   names_next Finished action answer h n = absurd n
   names_next (Waits why) action answer h n = absurd n
   names_next (Reports page why) action answer h n = cc
-  names_next (Fetches g slot None) action answer h n = absurd n
-  names_next (Fetches g slot (Some f)) action answer h n = subst (Names j past p) (sym n) tt
+  names_next (Fetches g fetch) action answer h n = fetched fetch n
+    where
+      loaded : (f : ℕ) (target : Page) (slot : Option SlotAt) → load_by target slot f ≡ Some action → Names j past p action
+      loaded f target None m = cc
+      loaded f target (Some at) m =
+          let same : actions.EldStart (frame_at f) target at ≡ action = cc in subst (Names j past p) same tt
+
+      fetched : (o : Fetch) → IsFetch g o (Did action answer) → Names j past p action
+      fetched (WaitsFor target) m = absurd m
+      fetched (Asks target slot None) m = absurd m
+      fetched (Asks target slot (Some f)) m = loaded f target slot m
   names_next (LooksAt page held young) action answer h n = absurd n
-  names_next (TriesOut f) action answer h n = tried action n
+  names_next (TriesOut g f) action answer h n = tried action n
     where
       tried : (a : Action) → IsTryOf f (Did a answer) → Names j past p a
       tried (actions.EwbStart k slot) m = tt

@@ -1,22 +1,23 @@
 -- The state save page that the tables find is the one that the rules name.
-use Rattle.std.proofs.Common.{◌≡◌, ℕ, zero, suc, ◌+◌, ◌-◌, ◌%◌, ◌^◌, ◌<◌, ◌≤◌, ◌==◌, Bool, true}
-use Rattle.std.proofs.Common.{false, if◌then◌else◌, List, [], ◌∷◌, Option, Some, None, get_or, min, nat_le, sum, refl, ap}
+use Rattle.std.proofs.Common.{◌≡◌, ℕ, ◌+◌, ◌-◌, ◌%◌, ◌^◌, ◌<◌, ◌≤◌, ◌==◌, ◌&&◌, not, Bool, true}
+use Rattle.std.proofs.Common.{false, if◌then◌else◌, List, Option, Some, None, length, min, nat_le, sum, take, refl, ap}
 use Rattle.std.proofs.Common.{◌∙◌, arith}
-use Rattle.std.proofs.lemmas.Bool.{eqb-false}
-use Rattle.std.proofs.lemmas.List.Sums.{sum_by-cons}
+use Rattle.std.proofs.lemmas.Bool.{eqb-false, eqb-true}
 use Rattle.sgx_rules.specs.declared.entries.Entry.{Entry}
 use Rattle.sgx_types.specs.declared.names.Page.{Page}
-use Rattle.sgx_types.specs.Pages.{page_at}
+use Rattle.sgx_types.specs.Pages.{is_va_page, page_at}
+use Rattle.sgx_types.specs.declared.names.TheConstants.{SECS_NUMBER}
 use Rattle.sgx_rules.specs.Processors.{stay}
 use Rattle.job_grammar.specs.declared.jobs.PageLine.{PageLine}
 use Rattle.job_grammar.specs.declared.jobs.PageLine.TheVariants as lines
 use Rattle.job_grammar.specs.Jobs.{JobView, lines_at, tcs_line}
 use Rattle.job_grammar.specs.inner.Valid.{IsValid}
 use Rattle.turn_rules.specs.Script.{is_seated_at, saved}
-use Rattle.active_list.specs.inner.Places.{IsPlaced}
-use Rattle.driver_rules.specs.Needs.{last_save, next_save, save_to_enter, save_to_resume}
-use Rattle.driver_tables.specs.inner.Counts.{page_counts}
+use Rattle.active_list.specs.inner.Places.{IsPlaced, total}
+use Rattle.active_list.proofs.PlaceLaws.{place_within}
+use Rattle.driver_tables.specs.inner.Counts.{job_counts}
 use Rattle.driver_tables.proofs.CountLaws.{few_places}
+use Rattle.driver_rules.specs.Needs.{last_save, next_save, save_to_enter, save_to_resume}
 use Rattle.turn_tables.specs.declared.turns.Turns.{Turns}
 use Rattle.turn_tables.specs.inner.Asked.{last_save_of, next_save_of}
 use Rattle.turn_tables.specs.inner.Due.{IsOrderly, IsWithin, in_use}
@@ -25,19 +26,18 @@ use Rattle.turn_tables.specs.inner.TcsTurns.{tcs_at, tcs_by}
 
 -- ---- numbers
 
-at_most_sum : (xs : List ℕ) (i : ℕ) → get_or xs i 0 ≤ sum xs
-at_most_sum [] i = omega arith
-at_most_sum (x ∷ xs) zero = let more = sum_by-cons (λ n. n) x xs in omega (arith, more)
-at_most_sum (x ∷ xs) (suc i) =
-    let rest = at_most_sum xs i in let more = sum_by-cons (λ n. n) x xs in omega (arith, rest, more)
-
 -- a page that has a place has a number of 32 bits
-pub placed_low : (j : JobView) (g : Page) → IsValid j → IsPlaced (0 ∷ page_counts j) g → g.number < 2 ^ 32
-placed_low j g v placed =
-    let low : g.number < get_or (0 ∷ page_counts j) g.enclave 0 = placed.within in
-    let most = at_most_sum (0 ∷ page_counts j) g.enclave in
-    let first = sum_by-cons (λ n. n) 0 (page_counts j) in
-    let few = few_places j v in omega (arith, low, most, first, few)
+pub placed_low : (j : JobView) (g : Page) → IsValid j → IsPlaced (job_counts j) g → g.number < 2 ^ 32
+placed_low j g v placed = by_name (is_va_page g) (g.number == SECS_NUMBER) refl (place_within (job_counts j) g placed)
+  where
+    by_name : (va last : Bool) → (g.number == SECS_NUMBER) ≡ last
+        → (if va then length (job_counts j).own + g.number
+        else if not va && last then g.enclave - 1
+        else length (job_counts j).own + (job_counts j).arrays + sum (take (g.enclave - 1) (job_counts j).own) + g.number)
+        < total (job_counts j) → g.number < 2 ^ 32
+    by_name true last is low = let few = few_places j v in omega (arith, low, few)
+    by_name false true is low = let same : g.number ≡ SECS_NUMBER = eqb-true g.number SECS_NUMBER is in omega (arith, same)
+    by_name false false is low = let few = few_places j v in omega (arith, low, few)
 
 -- ---- state save pages
 

@@ -14,8 +14,7 @@ use Rattle.sgx_types.specs.declared.names.Perm.{Perm}
 use Rattle.sgx_rules.specs.declared.refusals.Refusal.TheVariants as why
 use Rattle.sgx_rules.specs.Flat.{at_offset}
 use Rattle.sgx_types.specs.Pages.{page_at, same_page}
-use Rattle.sgx_rules.specs.Frames.{content, is_page}
-use Rattle.sgx_types.specs.Making.{Making}
+use Rattle.sgx_rules.specs.Frames.{Content, Free, Holds, IsLoading, IsVa, SecsOf, content, is_page, stands}
 use Rattle.sgx_rules.specs.Processors.{Seat, Stay, stay}
 use Rattle.sgx_rules.specs.Sights.{seat_of}
 use Rattle.sgx_rules.specs.Table.{FrameSight, access_row, allows_read, allows_update, allows_write, fill_row, first_of_row}
@@ -29,17 +28,17 @@ use Rattle.active_list.specs.inner.Places.{IsPlaced}
 use Rattle.paging_laws.specs.inner.Columns.{seat_of_stay}
 use Rattle.paging_laws.specs.inner.State.{State, enter_sight, row_of, seat_enclave, translation}
 use Rattle.paging_laws.proofs.AccessLaws.{outside_refused}
-use Rattle.paging_laws.proofs.ColumnLaws.{inside_is}
+use Rattle.paging_laws.proofs.ColumnLaws.{content_is, inside_is}
 use Rattle.paging_laws.proofs.Contents.{tcs_no_reg}
 use Rattle.paging_laws.proofs.EntryLaws.{enters as enters_by_row}
 use Rattle.paging_machine.specs.inner.Parts.{Parts, cpu_at, seat_of_mode, state_of}
 use Rattle.driver_rules.specs.Places.{frame_here, is_of_stay, is_offset_of_stay, place, uses}
+use Rattle.driver_laws.specs.inner.Agrees.{Keeping}
 use Rattle.driver_laws.proofs.PlaceLaws.{here_there, holds_one, stands_there}
 use Rattle.driver_tables.specs.declared.driver.Driver.{Driver}
-use Rattle.driver_steps.specs.inner.Agrees.{Agrees}
 use Rattle.turn_tables.specs.declared.turns.Turns.{Turns}
 use Rattle.turn_tables.specs.inner.Asked.{last_save_of, next_save_of}
-use Rattle.turn_tables.specs.inner.Due.{IsOrderly}
+use Rattle.turn_tables.specs.inner.Due.{IsOrderly, IsShown}
 use Rattle.turn_tables.specs.inner.Holding.{page_inside_of}
 use Rattle.turn_tables.specs.inner.Shown.{ShowsTurns}
 use Rattle.turn_tables.specs.inner.TcsTurns.{tcs_at}
@@ -85,22 +84,37 @@ fill_inside : (n : ℕ) (o : Option Seat) (v : FrameSight) → first_of_row (fil
 fill_inside n None v row = absurd (outside_refused n v row)
 fill_inside n (Some seat) v row = refl
 
+-- the frames differ, and the second one holds a REG page
+record TwoFrames (s : State) (tf sf : Frame) : Type 0 where
+  apart : tf.0 ≢ sf.0
+  reg : is_reg (s.content sf.0) ≡ true
+
 -- who enters or resumes names two frames: one of a TCS page, and one of a REG page
 module _ (s : State) (c : Cpu) (e t : ℕ) (tf sf : Frame) where
   two_frames : is_tcs (s.content tf.0) ≡ true → is_reg (s.content sf.0) ≡ true → tf.0 ≢ sf.0
   two_frames tcs reg same = tcs_no_reg (s.content tf.0) tcs (subst (λ n. is_reg (s.content n) ≡ true) (sym same) reg)
 
-  enter_frames : first_of_row (row_of s (actors.Cpu c) (actions.Enter e t tf sf)) ≡ None → tf.0 ≢ sf.0
+  enter_frames : first_of_row (row_of s (actors.Cpu c) (actions.Enter e t tf sf)) ≡ None → TwoFrames s tf sf
   enter_frames row =
       let v = enter_sight s c.0 (seat_of e t tf.0 sf.0) in
       let facts = enters_by_row e t v (when (v.fields.cssa == v.fields.nssa) why.NoFrame) (v.fields.ossa + v.fields.cssa) row in
-      two_frames (not_false (is_tcs (s.content tf.0)) facts.tcs_kind) (not_false (is_reg (s.content sf.0)) facts.ssa_kind)
+      let reg = not_false (is_reg (s.content sf.0)) facts.ssa_kind in
+      record { apart = two_frames (not_false (is_tcs (s.content tf.0)) facts.tcs_kind) reg; reg = reg }
 
-  resume_frames : first_of_row (row_of s (actors.Cpu c) (actions.Resume e t tf sf)) ≡ None → tf.0 ≢ sf.0
+  resume_frames : first_of_row (row_of s (actors.Cpu c) (actions.Resume e t tf sf)) ≡ None → TwoFrames s tf sf
   resume_frames row =
       let v = enter_sight s c.0 (seat_of e t tf.0 sf.0) in
       let facts = enters_by_row e t v (when (v.fields.cssa == 0) why.NoSaved) (v.fields.ossa + v.fields.cssa - 1) row in
-      two_frames (not_false (is_tcs (s.content tf.0)) facts.tcs_kind) (not_false (is_reg (s.content sf.0)) facts.ssa_kind)
+      let reg = not_false (is_reg (s.content sf.0)) facts.ssa_kind in
+      record { apart = two_frames (not_false (is_tcs (s.content tf.0)) facts.tcs_kind) reg; reg = reg }
+
+-- a frame with a REG page has that page by its kind
+reg_stands : (c : Content) (g : Page) → is_reg c ≡ true → is_page c g ≡ stands c g
+reg_stands Free g h = cc
+reg_stands (IsLoading page) g h = cc
+reg_stands (IsVa number) g h = cc
+reg_stands (SecsOf enclave) g h = cc
+reg_stands (Holds page kind perm) g h = refl
 
 -- ---- the pages that are used
 
@@ -119,18 +133,18 @@ pub record UsesBoth (past : List Entry) (c : Cpu) (action : Action) (tcs : Page)
   pub there : There past page
   pub only : (g : Page) → uses past (actors.Cpu c) action g ≡ (same_page tcs g || same_page page g)
 
-module _ (made : Making) (j : JobView) (past : List Entry) (d : Driver) (m : Parts) (t : Turns) (agrees : Agrees made j past d m)
+module _ (keeping : Keeping) (j : JobView) (past : List Entry) (d : Driver) (m : Parts) (t : Turns) (shown : IsShown keeping j past d m)
     (shows : ShowsTurns j past t)
     (orderly : IsOrderly j past)
     (c : Cpu) (before : Mode) (stood : before ≡ (cpu_at m c.0).mode) where
   low : (g : Page) → There past g → g.number < 2 ^ 32
   low g there =
       placed_low j g shows.valid
-      (subst (λ counts. IsPlaced counts g) (agrees.shows.counts ∙ agrees.shows.of_job) (agrees.shows.placed g there))
+      (subst (λ counts. IsPlaced counts g) (shown.shows.counts ∙ shown.shows.of_job) (shown.shows.placed g there))
 
   inside : is_some ((state_of m).inside c.0) ≡ true → IsIn before (stay past c.0)
   inside h =
-      is_in before (stay past c.0) (ap seat_of_mode stood ∙ inside_is agrees.follows.shape.columns c.0)
+      is_in before (stay past c.0) (ap seat_of_mode stood ∙ inside_is shown.columns c.0)
       (ap (λ x. is_some (seat_of_mode x)) stood ∙ h)
 
   pub fill_use : (n : ℕ) (f : Frame) → first_of_row (row_of (state_of m) (actors.Cpu c) (actions.Fill n f)) ≡ None
@@ -179,34 +193,38 @@ module _ (made : Making) (j : JobView) (past : List Entry) (d : Driver) (m : Par
       (access_inside off (is_some ((state_of m).inside c.0)) (held off) allows_update row) names
 
   -- a frame that is named holds the state save page alone
-  in_frame : (h : Page) (n : ℕ) → frame_here (place past h) ≡ Some n → (g : Page) → is_page (content past n) g ≡ same_page h g
-  in_frame h n here g =
-      holds_one (content past n) h g (agrees.sound.places.frames h n ∙ stands_there (place past h) n here)
+  in_frame : (h : Page) (n : ℕ) → frame_here (place past h) ≡ Some n → is_reg ((state_of m).content n) ≡ true
+      → (g : Page) → is_page (content past n) g ≡ same_page h g
+  in_frame h n here reg g =
+      reg_stands (content past n) g (ap is_reg (sym (content_is shown.columns n)) ∙ reg)
+      ∙ holds_one (content past n) h g (shown.sound.places.frames h n ∙ stands_there (place past h) n here)
 
   pub enter_use : (e n : ℕ) (tf sf : Frame) → first_of_row (row_of (state_of m) (actors.Cpu c) (actions.Enter e n tf sf)) ≡ None
       → Names j past c.0 (actions.Enter e n tf sf)
       → UsesBoth past c (actions.Enter e n tf sf) (page_at e n) (next_save_of e (tcs_at t.tcs (page_at e n)))
   enter_use e n tf sf row names =
-      let k = names (enter_frames (state_of m) c e n tf sf row) in
+      let two = enter_frames (state_of m) c e n tf sf row in
+      let k = names two.apart in
       let there : There past k.page = here_there (place past k.page) sf.0 k.save_here in
       record {
         page = k.page;
         is = enter_save j past t shows orderly e n k.page (low k.page there) k.is;
         tcs_there = here_there (place past (page_at e n)) tf.0 k.tcs_here;
         there = there;
-        only = λ g. ap (λ b. same_page (page_at e n) g || b) (in_frame k.page sf.0 k.save_here g);
+        only = λ g. ap (λ b. same_page (page_at e n) g || b) (in_frame k.page sf.0 k.save_here two.reg g);
       }
 
   pub resume_use : (e n : ℕ) (tf sf : Frame) → first_of_row (row_of (state_of m) (actors.Cpu c) (actions.Resume e n tf sf)) ≡ None
       → Names j past c.0 (actions.Resume e n tf sf)
       → UsesBoth past c (actions.Resume e n tf sf) (page_at e n) (last_save_of e (tcs_at t.tcs (page_at e n)))
   resume_use e n tf sf row names =
-      let k = names (resume_frames (state_of m) c e n tf sf row) in
+      let two = resume_frames (state_of m) c e n tf sf row in
+      let k = names two.apart in
       let there : There past k.page = here_there (place past k.page) sf.0 k.save_here in
       record {
         page = k.page;
         is = resume_save j past t shows orderly e n k.page (low k.page there) k.is;
         tcs_there = here_there (place past (page_at e n)) tf.0 k.tcs_here;
         there = there;
-        only = λ g. ap (λ b. same_page (page_at e n) g || b) (in_frame k.page sf.0 k.save_here g);
+        only = λ g. ap (λ b. same_page (page_at e n) g || b) (in_frame k.page sf.0 k.save_here two.reg g);
       }

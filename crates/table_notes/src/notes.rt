@@ -3,46 +3,62 @@
 ghost use Rattle.std.specs.Prelude.{◌≡◌, IfSome};
 ghost use Rattle.active_list.specs.inner.Places.{IsPlaced};
 ghost use Rattle.table_notes.specs.inner.Noted.{AreNoted, CanNoteTables};
-ghost use Rattle.table_notes.specs.inner.Noting.{Does, DoesEvent, Fits, FitsEvent, offset_inside_of, touching};
+ghost use Rattle.table_notes.specs.inner.Noting.{Does, DoesEvent, Fits, FitsAnswer, FitsEvent, MakesArray, first_slot, offset_inside_of};
+ghost use Rattle.table_notes.specs.inner.Noting.{touching};
 ghost use Rattle.turn_tables.specs.inner.Holding.{page_inside_of};
 
 use cached_translations::processor::Mode;
 use driver_tables::driver::Driver;
-use sgx_rules::entries::{Action, Entry, Event};
-use sgx_types::names::Page;
+use sgx_rules::entries::{Action, Answer, Entry, Event};
+use sgx_types::names::{Frame, Page, SECS_NUMBER};
 use turn_tables::operations::page_of;
 use turn_tables::turns::Turns;
 
 /// Brings the driver's tables to the entry of an instruction that moves no page out or back, before the entry is noted in `turns`. `before`
-/// is how the entry's processor stood before it. A version array page that was made gives its slots, a page that was added is here and
-/// listed as the last, and the pages that a processor uses are young: that of a translation or of an access, and the TCS page and the state
-/// save page by which it enters or resumes. A refused instruction changes nothing. Constant time.
+/// is how the entry's processor stood before it. A version array page that was made is here and gives its slots: page 0 those from `first`
+/// on, and any other page all. The SECS of an enclave that was created is here. A page that was added is here and listed as the last, and
+/// the pages that a processor uses are young: that of a translation or of an access, and the TCS page and the state save page by which it
+/// enters or resumes. A refused instruction changes nothing. Constant time.
 #[inline(always)]
-pub fn note_tables(turns: &Turns, driver: &mut Driver, before: Mode, entry: &Entry)
-    requires { CanNoteTables turns.now driver.old before entry.now }
-    ensures { (can : CanNoteTables turns.now driver.old before entry.now)
-        → AreNoted can.j can.past driver.old entry.now driver.new }
+pub fn note_tables(turns: &Turns, driver: &mut Driver, first: u16, before: Mode, entry: &Entry)
+    requires { CanNoteTables turns.now driver.old first before entry.now }
+    ensures { (can : CanNoteTables turns.now driver.old first before entry.now)
+        → AreNoted can.keeping can.j can.past driver.old entry.now driver.new }
 {
-    note_event(turns, driver, before, &entry.event);
+    note_event(turns, driver, first, before, &entry.event);
 }
 
 // Brings the tables to an entry with this event. A refused instruction changes nothing.
-fn note_event(turns: &Turns, driver: &mut Driver, before: Mode, event: &Event)
-    requires { FitsEvent turns.now before event.now driver.old }
-    ensures { DoesEvent turns.now before event.now driver.old driver.new }
+fn note_event(turns: &Turns, driver: &mut Driver, first: u16, before: Mode, event: &Event)
+    requires { FitsEvent turns.now first before event.now driver.old }
+    ensures { DoesEvent turns.now first before event.now driver.old driver.new }
 {
-    if let Event::Did { action, .. } = event {
-        note_done(turns, driver, before, action);
+    if let Event::Did { action, answer } = event {
+        note_done(turns, driver, first, before, action, answer);
     }
 }
 
 // An instruction was done.
-fn note_done(turns: &Turns, driver: &mut Driver, before: Mode, action: &Action)
-    requires { Fits turns.now before action.now driver.old }
-    ensures { Does turns.now before action.now driver.old driver.new }
+fn note_done(
+    turns: &Turns,
+    driver: &mut Driver,
+    first: u16,
+    before: Mode,
+    action: &Action,
+    answer: &Answer,
+)
+    requires { Fits turns.now first before action.now answer.now driver.old }
+    ensures { Does turns.now first before action.now answer.now driver.old driver.new }
 {
     match *action {
-        Action::Epa { frame } => driver.slots.add(frame),
+        Action::Epa { frame } => note_array(driver, first, frame, answer),
+        Action::Create { enclave, frame, .. } => {
+            let secs = Page {
+                enclave,
+                number: SECS_NUMBER,
+            };
+            driver.arrive(secs, frame);
+        }
         Action::Add {
             enclave,
             number,
@@ -69,6 +85,23 @@ fn note_done(turns: &Turns, driver: &mut Driver, before: Mode, action: &Action)
         }
         _ => {}
     }
+}
+
+// A version array page was made, by the number that it was told by.
+fn note_array(driver: &mut Driver, first: u16, frame: Frame, answer: &Answer)
+    requires { FitsAnswer driver.old first answer.now }
+    ensures { MakesArray first frame answer.now driver.old driver.new }
+{
+    if let Answer::Va(va) = *answer {
+        driver.add_array(va, first_slot(first, va), frame);
+    }
+}
+
+// The first slot of a version array page that the keeper has, where it has those of page 0 from this one on.
+fn first_slot(first: u16, va: u32) -> u16
+    ensures { result ≡ first_slot first va }
+{
+    if va == 0 { first } else { 0 }
 }
 
 // Marks a page as young, if there is one.

@@ -1,20 +1,25 @@
 -- All stands for the trace with an entry that keeps each rule.
-use Rattle.std.proofs.Common.{◌≡◌, ℕ, ◌≤◌, refl, sym, subst, ◌∙◌, List, ◌∷◌, Option, length, count_by}
+use Rattle.std.proofs.Common.{◌≡◌, ℕ, ◌≤◌, refl, sym, ap, subst, ◌∙◌, List, ◌∷◌, Option, length, count_by}
 use Rattle.sgx_rules.specs.declared.entries.Entry.{Entry}
 use Rattle.sgx_types.specs.declared.names.Page.{Page}
+use Rattle.sgx_rules.specs.Frames.{vas_made}
+use Rattle.sgx_rules.specs.Slots.{open_slot}
 use Rattle.cached_translations.specs.declared.processor.Mode.{Mode}
 use Rattle.job_grammar.specs.declared.jobs.Marks.{Marks}
 use Rattle.job_grammar.specs.Jobs.{JobView}
 use Rattle.turn_rules.specs.Machines.{machine_of}
 use Rattle.paging_machine.specs.declared.starts.Start as starts
 use Rattle.epcm_entry.specs.inner.Epc.{is_free_frame}
-use Rattle.driver_rules.specs.Passes.{free_count}
+use Rattle.driver_rules.specs.Passes.{free_count, pass, pass_after}
+use Rattle.driver_rules.specs.Places.{is_here, place}
+use Rattle.driver_rules.specs.Spares.{outs}
 use Rattle.driver_rules.specs.Scripts.{ScriptRule}
+use Rattle.driver_laws.specs.inner.Agrees.{auditors}
 use Rattle.driver_laws.specs.inner.Kinds.{CanMove}
 use Rattle.driver_laws.specs.inner.Three.{IsApart}
 use Rattle.driver_laws.proofs.OwnLaws.{script_own}
 use Rattle.driver_tables.specs.declared.driver.Driver.{Driver}
-use Rattle.driver_steps.specs.inner.Agrees.{Agrees}
+use Rattle.driver_steps.specs.inner.Tells.{Tells}
 use Rattle.active_list.specs.inner.Active.{ActiveList}
 use Rattle.run_history.proofs.HistoryLaws.{three}
 use Rattle.turn_tables.specs.declared.turns.Turns.{Turns}
@@ -26,13 +31,14 @@ use Rattle.turn_tables.proofs.FirstLaws.{counts_few}
 use Rattle.turn_tables.proofs.OrderLaws.{orderly_more}
 use Rattle.run_book.specs.inner.Books.{with_own}
 use Rattle.run_book.proofs.BookLaws.{shows_with}
-use Rattle.run_steps.proofs.EntryLaws.{free_told, is_among, stood_so}
+use Rattle.run_steps.proofs.EntryLaws.{free_told, is_among, start_rests, stood_so}
 use Rattle.audit_laws.specs.inner.Shown.{ShowsTrace}
-use Rattle.audit_laws.proofs.AgreeLaws.{agrees_by_rules, ends_told, lawful_can, lawful_counted}
-use Rattle.audit_pass.specs.inner.Noted.{decided, gone_by}
-use Rattle.audit_pass.specs.inner.Standing.{StandsAt}
-use Rattle.audit_pass.specs.inner.Viewed.{TraceView}
-use Rattle.audit_pass.proofs.NoteLaws.{entry_goes}
+use Rattle.audit_laws.proofs.AgreeLaws.{lawful_can, tells_by_rules, tells_shown}
+use Rattle.audit_laws.proofs.EndLaws.{ends_told}
+use Rattle.reclaim_pass.specs.inner.Noted.{decided, gone_by}
+use Rattle.reclaim_pass.specs.inner.Standing.{StandsAt, StandsFor}
+use Rattle.reclaim_pass.specs.inner.Viewed.{PassView}
+use Rattle.reclaim_pass.proofs.GoLaws.{entry_goes, pass_settles, row_tells}
 use Rattle.audit_tables.specs.inner.Followed as followed
 use Rattle.audit_tables.specs.inner.Followed.{IsFollowed}
 use Rattle.trace_auditor.specs.declared.auditing.Auditing.{Auditing}
@@ -45,8 +51,8 @@ module _ (j : JobView) (a : Auditing) (before : Mode) (start : Option starts.Sta
   positive : 1 ≤ j.start_version
   positive = can.trace.stands.positive
 
-  agrees : Agrees (machine_of j) j past a.driver can.m
-  agrees = agrees_by_rules j past a.driver can.m a.turns can.trace
+  tells : Tells auditors (machine_of j) j past a.driver can.m
+  tells = tells_by_rules j past a.driver can.m a.turns can.trace
 
   script : ScriptRule j past e
   script = can.goes_on.script.0
@@ -73,7 +79,8 @@ module _ (j : JobView) (a : Auditing) (before : Mode) (start : Option starts.Sta
     goes_on = can.goes_on;
     step = can.taken.step;
     stood = can.stood;
-    opened = can.opened;
+    ended = can.ended;
+    begun = can.begun;
   }
 
   pub among : IsAmong (length a.turns.cpus) e.actor
@@ -85,8 +92,8 @@ module _ (j : JobView) (a : Auditing) (before : Mode) (start : Option starts.Sta
   pub can_note : CanNote j past before e
   can_note = record {
     script = script;
-    stood = stood_so past can.m e.actor before agrees.follows.shape.columns can.stood;
-    theirs = agrees.theirs;
+    stood = stood_so past can.m e.actor before tells.follows.shape.columns can.stood;
+    theirs = tells.theirs;
     three = λ p. (apart p).three;
   }
 
@@ -97,15 +104,19 @@ module _ (j : JobView) (a : Auditing) (before : Mode) (start : Option starts.Sta
   followed_by d told = told can_follow
 
   module _ (d : Driver) (f : IsFollowed j past a.driver e d) where
-    pub can_hold : CanHold j d.active before a.turns e
+    pub can_hold : CanHold j d.states d.active before a.turns e
     can_hold = record {
-      made = machine_of j;
+      keeping = auditors;
       past = past;
       d = a.driver;
       m = can.m;
-      agrees = agrees;
+      shown = tells_shown auditors (machine_of j) j past a.driver can.m tells;
       own = f.own;
       counts = f.shows.of_job ∙ sym can.trace.shows.of_job;
+      places = f.shows.counts ∙ f.shows.of_job ∙ sym (can.trace.shows.counts ∙ can.trace.shows.of_job);
+      here = λ n page slot is g placed.
+          ap is_here (f.shows.states g placed)
+          ∙ start_rests (vas_made past) (open_slot past) e.event g (place past g) n page slot is;
       stood = can.stood;
       shows = can.trace.turns;
       orderly = can.trace.orderly;
@@ -115,7 +126,7 @@ module _ (j : JobView) (a : Auditing) (before : Mode) (start : Option starts.Sta
       after = λ p. (apart_behind p).three;
     }
 
-    pub holds_by : (own : List (List Page)) → ((c : CanHold j d.active before a.turns e) → KeepsHolds j own (e ∷ c.past))
+    pub holds_by : (own : List (List Page)) → ((c : CanHold j d.states d.active before a.turns e) → KeepsHolds j own (e ∷ c.past))
         → KeepsHolds j own (e ∷ past)
     unfolding can_hold
     holds_by own told = told can_hold
@@ -129,13 +140,12 @@ module _ (j : JobView) (a : Auditing) (before : Mode) (start : Option starts.Sta
       goes_on = can.goes_on;
       stands = can.taken.stands;
       cpus = can.taken.cpus ∙ can.trace.cpus ∙ can.trace.shows.cpus ∙ sym f.shows.cpus;
-      shows = shows_with j d (e ∷ past) own f.shows;
-      counted = lawful_counted j past e positive can.goes_on a.driver.slots d.slots f.counts can.trace.counted;
+      shows = shows_with auditors j d (e ∷ past) own f.shows;
       holds = holds;
       turns = shows;
       orderly = orderly_more j past e can.trace.turns.valid can.trace.tcs (λ p. (apart p).own) moves script
           can.taken.enters can.trace.orderly;
-      ends = ends_told (machine_of j) past e can.goes_on.refusal.1.0 can.trace.ends;
+      ends = ends_told (machine_of j) j past e can.goes_on.refusal.1.0 script can.trace.ends;
     }
 
     -- as many frames are free as the entries say
@@ -144,16 +154,13 @@ module _ (j : JobView) (a : Auditing) (before : Mode) (start : Option starts.Sta
 
     stands : StandsAt j.start_epoch j (e ∷ past) (decided j.marks (count_by is_free_frame a.machine.epc) a.pass)
     stands =
-        subst (λ v. StandsAt j.start_epoch j (e ∷ past) (decided j.marks (count_by is_free_frame a.machine.epc) v)) (sym can.gone)
-        (subst (λ marks. StandsAt j.start_epoch j (e ∷ past)
-        (decided marks (count_by is_free_frame a.machine.epc) (gone_by a.driver can.m e.actor e.event can.v))) can.trace.shows.marks
-        (entry_goes (machine_of j) j past a.driver can.m agrees scan can.v (count_by is_free_frame a.machine.epc) e free
-        can.goes_on.age.1.0 can.goes_on.refusal.1.0 (script_own j past e script) moves can.pass))
-      where
-        scan : j.marks.scan ≤ 64
-        scan = can.trace.turns.valid.marks.4
+        pass_settles j.start_epoch j (e ∷ past) a.pass (count_by is_free_frame a.machine.epc) (free_count j.epc (e ∷ past))
+        (pass_after j past e.actor e.event (pass j past)) free
+        (subst (λ v. StandsFor j.start_epoch (e ∷ past) v (pass_after j past e.actor e.event (pass j past))) (sym can.gone)
+        (entry_goes auditors (machine_of j) j past a.driver can.m tells can.v (outs j past) e can.goes_on.age.1.0
+        (row_tells (machine_of j) past e can.goes_on.refusal.1.0) (script_own j past e script) moves can.pass))
 
-    pub all_follows : (own : List (List Page)) (t : Turns) (v : TraceView) (new : Auditing) → KeepsHolds j own (e ∷ past)
+    pub all_follows : (own : List (List Page)) (t : Turns) (v : PassView) (new : Auditing) → KeepsHolds j own (e ∷ past)
         → ShowsTurns j (e ∷ past) t → v ≡ decided j.marks (count_by is_free_frame a.machine.epc) a.pass
         → new ≡ record a { driver = with_own d own; turns = t; pass = v } → KeepsAudit j (e ∷ past) new
     all_follows own t v new holds shows settled is = subst (KeepsAudit j (e ∷ past)) (sym is) (record {
@@ -165,11 +172,11 @@ module _ (j : JobView) (a : Auditing) (before : Mode) (start : Option starts.Sta
 
 -- ---- what the calls leave
 
-pub settled_with : {marks marks' : Marks} {free free' : ℕ} (v : TraceView) → marks ≡ marks' → free ≡ free'
+pub settled_with : {marks marks' : Marks} {free free' : ℕ} (v : PassView) → marks ≡ marks' → free ≡ free'
     → decided marks free v ≡ decided marks' free' v
 settled_with v one other = λ i. decided (one i) (other i) v
 
-pub with_list : (a : Auditing) (d : Driver) (list : ActiveList) (t : Turns) (v : TraceView)
+pub with_list : (a : Auditing) (d : Driver) (list : ActiveList) (t : Turns) (v : PassView)
     → list ≡ record d.active { own = list.own }
     → record a { driver = record d { active = list }; turns = t; pass = v } ≡ record a { driver = with_own d list.own; turns = t; pass = v }
 with_list a d list t v only = λ i. record a { driver = record d { active = only i }; turns = t; pass = v }

@@ -1,8 +1,13 @@
 -- What is said of one entry.
-use Rattle.std.proofs.Common.{◌≡◌, ℕ, Bool, true, false, sym, subst, ◌∙◌, List, [], ◌∷◌, Option, Some, None, is_some}
+use Rattle.std.proofs.Common.{◌≡◌, ℕ, Bool, true, false, refl, sym, ap, subst, ◌∙◌, List, [], ◌∷◌, Option, Some, None, is_some}
 use Rattle.std.proofs.Common.{length}
 use Rattle.std.proofs.lemmas.Bool.{false≢true}
 use Rattle.sgx_rules.specs.declared.entries.Entry.{Entry}
+use Rattle.sgx_rules.specs.declared.entries.Action.TheVariants.{EldStart, EwbStart}
+use Rattle.sgx_rules.specs.declared.entries.Event.{Event}
+use Rattle.sgx_rules.specs.declared.entries.Event.TheVariants.{Age, Bus, Did, Kick, Refused}
+use Rattle.sgx_types.specs.declared.names.Actor.{Actor}
+use Rattle.sgx_types.specs.declared.names.Actor.TheVariants as actors
 use Rattle.sgx_types.specs.declared.names.Frame.{Frame}
 use Rattle.sgx_types.specs.Making.{Making}
 use Rattle.sgx_rules.specs.Rules.{Along}
@@ -14,10 +19,14 @@ use Rattle.paging_laws.proofs.ColumnLaws.{start_is}
 use Rattle.paging_machine.specs.declared.starts.Start as starts
 use Rattle.paging_machine.specs.inner.Parts.{Parts, start_of, state_of}
 use Rattle.driver_rules.specs.Ages.{AgeRule, KickRule}
-use Rattle.driver_rules.specs.inner.Decided.{is_ended, keeps_age, keeps_kick, keeps_script}
+use Rattle.driver_rules.specs.inner.Decided.{is_ended, keeps_age, keeps_age_by, keeps_kick, keeps_script}
+use Rattle.driver_rules.specs.Places.{place}
 use Rattle.driver_rules.specs.Scripts.{ScriptRule}
+use Rattle.driver_rules.specs.Spares.{Outs, outs}
+use Rattle.driver_laws.specs.inner.Agrees.{auditors, Keeping}
+use Rattle.driver_laws.proofs.SoundLaws.{entry_of}
 use Rattle.driver_rules.proofs.DecidedLaws.{age_tells, kick_tells, script_tells}
-use Rattle.driver_steps.specs.inner.Agrees.{Agrees}
+use Rattle.driver_steps.specs.inner.Tells.{Tells}
 use Rattle.driver_tables.specs.declared.driver.Driver.{Driver}
 use Rattle.driver_tables.specs.inner.Held.{ShowsHolds}
 use Rattle.run_history.specs.declared.rules.Rule.{Rule}
@@ -25,21 +34,26 @@ use Rattle.run_history.specs.declared.rules.Rule.TheVariants as rules
 use Rattle.run_history.specs.Histories.{Before, FailsHere, Says}
 use Rattle.run_history.specs.inner.Histories.{GoesOn}
 use Rattle.run_steps.proofs.EntryLaws.{is_among}
-use Rattle.turn_tables.specs.inner.Due.{IsOrderly, IsReady}
+use Rattle.turn_tables.specs.inner.Due.{IsOrderly, IsReady, IsShown}
 use Rattle.turn_tables.specs.inner.Ending.{EndsAreTold}
 use Rattle.turn_tables.specs.inner.Holding.{mode_of}
 use Rattle.turn_tables.specs.inner.Noting.{IsAmong}
 use Rattle.turn_tables.specs.inner.Shown.{ShowsTurns}
 use Rattle.audit_rules.specs.inner.Rivals.{KeepsMachines}
 use Rattle.audit_rules.proofs.OrderLaws.{age_fails, kick_fails}
-use Rattle.audit_laws.proofs.AgreeLaws.{agrees_by_rules}
+use Rattle.audit_laws.proofs.AgreeLaws.{tells_by_rules, tells_shown}
 use Rattle.audit_machine.proofs.KeptLaws.{last_kept}
-use Rattle.audit_pass.specs.inner.Noted.{gone_by}
-use Rattle.audit_pass.specs.inner.Standing.{StandsAt}
-use Rattle.audit_pass.specs.inner.Viewed.{TraceView}
-use Rattle.audit_tables.specs.inner.Followed.{frame_ended}
+use Rattle.reclaim_pass.specs.inner.Dues.{CanBeDue, HasAllSlots, ShowsOuts}
+use Rattle.reclaim_pass.specs.inner.Noted.{gone_by, IsSeen}
+use Rattle.reclaim_pass.specs.inner.Standing.{StandsAt}
+use Rattle.reclaim_pass.specs.inner.Viewed.{PassView}
+use Rattle.reclaim_pass.proofs.DueLaws.{can_be_due}
+use Rattle.audit_tables.specs.inner.Followed.{frame_begun, frame_ended}
+use Rattle.audit_tables.proofs.SpareLaws.{looked_here}
+use Rattle.audit_tables.proofs.StartLaws.{here_there}
 use Rattle.trace_auditor.specs.declared.auditing.Auditing.{Auditing}
 use Rattle.trace_auditor.specs.inner.Audits.{CanAsk, CanFollow, IsAnswered, IsAsked, IsAuditing, IsJudged, KeepsAudit}
+use Rattle.trace_auditor.proofs.OutLaws.{all_slots, outs_shown}
 use Rattle.trace_auditor.proofs.RuleLaws.{goes_on_more, script_fails}
 
 -- each entry is its actor's next
@@ -48,33 +62,36 @@ along j [] h = tt
 along j (x ∷ before) h = (h.0, along j before h.1)
 
 module _ (j : JobView) (a : Auditing) (at : IsAuditing j a) where
-  pub its_agreement : Agrees (machine_of j) j at.past a.driver a.machine
-  its_agreement = agrees_by_rules j at.past a.driver a.machine a.turns at.keeps.trace
+  pub its_tables : Tells auditors (machine_of j) j at.past a.driver a.machine
+  its_tables = tells_by_rules j at.past a.driver a.machine a.turns at.keeps.trace
+
+  pub its_shown : IsShown auditors j at.past a.driver a.machine
+  its_shown = tells_shown auditors (machine_of j) j at.past a.driver a.machine its_tables
 
   pub ready : IsReady j a.driver a.machine a.turns
-  ready = record { made = machine_of j; past = at.past; agrees = its_agreement; shows = at.keeps.trace.turns }
+  ready = record { keeping = auditors; past = at.past; shown = its_shown; shows = at.keeps.trace.turns }
 
-  pub ended_told : (b : Bool) → ((made : Making) (past : List Entry) → Agrees made j past a.driver a.machine → ShowsTurns j past a.turns
+  pub ended_told : (b : Bool) → ((k : Keeping) (past : List Entry) → IsShown k j past a.driver a.machine → ShowsTurns j past a.turns
       → Along (ScriptRule j) past → EndsAreTold past → b ≡ is_ended j past) → b ≡ is_ended j at.past
   ended_told b told =
-      told (machine_of j) at.past its_agreement at.keeps.trace.turns (along j at.past at.keeps.trace.goes_on.script) at.keeps.trace.ends
+      told auditors at.past its_shown at.keeps.trace.turns (along j at.past at.keeps.trace.goes_on.script) at.keeps.trace.ends
 
 module _ (j : JobView) (a : Auditing) (e : Entry) (at : IsAuditing j a) where
   abbrev past : List Entry
   past = at.past
 
-  agrees : Agrees (machine_of j) j at.past a.driver a.machine
-  agrees = its_agreement j a at
+  tells : Tells auditors (machine_of j) j at.past a.driver a.machine
+  tells = its_tables j a at
 
   -- ---- Script
 
   -- what is told of Script is so
   abbrev ToldScript : Bool → Type 0
-  ToldScript b = (made : Making) (past : List Entry) → Agrees made j past a.driver a.machine → IsOrderly j past → ShowsTurns j past a.turns
+  ToldScript b = (k : Keeping) (past : List Entry) → IsShown k j past a.driver a.machine → IsOrderly j past → ShowsTurns j past a.turns
       → b ≡ keeps_script j past e
 
   script_is : (b : Bool) → ToldScript b → b ≡ keeps_script j past e
-  script_is b told = told (machine_of j) past agrees at.keeps.trace.orderly at.keeps.trace.turns
+  script_is b told = told auditors past (its_shown j a at) at.keeps.trace.orderly at.keeps.trace.turns
 
   pub script_kept : (b : Bool) → ToldScript b → b ≡ true → ScriptRule j past e
   script_kept b told is = (script_tells j past e).0 (sym (script_is b told) ∙ is)
@@ -89,21 +106,21 @@ module _ (j : JobView) (a : Auditing) (e : Entry) (at : IsAuditing j a) where
         (at.keeps.trace.turns.each ∙ sym (at.keeps.trace.cpus ∙ at.keeps.trace.shows.cpus))
         (is_among j past a.turns e.actor e.event at.keeps.trace.turns.each script.next)
 
-    pub can_ask : (v : TraceView) → CanAsk (record a { pass = v }) e
+    pub can_ask : (v : PassView) → CanAsk (record a { pass = v }) e
     can_ask v = record { j = j; past = past; trace = at.keeps.trace; records = at.keeps.records; script = script }
 
-    pub answered_by : (v : TraceView) (new : Auditing) (broken : Option Rule)
+    pub answered_by : (v : PassView) (new : Auditing) (broken : Option Rule)
         → ((can : CanAsk (record a { pass = v }) e) → IsAnswered can.j can.past (record a { pass = v }) e new broken)
         → IsAnswered j past (record a { pass = v }) e new broken
     unfolding can_ask
     answered_by v new broken told = told (can_ask v)
 
-    pub broken_judged : (v : TraceView) (new : Auditing) (broken : Option Rule) → is_some broken ≡ true
+    pub broken_judged : (v : PassView) (new : Auditing) (broken : Option Rule) → is_some broken ≡ true
         → IsAnswered j past (record a { pass = v }) e new broken → IsJudged j past e new broken
     broken_judged v new None some told = absurd (false≢true some)
     broken_judged v new (Some rule) some told = told
 
-    pub asked_by : (v : TraceView) (new : Auditing) (broken : Option Rule) → is_some broken ≡ false
+    pub asked_by : (v : PassView) (new : Auditing) (broken : Option Rule) → is_some broken ≡ false
         → IsAnswered j past (record a { pass = v }) e new broken → IsAsked j past (record a { pass = v }) e new
     asked_by v new None some told = told
     asked_by v new (Some rule) some told = absurd (false≢true (sym some))
@@ -111,29 +128,51 @@ module _ (j : JobView) (a : Auditing) (e : Entry) (at : IsAuditing j a) where
     -- ---- Age and Kick
 
     abbrev ToldAge : Bool → Type 0
-    ToldAge b = (first : ℕ) (made : Making) (j : JobView) (past : List Entry) (m : Parts) → Agrees made j past a.driver m
-        → ShowsHolds j a.driver.active.own past → StandsAt first j past a.pass → b ≡ keeps_age j past e
+    ToldAge b = (k : Keeping) (made : Making) (j : JobView) (past : List Entry) (out : Outs) → Tells k made j past a.driver a.machine
+        → HasAllSlots k → ShowsOuts a.driver.slots past out → ShowsHolds j a.driver.active.own past
+        → StandsAt made.first_epoch j past a.pass → b ≡ keeps_age_by j past out e
 
     age_is : (b : Bool) → ToldAge b → b ≡ keeps_age j past e
-    age_is b told = told j.start_epoch (machine_of j) j past a.machine agrees at.keeps.trace.holds.shows at.keeps.pass
+    age_is b told =
+        told auditors (machine_of j) j past (outs j past) tells all_slots (outs_shown (machine_of j) j past a.driver a.machine tells)
+        at.keeps.trace.holds.shows at.keeps.pass
 
     abbrev ToldKick : Bool → Type 0
-    ToldKick b = (made : Making) (j : JobView) (past : List Entry) (d : Driver) → Agrees made j past d a.machine
+    ToldKick b = (k : Keeping) (made : Making) (j : JobView) (past : List Entry) (d : Driver) → Tells k made j past d a.machine
         → StandsAt made.first_epoch j past a.pass → b ≡ keeps_kick j past e
 
     kick_is : (b : Bool) → ToldKick b → b ≡ keeps_kick j past e
-    kick_is b told = told (machine_of j) j past a.driver agrees at.keeps.pass
+    kick_is b told = told auditors (machine_of j) j past a.driver tells at.keeps.pass
 
-    module _ (v : TraceView) (new : Auditing) (asked : IsAsked j past (record a { pass = v }) e new) where
+    -- what is due besides can be asked for
+    pub can_be : CanBeDue a.driver (state_of a.machine) a.pass.behind
+    can_be = can_be_due auditors (machine_of j) j past a.driver a.machine tells a.pass at.keeps.pass
+
+    -- a page that is looked at has its place
+    pub seen : (b : Bool) → ToldAge b → b ≡ true → IsSeen a.driver e.actor e.event
+    seen b told is = by_entry e.actor e.event ((age_tells j past (outs j past) e).0 (sym (age_is b told) ∙ is))
+      where
+        by_entry : (x : Actor) (ev : Event) → AgeRule j past (entry_of x ev) → IsSeen a.driver x ev
+        by_entry actors.Reclaimer (Age page look) age =
+            tells.shows.placed page (here_there (place past page) (looked_here j past page look tells.sound age))
+        by_entry actors.Reclaimer (Did action answer) age = tt
+        by_entry actors.Reclaimer (Refused action refusal) age = tt
+        by_entry actors.Reclaimer (Kick cpu) age = tt
+        by_entry actors.Reclaimer (Bus page reason) age = tt
+        by_entry actors.Builder ev age = tt
+        by_entry (actors.Cpu c) ev age = tt
+
+    module _ (v : PassView) (new : Auditing) (asked : IsAsked j past (record a { pass = v }) e new) where
       machines : KeepsMachines j past e
       machines = last_kept j (state_of new.machine) past e (made_by j.key (e ∷ past)) asked.taken.stands
 
       pub age_broken : (b : Bool) → ToldAge b → b ≡ false → FailsHere j past (Some e) rules.Age
-      age_broken b told is = age_fails j past e script machines (λ h. false≢true (sym is ∙ age_is b told ∙ (age_tells j past e).1 h))
+      age_broken b told is = age_fails j past e script machines
+          (λ h. false≢true (sym is ∙ age_is b told ∙ (age_tells j past (outs j past) e).1 h))
 
       module _ (b : Bool) (told : ToldAge b) (yes : b ≡ true) where
         age : AgeRule j past e
-        age = (age_tells j past e).0 (sym (age_is b told) ∙ yes)
+        age = (age_tells j past (outs j past) e).0 (sym (age_is b told) ∙ yes)
 
         pub kick_broken : (k : Bool) → ToldKick k → k ≡ false → FailsHere j past (Some e) rules.Kick
         kick_broken k said is =
@@ -150,7 +189,8 @@ module _ (j : JobView) (a : Auditing) (e : Entry) (at : IsAuditing j a) where
 
           module _ (before : Mode) (start : Option starts.Start) (stood : before ≡ mode_of a.machine e.actor)
               (ends : (f : Frame) → frame_ended e.event ≡ Some f → start_of start ≡ (state_of a.machine).start f.0)
-              (gone : v ≡ gone_by a.driver a.machine e.actor e.event a.pass)
+              (begins : (f : Frame) → frame_begun e.event ≡ Some f → start_of start ≡ (state_of new.machine).start f.0)
+              (gone : b ≡ true → v ≡ gone_by a.driver a.machine e.actor e.event a.pass)
               (others : new ≡ record (record a { pass = v }) { machine = new.machine; records = new.records }) where
             ready_to : CanFollow j (record (record a { pass = v }) { machine = new.machine; records = new.records }) before start e
             ready_to = record {
@@ -161,11 +201,12 @@ module _ (j : JobView) (a : Auditing) (e : Entry) (at : IsAuditing j a) where
               arrays = at.keeps.arrays;
               taken = asked.taken;
               pass = at.keeps.pass;
-              gone = gone;
+              gone = gone yes;
               goes_on = goes;
               records = asked.records goes;
               stood = stood;
-              opened = λ f ended. ends f ended ∙ start_is at.keeps.trace.stands.shaped.shape.columns f.0;
+              ended = λ f is. ends f is ∙ start_is at.keeps.trace.stands.shaped.shape.columns f.0;
+              begun = λ f is. begins f is ∙ start_is asked.taken.stands.shaped.shape.columns f.0;
               few = at.few;
             }
 
@@ -189,10 +230,29 @@ module _ (j : JobView) (a : Auditing) (e : Entry) (at : IsAuditing j a) where
                       arrays = at.keeps.arrays;
                       taken = asked.taken;
                       pass = at.keeps.pass;
-                      gone = gone;
+                      gone = gone yes;
                       goes_on = goes;
                       records = asked.records goes;
                       stood = stood;
-                      opened = λ f ended. ends f ended ∙ start_is at.keeps.trace.stands.shaped.shape.columns f.0;
+                      ended = λ f is. ends f is ∙ start_is at.keeps.trace.stands.shaped.shape.columns f.0;
+                      begun = λ f is. begins f is ∙ start_is asked.taken.stands.shaped.shape.columns f.0;
                       few = at.few;
                     })) say
+
+-- ---- the start that an entry ends or opens
+
+-- an event that ends a start opens none
+none_begun : (event : Event) (f : Frame) → frame_ended event ≡ Some f → frame_begun event ≡ None
+none_begun (Did (EwbStart n at) answer) f is = cc
+none_begun (Did (EldStart n page at) answer) f is = cc
+none_begun (Did action answer) f is = refl
+none_begun (Refused action refusal) f is = refl
+none_begun (Age page look) f is = refl
+none_begun (Kick cpu) f is = refl
+none_begun (Bus page reason) f is = refl
+
+pub still_ended : (event : Event) (ended start : Option starts.Start) (m : Parts)
+    → ((f : Frame) → frame_ended event ≡ Some f → start_of ended ≡ (state_of m).start f.0)
+    → (frame_begun event ≡ None → start ≡ ended)
+    → (f : Frame) → frame_ended event ≡ Some f → start_of start ≡ (state_of m).start f.0
+still_ended event ended start m told others f is = ap start_of (others (none_begun event f is)) ∙ told f is

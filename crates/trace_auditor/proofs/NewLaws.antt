@@ -5,20 +5,19 @@ use Rattle.sgx_types.specs.Making.{Making}
 use Rattle.job_grammar.specs.Jobs.{JobView, va_pages}
 use Rattle.paging_laws.specs.inner.Histories.{StandsWithAllRules}
 use Rattle.paging_machine.specs.inner.Parts.{state_of}
-use Rattle.driver_laws.specs.inner.Counted.{CountsSlots}
 use Rattle.driver_tables.specs.inner.Tables.{IsNew}
 use Rattle.run_history.specs.inner.Histories.{GoesOn}
 use Rattle.turn_tables.specs.inner.Holding.{KeepsHolds}
 use Rattle.turn_tables.specs.inner.Shown.{ShowsTurns}
 use Rattle.run_steps.proofs.FreshLaws.{IsFresh, fresh_cpus, fresh_making}
 use Rattle.run_steps.proofs.TcsLaws.{tcs_apart}
-use Rattle.audit_pass.specs.inner.Standing.{StandsAt}
+use Rattle.reclaim_pass.specs.inner.Standing.{StandsAt}
 use Rattle.audit_records.proofs.StayLaws.{none_out}
 use Rattle.audit_records.specs.inner.Kept.{records_of}
 use Rattle.trace_auditor.specs.declared.auditing.Auditing.{Auditing}
 use Rattle.trace_auditor.specs.inner.Audits.{KeepsAudit}
 use Rattle.driver_tables.proofs.FirstLaws.{shows_first}
-use Rattle.driver_laws.proofs.CountLaws.{first_counts}
+use Rattle.driver_laws.specs.inner.Agrees.{auditors}
 use Rattle.turn_tables.proofs.FirstLaws.{holds_first}
 use Rattle.turn_tables.proofs.OrderLaws.{orderly_first}
 use Rattle.turn_tables.proofs.EndLaws.{ends_first}
@@ -49,8 +48,7 @@ keeps_first j a fresh new turns pass = record {
     goes_on = goes-on-first j;
     stands = subst (λ (k : Making). StandsWithAllRules k (state_of a.machine) [] []) (fresh_making j a.machine fresh) fresh.history;
     cpus = fresh_cpus j a.machine fresh ∙ sym new.cpus;
-    shows = shows_first j a.driver turns.valid new;
-    counted = subst (λ k. CountsSlots k []) (sym new.slots) (first_counts (va_pages j));
+    shows = shows_first auditors j a.driver turns.valid new;
     holds = subst (λ x. KeepsHolds j x.own []) (sym new.active) (holds_first j);
     turns = turns;
     orderly = orderly_first j;

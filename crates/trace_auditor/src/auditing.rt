@@ -3,11 +3,11 @@
 ghost use Rattle.std.specs.Prelude.{[], IfOk};
 ghost use Rattle.trace_auditor.specs.inner.Audits.{KeepsAudit};
 
-use audit_pass::trace_pass::TracePass;
 use audit_records::old_records::OldRecords;
 use driver_tables::driver::Driver;
 use job_grammar::jobs::Job;
 use paging_machine::machine::Machine;
+use reclaim_pass::pass::Pass;
 use sgx_types::names::Memory;
 use sgx_types::record::{Header, Record};
 use std::alloc::Global;
@@ -19,7 +19,7 @@ pub(crate) struct Auditing {
     pub(crate) machine: Machine,
     pub(crate) driver: Driver,
     pub(crate) turns: Turns,
-    pub(crate) pass: TracePass,
+    pub(crate) pass: Pass,
     /// The record with which each page went out last that is outside.
     pub(crate) records: OldRecords,
     /// Stands in the driver's tables for the record of a load that has started, of which the rules say nothing.
@@ -33,7 +33,7 @@ impl Auditing {
     {
         let blank = blank(alloc)?;
         let records = OldRecords::new(alloc);
-        let pass = TracePass::new(alloc)?;
+        let pass = Pass::new(alloc)?;
         let turns = Turns::new(alloc, job)?;
         let driver = Driver::new(alloc, job)?;
         // The machine comes last, so that no other refusal has to give it back.

@@ -6,13 +6,14 @@ ghost use Rattle.trace_auditor.specs.inner.Audits.{CanFollow, KeepsAudit};
 use crate::auditing::Auditing;
 use audit_tables::following::follow;
 use cached_translations::processor::Mode;
+use driver_tables::driver::Driver;
 use job_grammar::jobs::Job;
 use paging_machine::starts::Start;
 use sgx_rules::entries::Entry;
 
 impl Auditing {
     /// Brings the tables to an entry that keeps each rule, with which the machine, the pass and the records have gone on. `before` is how
-    /// its processor stood before it, `start` the open start that it ends.
+    /// its processor stood before it, `start` the open start that it ends, or that it has opened.
     pub(crate) fn follow(&mut self, job: &Job, before: Mode, start: Option<Start>, entry: &Entry)
         requires { CanFollow job.now self.old before start entry.now }
         ensures { (can : CanFollow job.now self.old before start entry.now)
@@ -26,7 +27,8 @@ impl Auditing {
             &self.blank,
             entry,
         );
-        self.turns.hold(job, &mut self.driver.active, before, entry);
+        let Driver { states, active, .. } = &mut self.driver;
+        self.turns.hold(job, states, active, before, entry);
         self.turns.note(job, before, entry);
         self.pass.settle(job.marks(), self.machine.free_count());
     }

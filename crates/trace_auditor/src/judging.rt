@@ -1,17 +1,22 @@
 //! One entry of a trace is judged.
 
-ghost use Rattle.std.specs.Prelude.{◌≡◌, IfOk, Some};
+ghost use Rattle.std.specs.Prelude.{◌≡◌, true, IfOk, None, Some};
 ghost use Rattle.sgx_types.specs.declared.names.Frame.{Frame};
 ghost use Rattle.paging_machine.specs.inner.Parts.{start_of, state_of};
 ghost use Rattle.driver_rules.specs.inner.Decided.{is_ended};
-ghost use Rattle.audit_tables.specs.inner.Followed.{frame_ended};
+ghost use Rattle.audit_tables.specs.inner.Followed.{frame_begun, frame_ended};
+ghost use Rattle.reclaim_pass.specs.inner.Noted.{gone_by, IsSeen};
 ghost use Rattle.trace_auditor.specs.inner.Audits.{IsAuditing, IsJudged};
 
 use crate::auditing::Auditing;
 use audit_dues::ending::is_ended;
 use audit_dues::script::keeps_script;
+use audit_pass::judging::{keeps_age, keeps_kick};
+use driver_tables::driver::Driver;
 use job_grammar::jobs::Job;
+use paging_machine::machine::Machine;
 use paging_machine::starts::Start;
+use reclaim_pass::pass::Pass;
 use run_history::rules::Rule;
 use sgx_rules::entries::{Action, Entry, Event};
 use sgx_types::names::{Frame, Memory};
@@ -20,8 +25,7 @@ use turn_tables::holding::mode_of;
 
 impl Auditing {
     /// The first rule that the next entry breaks, in the order in which rules are named. None where it keeps each rule; then all stands for
-    /// the entries with it. Constant time, but for the SHA-256 of a page that goes out and of an enclave's measurement, and for the slot
-    /// that a write-out names, which is looked for among those that are not out.
+    /// the entries with it. Constant time, but for the SHA-256 of a page that goes out and of an enclave's measurement.
     pub(crate) fn judge(
         &mut self,
         alloc: Global,
@@ -35,10 +39,17 @@ impl Auditing {
             return Ok(Some(Rule::Script));
         }
         let before = mode_of(&self.machine, entry.actor);
-        let start = self.start_ended(&entry.event);
-        let keeps_age = self.pass.keeps_age(&self.driver, entry);
-        let keeps_kick = self.pass.keeps_kick(&self.machine, entry);
-        self.pass.note(&self.driver, &self.machine, entry);
+        let ended = self.start_ended(&entry.event);
+        let keeps_age = keeps_age(&self.pass, &self.driver, &self.machine, entry);
+        let keeps_kick = keeps_kick(&self.pass, &self.machine, entry);
+        // A pass goes on by the tables and the machine as they stand before the entry.
+        note_pass(
+            &mut self.pass,
+            &self.driver,
+            &self.machine,
+            entry,
+            keeps_age,
+        );
         let broken = self.ask(alloc, entry)?;
         if broken.is_some() {
             return Ok(broken);
@@ -49,6 +60,7 @@ impl Auditing {
         if !keeps_kick {
             return Ok(Some(Rule::Kick));
         }
+        let start = self.start_begun(&entry.event, ended);
         self.follow(job, before, start, entry);
         Ok(None)
     }
@@ -69,6 +81,40 @@ impl Auditing {
             Some(frame) => self.machine.open_start(frame),
             None => None,
         }
+    }
+
+    // The open start that an event has opened, and for every other event this one.
+    fn start_begun(&self, event: &Event, ended: Option<Start>) -> Option<Start>
+        ensures begun { (f : Frame) → frame_begun event.now ≡ Some f → start_of result ≡ (state_of self.now.machine).start f.0 }
+        ensures others { frame_begun event.now ≡ None → result ≡ ended }
+    {
+        match frame_begun(event) {
+            Some(frame) => self.machine.open_start(frame),
+            None => ended,
+        }
+    }
+}
+
+// A pass goes on with an entry. One that breaks the rule Age is none of a pass, and the last that is judged.
+fn note_pass(pass: &mut Pass, driver: &Driver, machine: &Machine, entry: &Entry, keeps_age: bool)
+    requires { keeps_age ≡ true → IsSeen driver.now entry.now.actor entry.now.event }
+    ensures { keeps_age ≡ true → pass.new ≡ gone_by driver.now machine.now entry.now.actor entry.now.event pass.old }
+{
+    if keeps_age {
+        pass.note(driver, machine, entry);
+    }
+}
+
+// The frame of the start that an event has opened.
+fn frame_begun(event: &Event) -> Option<Frame>
+    ensures { result ≡ frame_begun event.now }
+{
+    match *event {
+        Event::Did {
+            action: Action::EwbStart { frame, .. } | Action::EldStart { frame, .. },
+            ..
+        } => Some(frame),
+        _ => None,
     }
 }
 

@@ -11,9 +11,8 @@ use Rattle.sgx_rules.specs.declared.entries.Entry.{Entry}
 use Rattle.sgx_types.specs.declared.names.Frame.{Frame}
 use Rattle.sgx_types.specs.declared.names.Page.{Page}
 use Rattle.sgx_rules.specs.Flat.{at_offset}
-use Rattle.sgx_types.specs.Pages.{page_at}
+use Rattle.sgx_types.specs.Pages.{is_own_page, page_at}
 use Rattle.sgx_rules.specs.Frames.{added, content, frame_of, least_free}
-use Rattle.sgx_types.specs.Making.{Making}
 use Rattle.sgx_rules.specs.Processors.{Seat, Stay, holds_number, stay, translations}
 use Rattle.sgx_rules.specs.Table.{is_lawful_access}
 use Rattle.cached_translations.specs.declared.processor.Mode.{Mode}
@@ -44,7 +43,7 @@ use Rattle.driver_rules.specs.Turns.{first_away, inside_turn, is_kicked, is_last
 use Rattle.driver_rules.specs.Turns.{save_frame}
 use Rattle.driver_rules.specs.Turns.{stay_turn, step_turn, turn_due, with_pages}
 use Rattle.driver_tables.specs.declared.driver.Driver.{Driver}
-use Rattle.driver_steps.specs.inner.Agrees.{Agrees}
+use Rattle.driver_laws.specs.inner.Agrees.{Keeping}
 use Rattle.turn_tables.specs.declared.cpu_turns.CpuTurn.{CpuTurn}
 use Rattle.turn_tables.specs.declared.cpu_turns.Interruption as kept
 use Rattle.turn_tables.specs.declared.cpu_turns.Last as lasts
@@ -62,10 +61,15 @@ use Rattle.turn_tables.specs.inner.Asked.{next_step, op_at, op_by, outside_by, p
 use Rattle.turn_tables.specs.inner.Asked.{turn_by, turned_away}
 use Rattle.turn_tables.specs.inner.Asked.{with_access, with_frame}
 use Rattle.turn_tables.specs.inner.CpuTurns.{interruption_told, last_told, turn_at}
-use Rattle.turn_tables.specs.inner.Due.{IsOrderly, IsWithin, building_in, due_in, made_by}
+use Rattle.turn_tables.specs.inner.Due.{IsOrderly, IsShown, IsWithin, building_in, due_in, made_by}
 use Rattle.turn_tables.specs.inner.Shown.{ShowsCpu, ShowsTurns, last_actor}
 use Rattle.turn_tables.specs.inner.TcsTurns.{tcs_by}
 use Rattle.turn_tables.proofs.FrameLaws.{access_due, frames_due, number_of}
+use Rattle.active_list.proofs.PlaceLaws.{low_own}
+use Rattle.driver_tables.proofs.BuildLaws.{extended_low}
+use Rattle.driver_tables.proofs.CountLaws.{few_places}
+use Rattle.driver_tables.specs.inner.Counts.{job_counts}
+use Rattle.driver_rules.specs.Holds.{page_extended}
 use Rattle.turn_tables.proofs.LineLaws.{IsTcsLine, few_numbers, op_valid, saved_within, tcs_line_is}
 use Rattle.turn_tables.proofs.LookLaws.{IsSeen, free_is, looks_are, standing_is}
 
@@ -320,17 +324,17 @@ last_same (e ∷ past) p = refl
 
 -- ---- a processor
 
-pub cpu_is : (made : Making) (j : JobView) (past : List Entry) (d : Driver) (m : Parts) (t : Turns) (p : ℕ) → p < length j.scripts
-    → Agrees made j past d m → IsOrderly j past → ShowsTurns j past t
+pub cpu_is : (k : Keeping) (j : JobView) (past : List Entry) (d : Driver) (m : Parts) (t : Turns) (p : ℕ) → p < length j.scripts
+    → IsShown k j past d m → IsOrderly j past → ShowsTurns j past t
     → due_in j past (cpu_by t.is_spent (looks_at d m t p) (turn_at t.cpus p) (is_last_by p t.last)
     (op_at j p (turn_at t.cpus p).replied) (next_step j t)) ≡ cpu_due j past p
-cpu_is made j past d m t p low a o s = by_spent t.is_spent (is_spent past) s.spent
+cpu_is k j past d m t p low a o s = by_spent t.is_spent (is_spent past) s.spent
   where
     x : CpuTurn
     x = turn_at t.cpus p
 
     seen : IsSeen j past p (looks_at d m t p)
-    seen = looks_are made j past d m t a s p
+    seen = looks_are k j past d m t a s p
 
     next : next_op j past p ≡ op_at j p (turn_at t.cpus p).replied
     next = ap (slice_get (script_of j p)) (sym (s.cpus p low).replied)
@@ -368,7 +372,8 @@ with_is step None = refl
 with_is step (Some f) = refl
 
 step_due_is : (j : JobView) (past : List Entry) (free : Option Frame) (stands : Page → Option Frame) (step : BuildStep)
-    → number_of free ≡ least_free j.epc (content past) → ((g : Page) → number_of (stands g) ≡ frame_of past g)
+    → number_of free ≡ least_free j.epc (content past)
+    → ((g : Page) → page_extended (Some step) ≡ Some g → number_of (stands g) ≡ frame_of past g)
     → building_in (step_by free stands step) ≡ makes_or waits.NoFrame (step_due j.epc past step)
 step_due_is j past free stands builds.Va f h =
     with_is builds.Va free ∙ ap (λ o. makes_or waits.NoFrame (frame_step builds.Va o)) f
@@ -380,24 +385,31 @@ step_due_is j past free stands (builds.Add enclave number kind perm init) f h =
     ∙ ap (λ o. makes_or waits.NoFrame (frame_step (builds.Add enclave number kind perm init) o)) f
 step_due_is j past free stands (builds.Extend enclave number chunk) f h =
     with_is (builds.Extend enclave number chunk) (stands (page_at enclave number))
-    ∙ ap (λ o. makes_or waits.NoFrame (frame_step (builds.Extend enclave number chunk) o)) (h (page_at enclave number))
+    ∙ ap (λ o. makes_or waits.NoFrame (frame_step (builds.Extend enclave number chunk) o)) (h (page_at enclave number) refl)
 step_due_is j past free stands (builds.Init enclave expect) f h = refl
 
-pub builder_is : (made : Making) (j : JobView) (past : List Entry) (d : Driver) (m : Parts) (t : Turns) (free : Option Frame)
+pub builder_is : (k : Keeping) (j : JobView) (past : List Entry) (d : Driver) (m : Parts) (t : Turns) (free : Option Frame)
     → number_of free ≡ least_free (state_of m).frames (state_of m).content
-    → Agrees made j past d m → IsOrderly j past → ShowsTurns j past t
+    → IsShown k j past d m → IsOrderly j past → ShowsTurns j past t
     → building_in (builder_by t.is_spent free (standing_seen d t) (next_step j t)) ≡ builder_due j past
-builder_is made j past d m t free first a o s = by_spent t.is_spent (is_spent past) s.spent
+builder_is k j past d m t free first a o s = by_spent t.is_spent (is_spent past) s.spent
   where
-    turn_is : (step : Option BuildStep) → building_in (builder_by false free (standing_seen d t) step) ≡ step_turn j past step
-    turn_is None = refl
-    turn_is (Some step) =
-        step_due_is j past free (standing_seen d t) step (free_is made j past d m t a s free first) (standing_is made j past d m t a s o)
+    own : (step : BuildStep) → next_step j t ≡ Some step → (g : Page) → page_extended (Some step) ≡ Some g → is_own_page g ≡ true
+    own step at g is =
+        low_own (job_counts j) g (few_places j s.valid)
+        (extended_low j (built past) g (ap page_extended (sym (step_is j past t s) ∙ at) ∙ is))
+
+    turn_is : (step : Option BuildStep) → next_step j t ≡ step
+        → building_in (builder_by false free (standing_seen d t) step) ≡ step_turn j past step
+    turn_is None at = refl
+    turn_is (Some step) at =
+        step_due_is j past free (standing_seen d t) step (free_is k j past d m t a s free first)
+        (λ g is. standing_is k j past d m t a s o g (own step at g is))
 
     by_spent : (b c : Bool) → b ≡ c
         → building_in (builder_by b free (standing_seen d t) (next_step j t))
         ≡ (if c then Stopped else step_turn j past (slice_get (build_of j) (built past)))
     by_spent true c same = ap (λ c. if c then Stopped else step_turn j past (slice_get (build_of j) (built past))) same
     by_spent false c same =
-        turn_is (next_step j t) ∙ ap (step_turn j past) (step_is j past t s)
+        turn_is (next_step j t) refl ∙ ap (step_turn j past) (step_is j past t s)
         ∙ ap (λ c. if c then Stopped else step_turn j past (slice_get (build_of j) (built past))) same

@@ -43,6 +43,7 @@ use Rattle.driver_rules.specs.Needs.{save_to_resume}
 use Rattle.driver_rules.specs.Places.{Absent, Away, Here, Leaving, Loading, Place, frame_here, place}
 use Rattle.driver_rules.specs.Scripts.{IsActors, IsDone, IsEnded, ScriptRule}
 use Rattle.driver_rules.specs.Stops.{has_bus, is_bus, is_spent}
+use Rattle.driver_rules.specs.Turns.{start_fails}
 use Rattle.driver_rules.specs.Turns.{Fails, Last, Loads, Other, WasEnded, accesses_by, builder_due, cpu_due, due_after}
 use Rattle.driver_rules.specs.Turns.{early_turn, enters}
 use Rattle.driver_rules.specs.Turns.{fails_with, fetches, fills, first_away, inside_turn, is_built, is_kicked, is_last, last_by}
@@ -160,6 +161,7 @@ Pends j past p = replied past p < length (script_of j p)
 -- an entry that is a reply, or starts a load, is of an operation
 abbrev asks : Bool → Event → Bool
 asks b (Did (actions.EldStart f page slot) answer) = true
+asks b (Refused (actions.EldStart f page slot) refusal) = true
 asks b ev = is_reply b ev
 
 abbrev DueAsks : JobView → List Entry → ℕ → Due → Type 0
@@ -240,6 +242,7 @@ record After (len n : ℕ) (l : Last) : Type 0 where
 
 reply_asks : (b : Bool) (ev : Event) → is_reply b ev ≡ true → asks b ev ≡ true
 reply_asks b (Did (actions.EldStart f page slot) answer) h = refl
+reply_asks b (Refused (actions.EldStart f page slot) refusal) h = refl
 reply_asks b (Did action answer) h = h
 reply_asks b (Refused action refusal) h = h
 reply_asks b (Age page look) h = h
@@ -256,12 +259,21 @@ no_load (Some g) (why.BadHeader enclave address flags) f page h = cc
 no_load (Some g) refusal f page h = cc
 no_load None refusal f page h = cc
 
+no_start : (g : Page) (refusal : Refusal) (f : ℕ) (page : Page) → start_fails g refusal ≡ Loads f page → ⊥
+no_start g why.SlotEmpty f page h = cc
+no_start g refusal f page h = cc
+
 -- behind an event of its own
 after_event : (b : Bool) (ev : Event) (opened : ℕ → Option Start) (r len : ℕ) → r ≤ len → (asks b ev ≡ true → r < len)
     → ((f : Frame) (refusal : Refusal) → ev ≡ Refused (actions.Eld f) refusal → r < len)
     → After len (if is_reply b ev then r + 1 else r) (last_by ev opened)
 after_event b (Did (actions.EldStart f page slot) answer) opened r len few asked refused =
     record { few = few; loads = λ g h is. asked refl; fails = λ g reason is. cc }
+after_event b (Refused (actions.EldStart f page slot) refusal) opened r len few asked refused = record {
+  few = reply_few (is_reply b (Refused (actions.EldStart f page slot) refusal)) r len few (λ h. asked refl);
+  loads = λ g h is. absurd (no_start page refusal g h is);
+  fails = λ g reason is. asked refl;
+}
 after_event b (Refused (actions.Eld f) refusal) opened r len few asked refused = record {
   few = few;
   loads = λ g page is. absurd (no_load (load_of (opened f.0)) refusal g page is);
@@ -415,6 +427,7 @@ ends_more past a ev for h p = by_test (is_by p a) (h p)
     own : (x : Event) → IsForRecord past x → last_by x (open_start past) ≡ WasEnded → (if is_bus x then true else has_bus past p) ≡ true
     own (Bus page why) k is = refl
     own (Refused (actions.Eld f) refusal) k is = absurd (k is)
+    own (Refused (actions.EldStart f page slot) refusal) k is = absurd (k is)
     own (Did (actions.EldStart f page slot) answer) k is = cc
     own (Did action answer) k is = cc
     own (Refused action refusal) k is = cc

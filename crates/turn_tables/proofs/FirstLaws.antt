@@ -1,25 +1,31 @@
 -- The holds before a job's first entry, and how large counts get.
 use Rattle.std.proofs.Common.{◌≡◌, ℕ, zero, suc, ◌+◌, ◌^◌, ◌<◌, ◌≤◌, ⊎_elim, Bool, true}
 use Rattle.std.proofs.Common.{false, if◌then◌else◌, List, [], ◌∷◌, ◌++◌, Option, Some, None, IfSome, length, replicate}
-use Rattle.std.proofs.Common.{slice_get, refl, sym, ap, subst, arith}
+use Rattle.std.proofs.Common.{slice_get, refl, sym, ap, subst, ◌∙◌, arith}
 use Rattle.std.proofs.lemmas.Bool.{cases_lt}
 use Rattle.std.proofs.lemmas.List.{get_or_past}
 use Rattle.sgx_rules.specs.declared.entries.Entry.{Entry}
 use Rattle.sgx_types.specs.declared.names.Page.{Page}
+use Rattle.sgx_types.specs.Making.{Making}
 use Rattle.job_grammar.specs.declared.jobs.PageLine.{PageLine}
 use Rattle.job_grammar.specs.declared.jobs.PageLine.TheVariants as lines
 use Rattle.job_grammar.specs.Jobs.{JobView, lines_at, tcs_line, va_pages}
 use Rattle.turn_rules.specs.declared.steps.BuildStep.{BuildStep}
 use Rattle.turn_rules.specs.declared.steps.BuildStep.TheVariants as builds
 use Rattle.turn_rules.specs.Script.{enclaves_steps, is_reply_of, leaves_by, replied, saved}
+use Rattle.paging_machine.specs.inner.Parts.{Parts}
 use Rattle.driver_rules.specs.Holds.{page_extended}
+use Rattle.driver_laws.specs.inner.Agrees.{drivers}
 use Rattle.driver_laws.specs.inner.Sound.{times}
+use Rattle.driver_tables.specs.declared.driver.Driver.{Driver}
+use Rattle.driver_steps.specs.inner.Agrees.{Agrees}
 use Rattle.driver_tables.proofs.FirstLaws.{all_same}
 use Rattle.driver_tables.proofs.HeldLaws.{holds_begin}
 use Rattle.turn_tables.specs.declared.cpu_turns.CpuTurn.{CpuTurn}
 use Rattle.turn_tables.specs.declared.tcs_turns.TcsTurn.{TcsTurn}
 use Rattle.turn_tables.specs.declared.turns.Turns.{Turns}
 use Rattle.turn_tables.specs.inner.CpuTurns.{first_turn, turn_at}
+use Rattle.turn_tables.specs.inner.Due.{IsShown}
 use Rattle.turn_tables.specs.inner.Holding.{KeepsHolds}
 use Rattle.turn_tables.specs.inner.Noting.{AreFew}
 use Rattle.turn_tables.specs.inner.Shown.{ShowsTurns}
@@ -37,6 +43,19 @@ pub holds_first : (j : JobView) → KeepsHolds j (replicate 17 []) []
 holds_first j = record {
   shows = holds_begin j (no_page (va_pages j) (enclaves_steps 1 j.enclaves) (omega arith));
   once = λ p g. subst (λ xs. times xs g ≤ 1) (sym (all_same 17 [] p)) (omega arith);
+}
+
+-- ---- tables of a driver that agrees with its machine
+
+pub agrees_shown : (made : Making) (j : JobView) (past : List Entry) (d : Driver) (m : Parts) → Agrees made j past d m
+    → IsShown (drivers j) j past d m
+agrees_shown made j past d m a = record {
+  columns = a.follows.shape.columns;
+  frames = ap (λ (k : Making). k.frames) a.follows.shape.making ∙ a.frames;
+  cpus = a.cpus;
+  sound = a.sound;
+  built = a.built;
+  shows = a.shows;
 }
 
 -- ---- counts

@@ -3,6 +3,7 @@ pub mod NoteLaws
 pub mod PlaceLaws
 pub mod FrameLaws
 pub mod LineLaws
+pub mod RowLaws
 pub mod LookLaws
 pub mod DueLaws
 pub mod OrderLaws

@@ -1,6 +1,6 @@
 -- What a processor begins to hold by an instruction that is due: pages that were added, and those that the tables name.
 use Rattle.std.proofs.Common.{◌≡◌, ℕ, ◌/◌, ◌||◌, not, Bool, true, false, if◌then◌else◌}
-use Rattle.std.proofs.Common.{List, [], ◌∷◌, Option, Some, None, is_some, refl, sym, ap, subst, ◌∙◌}
+use Rattle.std.proofs.Common.{List, [], ◌∷◌, Option, Some, None, is_some, ◌++◌, ◌&&◌, ◌==◌, refl, sym, ap, subst, ◌∙◌}
 use Rattle.std.proofs.lemmas.Bool.{false≢true, or_right}
 use Rattle.sgx_rules.specs.declared.entries.AccessOp.{AccessOp}
 use Rattle.sgx_rules.specs.declared.entries.AccessOp.TheVariants as accesses
@@ -13,17 +13,16 @@ use Rattle.sgx_rules.specs.declared.entries.Cause.TheVariants as causes
 use Rattle.sgx_rules.specs.declared.entries.Entry.{Entry}
 use Rattle.sgx_rules.specs.declared.entries.Event.{Event}
 use Rattle.sgx_rules.specs.declared.entries.Event.TheVariants.{Did, Refused, Age, Kick, Bus}
-use Rattle.sgx_types.specs.declared.names.Frame.{Frame}
 use Rattle.sgx_types.specs.declared.names.Page.{Page}
 use Rattle.sgx_types.specs.declared.names.SlotAt.{SlotAt}
+use Rattle.sgx_types.specs.declared.names.VaSlot.{VaSlot}
 use Rattle.sgx_rules.specs.declared.refusals.Refusal.{Refusal}
 use Rattle.sgx_rules.specs.Flat.{at_offset}
-use Rattle.sgx_types.specs.Pages.{page_at, same_page}
-use Rattle.sgx_rules.specs.Frames.{Content, added, content, is_page}
+use Rattle.sgx_types.specs.Pages.{is_own_page, is_va_page, page_at, same_page, secs_page, va_page}
+use Rattle.sgx_rules.specs.Frames.{Content, Free, Holds, IsLoading, IsVa, SecsOf, added, content, least_free, stands}
 use Rattle.sgx_rules.specs.Processors.{Stay, holds_number, stay, translations}
 use Rattle.sgx_rules.specs.Table.{is_lawful_access}
 use Rattle.sgx_types.proofs.Pages.{same_page-refl, same_pages}
-use Rattle.sgx_rules.proofs.Contents.{held_page}
 use Rattle.job_grammar.specs.declared.jobs.Op.{Op}
 use Rattle.job_grammar.specs.declared.jobs.Op.TheVariants as ops
 use Rattle.job_grammar.specs.Jobs.{JobView}
@@ -32,16 +31,18 @@ use Rattle.turn_rules.specs.Script.{resume_with}
 use Rattle.driver_rules.specs.declared.waits.Why.{Why}
 use Rattle.driver_rules.specs.declared.waits.Why.TheVariants as waits
 use Rattle.driver_rules.specs.Dues.{Due, Ends, Fetches, Finished, IsFetch, IsKickOf, IsLook, IsNext, IsTryOf, KicksAll, LooksAt}
-use Rattle.driver_rules.specs.Dues.{Makes}
+use Rattle.driver_rules.specs.Dues.{Asks, Fetch, Makes, WaitsFor}
 use Rattle.driver_rules.specs.Dues.{Reports, Stopped, TriesOut, Waits, makes_or}
-use Rattle.driver_rules.specs.Holds.{access_of_stay, front_to, holds_by, is_among, page_in, page_of_stay, up_to}
+use Rattle.driver_rules.specs.Holds.{access_of_stay, front_to, holds_by, is_among, page_in, page_of_stay, those_here, up_to}
 use Rattle.driver_rules.specs.Needs.{Interruption, access_page, interruption, listed, needs, needs_after, needs_to_enter}
 use Rattle.driver_rules.specs.Needs.{needs_to_resume}
 use Rattle.driver_rules.specs.Needs.{next_op, save_to_enter, save_to_resume}
 use Rattle.driver_rules.specs.Places.{Absent, Away, Here, Leaving, Loading, Place, frame_here, is_here, place}
 use Rattle.driver_rules.specs.Stops.{is_spent}
+use Rattle.driver_rules.specs.Targets.{slot_here, target_by, target_from}
+use Rattle.sgx_rules.specs.declared.refusals.Refusal.TheVariants as refusals
 use Rattle.driver_rules.specs.Turns.{Fails, Last, Loads, Other, WasEnded, accesses_by, cpu_due, due_after, early_turn, enters}
-use Rattle.driver_rules.specs.Turns.{fetches}
+use Rattle.driver_rules.specs.Turns.{fetch_by, fetches}
 use Rattle.driver_rules.specs.Turns.{fills, first_away, inside_turn, is_built, is_kicked, is_last, last_of, op_turn}
 use Rattle.driver_rules.specs.Turns.{outside_turn, resumes}
 use Rattle.driver_rules.specs.Turns.{save_frame, stay_turn, turn_due, with_pages}
@@ -52,7 +53,7 @@ use Rattle.driver_laws.proofs.SoundLaws.{lawful_there}
 
 -- ---- places
 
-away_there : (past : List Entry) (g : Page) (slot : SlotAt) → place past g ≡ Away slot → is_absent (place past g) ≡ false
+away_there : (past : List Entry) (g : Page) (slot : VaSlot) → place past g ≡ Away slot → is_absent (place past g) ≡ false
 away_there past g slot is = ap is_absent is
 
 is_here_there : (at : Place) → is_here at ≡ true → is_absent at ≡ false
@@ -124,11 +125,56 @@ up_to_there : (past : List Entry) (pages : List Page) (g : Page) → first_away 
 up_to_there past pages g h there =
     subst (λ b. AllThere past (if b then front_to g pages else g ∷ [])) (sym (away_among past pages g h)) (front_there past pages g h there)
 
+append_there : (past : List Entry) (xs ys : List Page) → AllThere past xs → AllThere past ys → AllThere past (xs ++ ys)
+append_there past [] ys h k = k
+append_there past (x ∷ xs) ys h k =
+    more_there past x (xs ++ ys) (h x (rw (same_page-refl x) refl))
+    (append_there past xs ys (λ y m. h y (or_right (same_page x y) (is_among xs y) m)) k)
+
+-- those that are here before the first that is not
+those_there : (past : List Entry) (pages : List Page) → AllThere past (those_here past pages)
+those_there past [] = none_there past
+those_there past (h ∷ hs) = by_here (is_here (place past h)) refl (those_there past hs)
+  where
+    by_here : (b : Bool) → is_here (place past h) ≡ b → AllThere past (those_here past hs)
+        → AllThere past (if b then h ∷ those_here past hs else [])
+    by_here true is rest = more_there past h (those_here past hs) (is_here_there (place past h) is) rest
+    by_here false is rest = none_there past
+
+-- ---- what is brought back first
+
+pub secs_aside : (e : ℕ) → is_own_page (secs_page e) ≡ true → ⊥
+secs_aside e h = by_test (e == 0) h
+  where
+    by_test : (b : Bool) → (not b && false) ≡ true → ⊥
+    by_test true k = cc
+    by_test false k = cc
+
+-- a TCS or REG page is brought back for itself alone
+target_own : (past : List Entry) (g : Page) (slot : VaSlot) → is_own_page (target_by past g (Away slot)) ≡ true
+    → target_by past g (Away slot) ≡ g
+target_own past g slot h = by_own (is_own_page g) h
+  where
+    by_here : (b c : Bool) → is_own_page (if b then (if c then g else va_page slot.va) else secs_page g.enclave) ≡ true
+        → (if b then (if c then g else va_page slot.va) else secs_page g.enclave) ≡ g
+    by_here true true k = refl
+    by_here true false k = absurd (false≢true k)
+    by_here false c k = absurd (secs_aside g.enclave k)
+
+    by_own : (b : Bool) → is_own_page (if b then target_from past g slot else g) ≡ true → (if b then target_from past g slot else g) ≡ g
+    by_own true k = by_here (is_here (place past (secs_page g.enclave))) (is_here (place past (va_page slot.va))) k
+    by_own false k = refl
+
 -- ---- what is due
 
--- a load is of a page that is needed, and a resumption by the frame of the page that the tables name
+-- a load is of a page that is needed, or of another one while some page that is needed is not here; and a resumption by the frame of the
+-- page that the tables name
+abbrev pub IsExactLoad : Bool → JobView → List Entry → ℕ → Page → Type 0
+IsExactLoad true j past p g = is_among (needs j past p) g ≡ true
+IsExactLoad false j past p g = is_some (first_away past (needs j past p)) ≡ true
+
 abbrev pub IsExact : JobView → List Entry → ℕ → Action → Type 0
-IsExact j past p (actions.EldStart f g slot) = is_among (needs j past p) g ≡ true
+IsExact j past p (actions.EldStart f g slot) = IsExactLoad (is_own_page g) j past p g
 IsExact j past p (actions.Resume e t tf sf) =
     (frame_here (place past (page_at e t)) ≡ Some tf.0) × (save_frame past (page_at e t) (save_to_resume j past e t) ≡ Some sf.0)
 IsExact j past p _ = Unit {0}
@@ -142,10 +188,14 @@ pub record Fits (j : JobView) (past : List Entry) (p : ℕ) (action : Action) : 
 abbrev FitsIf : JobView → List Entry → ℕ → Action → Type 0
 FitsIf j past p action = is_reply_action (is_interrupted past p) action ≡ false → Fits j past p action
 
+abbrev FetchFits : JobView → List Entry → ℕ → Fetch → Type 0
+FetchFits j past p (Asks target (Some slot) (Some f)) = Fits j past p (actions.EldStart (frame_at f) target slot)
+FetchFits j past p _ = Unit {0}
+
 abbrev DueFits : JobView → List Entry → ℕ → Due → Type 0
 DueFits j past p (Ends action) = FitsIf j past p action
 DueFits j past p (Makes action) = FitsIf j past p action
-DueFits j past p (Fetches g slot free) = ((f : Frame) → Fits j past p (actions.EldStart f g slot))
+DueFits j past p (Fetches g fetch) = FetchFits j past p fetch
 DueFits j past p _ = Unit {0}
 
 -- an instruction by which nothing begins to be held
@@ -173,10 +223,45 @@ module _ (j : JobView) (past : List Entry) (p : ℕ) (sound : IsSound past) (h :
 
   fits_fetch : (g : Page) (pages : List Page) (at : Place) → place past g ≡ at → first_away past pages ≡ Some g → needs j past p ≡ pages
       → DueFits j past p (fetches j.epc past g at)
-  fits_fetch g pages (Away slot) is away same = λ f. record {
-    there = subst (λ x. AllThere past (up_to g x)) (sym same) (up_to_there past pages g away (away_there past g slot is));
-    exact = subst (λ x. is_among x g ≡ true) (sym same) (away_among past pages g away);
-  }
+  fits_fetch g pages (Away slot) is away same =
+      fits_asks (target_by past g (Away slot)) (place past (target_by past g (Away slot))) refl (target_own past g slot)
+    where
+      brought_there : (b : Bool) (t : Page) → is_own_page t ≡ b → (b ≡ true → t ≡ g) → There past t
+          → AllThere past (if b then up_to t (needs j past p)
+          else those_here past (needs j past p) ++ (if is_va_page t then t ∷ [] else []))
+      brought_there true t own one there =
+          subst (λ y. AllThere past (up_to y (needs j past p))) (sym (one refl))
+          (subst (λ x. AllThere past (up_to g x)) (sym same) (up_to_there past pages g away (away_there past g slot is)))
+      brought_there false t own one there =
+          append_there past (those_here past (needs j past p)) (if is_va_page t then t ∷ [] else [])
+          (those_there past (needs j past p)) (array_there (is_va_page t))
+        where
+          array_there : (b : Bool) → AllThere past (if b then t ∷ [] else [])
+          array_there true = one_there past t there
+          array_there false = none_there past
+
+      exact_if : (b : Bool) (t : Page) → (b ≡ true → t ≡ g)
+          → IsExactLoad b j past p t
+      exact_if true t one =
+          subst (λ y. is_among (needs j past p) y ≡ true) (sym (one refl))
+          (subst (λ x. is_among x g ≡ true) (sym same) (away_among past pages g away))
+      exact_if false t one = subst (λ x. is_some (first_away past x) ≡ true) (sym same) (ap is_some away)
+
+      fits_asks : (t : Page) (at : Place) → place past t ≡ at → (is_own_page t ≡ true → t ≡ g)
+          → FetchFits j past p (fetch_by j.epc past t at)
+      fits_asks t Absent there one = tt
+      fits_asks t (Here f) there one = tt
+      fits_asks t (Leaving f) there one = tt
+      fits_asks t (Loading f s) there one = tt
+      fits_asks t (Away s) there one = by_slot (slot_here past s) (least_free j.epc (content past))
+        where
+          by_slot : (o : Option SlotAt) (free : Option ℕ) → FetchFits j past p (Asks t o free)
+          by_slot None free = tt
+          by_slot (Some x) None = tt
+          by_slot (Some x) (Some f) = record {
+            there = brought_there (is_own_page t) t refl one (away_there past t s there);
+            exact = exact_if (is_own_page t) t one;
+          }
   fits_fetch g pages Absent is away same = tt
   fits_fetch g pages (Here f) is away same = tt
   fits_fetch g pages (Leaving f) is away same = tt
@@ -199,10 +284,13 @@ module _ (j : JobView) (past : List Entry) (p : ℕ) (sound : IsSound past) (h :
   page_in_there g n is =
       held (content past n) (sound.places.frames g n ∙ stands_there (place past g) n is)
     where
-      held : (c : Content) → is_page c g ≡ true → AllThere past (page_in c)
-      held c k =
-          subst (λ x. AllThere past (page_in x)) (sym (held_page c g k).holds)
-          (one_there past g (here_there (place past g) n is))
+      held : (c : Content) → stands c g ≡ true → AllThere past (page_in c)
+      held Free k = none_there past
+      held (IsVa number) k = none_there past
+      held (SecsOf enclave) k = none_there past
+      held (IsLoading page) k = none_there past
+      held (Holds page kind perm) k =
+          one_there past page (subst (There past) (sym (same_pages page g k)) (here_there (place past g) n is))
 
   fits_resume : (why : Why) (e t : ℕ) (save : Option Page) → save ≡ save_to_resume j past e t → (tf sf : Option ℕ)
       → frame_here (place past (page_at e t)) ≡ tf → save_frame past (page_at e t) save ≡ sf
@@ -335,21 +423,24 @@ module _ (j : JobView) (past : List Entry) (p : ℕ) (sound : IsSound past) (h :
   fits_next Finished ev k n quiet action is = absurd n
   fits_next (Waits why) ev k n quiet action is = absurd n
   fits_next (Reports page why) ev k n quiet action is = absurd (bus_none page why action (ap action_of (sym n) ∙ is))
-  fits_next (Fetches g slot free) ev k n quiet action is = fetched free ev n is
+  fits_next (Fetches g fetch) ev k n quiet action is = fetched fetch k ev n is
     where
-      fetched : (o : Option ℕ) (x : Event) → IsFetch g slot o x → action_of x ≡ Some action → Fits j past p action
-      fetched None (Bus page why) m same = cc
-      fetched None (Did a answer) m same = absurd m
-      fetched None (Refused a refusal) m same = absurd m
-      fetched None (Age page look) m same = absurd m
-      fetched None (Kick cpu) m same = absurd m
-      fetched (Some f) (Did a answer) m same =
-          let told : a ≡ action = cc in subst (Fits j past p) (sym m ∙ told) (k (frame_at f))
-      fetched (Some f) (Refused a refusal) m same =
-          let told : a ≡ action = cc in subst (Fits j past p) (sym m ∙ told) (k (frame_at f))
-      fetched (Some f) (Bus page why) m same = cc
-      fetched (Some f) (Age page look) m same = absurd m
-      fetched (Some f) (Kick cpu) m same = absurd m
+      fetched : (o : Fetch) → FetchFits j past p o → (x : Event) → IsFetch g o x → action_of x ≡ Some action → Fits j past p action
+      fetched o h (Bus page why) m same = cc
+      fetched o h (Age page look) m same = cc
+      fetched o h (Kick cpu) m same = cc
+      fetched (WaitsFor target) h (Did a answer) m same = absurd m
+      fetched (WaitsFor target) h (Refused a refusal) m same = absurd m
+      fetched (Asks target slot None) h (Did a answer) m same = absurd m
+      fetched (Asks target slot None) h (Refused a refusal) m same = absurd m
+      fetched (Asks target None (Some f)) h (Did a answer) m same = cc
+      fetched (Asks target None (Some f)) h (Refused a refusals.SlotEmpty) m same = cc
+      fetched (Asks target None (Some f)) h (Refused a refusal) m same = absurd m
+      fetched (Asks target (Some slot) (Some f)) h (Did a answer) m same =
+          let told : actions.EldStart (frame_at f) target slot ≡ action = cc in subst (Fits j past p) told h
+      fetched (Asks target (Some slot) (Some f)) h (Refused a refusals.SlotEmpty) m same =
+          let told : actions.EldStart (frame_at f) target slot ≡ action = cc in subst (Fits j past p) told h
+      fetched (Asks target (Some slot) (Some f)) h (Refused a refusal) m same = absurd m
   fits_next (LooksAt page held young) ev k n quiet action is = absurd (looked ev n is)
     where
       looked : (x : Event) → IsLook page held young x → action_of x ≡ Some action → ⊥
@@ -358,7 +449,7 @@ module _ (j : JobView) (past : List Entry) (p : ℕ) (sound : IsSound past) (h :
       looked (Refused a refusal) m same = m
       looked (Kick cpu) m same = m
       looked (Bus g why) m same = m
-  fits_next (TriesOut f) ev k n quiet action is = tried ev n is
+  fits_next (TriesOut g f) ev k n quiet action is = tried ev n is
     where
       tries : (a : Action) → IsTryOf f (Did a answers.Plain) → Fits j past p a
       tries (actions.EwbStart g slot) m = no_holds j past p (actions.EwbStart g slot) refl tt

@@ -34,6 +34,7 @@ use Rattle.paging_laws.specs.inner.Columns.{seat_of_stay}
 use Rattle.paging_machine.specs.inner.Parts.{seat_of_mode}
 use Rattle.driver_rules.specs.Needs.{Interruption, interrupted_by, interrupted_in, interruption, interruption_after}
 use Rattle.driver_rules.specs.Stops.{spends}
+use Rattle.driver_rules.specs.Turns.{start_fails}
 use Rattle.driver_rules.specs.Turns.{fails_with, is_kicked, kicked_after, last_by, last_of, load_of}
 use Rattle.driver_laws.specs.inner.Loads.{EndsOwn, LoadsAreTheirs}
 use Rattle.driver_laws.proofs.EndLaws.{their_rule}
@@ -47,6 +48,7 @@ use Rattle.turn_tables.specs.declared.turns.Turns.{Turns}
 use Rattle.turn_tables.specs.inner.CpuTurns.{first_turn, interruption_told, last_told, turn_at}
 use Rattle.turn_tables.specs.inner.TcsTurns.{changed, one_less, one_more, tcs_at, tcs_by}
 use Rattle.turn_tables.specs.inner.Entries.{CanNote, StoodSo}
+use Rattle.turn_tables.specs.inner.Noting.{start_failed}
 use Rattle.turn_tables.specs.inner.Noting.{IsBuilt, IsNoted, broken_after, broken_by, broken_in, failed_by, inits_after, kicked}
 use Rattle.turn_tables.specs.inner.Noting.{last_after}
 use Rattle.turn_tables.specs.inner.Noting.{more_if, page_inside, page_left, page_loaded, saves_after, turn_after, with_kick}
@@ -203,11 +205,16 @@ loaded_told past p n x theirs is refusal f ends = by_last x is (subst (λ l. End
     by_last ways.WasEnded k e = cc
     by_last ways.Other k e = cc
 
+start_told : (page : Page) (refusal : Refusal) → last_told (start_failed page refusal) ≡ start_fails page refusal
+start_told page why.SlotEmpty = refl
+start_told page refusal = refl
+
 last_is : (past : List Entry) (p : ℕ) (ev : Event) (x : lasts.Last) → LoadsAreTheirs past → last_told x ≡ last_of past p
     → EndsOwn (last_of past p) ev → last_told (last_after ev x) ≡ last_by ev (open_start past)
 last_is past p (Did (actions.EldStart f page slot) answer) x theirs is ends = refl
 last_is past p (Refused (actions.Eld f) refusal) x theirs is ends =
     fails_told (page_loaded x) refusal ∙ ap (λ o. fails_with o refusal) (loaded_told past p 0 x theirs is refusal f ends)
+last_is past p (Refused (actions.EldStart f page slot) refusal) x theirs is ends = start_told page refusal
 last_is past p (Bus page reason) x theirs is ends = refl
 last_is past p (Did action answer) x theirs is ends = refl
 last_is past p (Refused action refusal) x theirs is ends = refl

@@ -1,5 +1,5 @@
 -- One entry more keeps in which frame each page is, and how many state save pages are in use.
-use Rattle.std.proofs.Common.{◌≡◌, ◌≢◌, ℕ, ◌+◌, ◌-◌, ◌/◌, ◌==◌, ◌≤◌, ◌⊎◌, inl, inr, ⊎_elim, not}
+use Rattle.std.proofs.Common.{◌≡◌, ◌≢◌, ℕ, ◌+◌, ◌-◌, ◌/◌, ◌==◌, ◌≤◌, ◌⊎◌, inl, inr, ⊎_elim, not, ◌&&◌}
 use Rattle.std.proofs.Common.{Bool, true, false, if◌then◌else◌, List, [], ◌∷◌, Option, Some, None, MatchOption, refl, sym, ap}
 use Rattle.std.proofs.Common.{subst, ◌∙◌, arith}
 use Rattle.std.proofs.lemmas.Bool.{eq-eqb, eqb-false, eqb-true, false≢true}
@@ -23,12 +23,13 @@ use Rattle.sgx_rules.specs.declared.refusals.Refusal.{Refusal}
 use Rattle.sgx_rules.specs.declared.refusals.Refusal.TheVariants as why
 use Rattle.sgx_rules.specs.Flat.{at_offset}
 use Rattle.sgx_types.specs.Pages.{page_at, same_page}
-use Rattle.sgx_rules.specs.Frames.{added, frame_of}
+use Rattle.sgx_rules.specs.Frames.{added, frame_of, vas_made}
 use Rattle.sgx_rules.specs.Processors.{Enters, Keeps, Leaves, Move, Stay, holds_number, is_by, move_by, stay, stay_after}
 use Rattle.sgx_rules.specs.Processors.{translations}
 use Rattle.sgx_rules.specs.Sights.{seat_of}
-use Rattle.sgx_rules.specs.Starts.{is_load_of, open_start}
 use Rattle.sgx_rules.specs.Table.{first_of_row, is_lawful_access, is_reg, is_tcs, when}
+use Rattle.sgx_rules.specs.Slots.{open_slot, slot_of}
+use Rattle.sgx_types.specs.Pages.{is_own_page, secs_page, va_page}
 use Rattle.sgx_types.proofs.Pages.{same_pages}
 use Rattle.sgx_types.proofs.Truths.{not_false}
 use Rattle.job_grammar.specs.declared.jobs.Op.{Op}
@@ -46,11 +47,11 @@ use Rattle.paging_laws.proofs.EntryLaws.{enters as enters_by_row}
 use Rattle.driver_rules.specs.declared.waits.Why.{Why}
 use Rattle.driver_rules.specs.declared.waits.Why.TheVariants as waits
 use Rattle.driver_rules.specs.Dues.{Due, Ends, Fetches, Finished, IsNext, IsTryOf, KicksAll, LooksAt, Makes, Reports, Stopped}
-use Rattle.driver_rules.specs.Dues.{TriesOut}
+use Rattle.driver_rules.specs.Dues.{Asks, TriesOut, WaitsFor}
 use Rattle.driver_rules.specs.Dues.{Waits, makes_or}
 use Rattle.driver_rules.specs.Needs.{Interruption, interruption, needs_after, needs_to_enter, needs_to_resume, next_op, next_save}
 use Rattle.driver_rules.specs.Needs.{save_to_enter, save_to_resume}
-use Rattle.driver_rules.specs.Places.{Absent, Away, Here, Leaving, Loading, Place, after_look, back_to, frame_here, gone_to}
+use Rattle.driver_rules.specs.Places.{Absent, Away, Here, Leaving, Loading, Place, after_look, back_from, comes_into, frame_here, gone_to}
 use Rattle.driver_rules.specs.Places.{place}
 use Rattle.driver_rules.specs.Scripts.{ScriptRule}
 use Rattle.driver_rules.specs.Stops.{is_spent}
@@ -69,7 +70,7 @@ use Rattle.turn_tables.proofs.LineLaws.{IsTcsLine, saved_within, tcs_line_is, wi
 -- ---- frames
 
 abbrev Stand : List Entry → Type 0
-Stand past = (g : Page) → frame_of past g ≡ standing (place past g)
+Stand past = (g : Page) → is_own_page g ≡ true → frame_of past g ≡ standing (place past g)
 
 looked : (look : Look) (at : Place) → standing (after_look look at) ≡ standing at
 looked looks.Taken Absent = refl
@@ -81,12 +82,31 @@ looked looks.Young at = refl
 looked looks.Held at = refl
 looked looks.NoRoom at = refl
 
-back : (at : Place) → standing (back_to at) ≡ standing at
-back Absent = refl
-back (Here f) = refl
-back (Leaving f) = refl
-back (Loading f slot) = refl
-back (Away slot) = refl
+back : (n : ℕ) (at : Place) → standing (back_from n at) ≡ standing at
+back n Absent = refl
+back n (Here f) = refl
+back n (Leaving f) = refl
+back n (Loading f slot) = by_test (f == n)
+  where
+    by_test : (b : Bool) → standing (if b then Away slot else Loading f slot) ≡ None
+    by_test true = refl
+    by_test false = refl
+back n (Away slot) = refl
+
+comes : (n : ℕ) (at : Place) → standing (comes_into n at) ≡ standing at
+comes n Absent = refl
+comes n (Here f) = refl
+comes n (Leaving f) = refl
+comes n (Loading f slot) = refl
+comes n (Away slot) = refl
+
+-- a page that is no TCS or REG page is another one
+other_page : (x g : Page) → is_own_page x ≡ false → is_own_page g ≡ true → same_page x g ≡ false
+other_page x g aside own = by_test (same_page x g) refl
+  where
+    by_test : (b : Bool) → same_page x g ≡ b → b ≡ false
+    by_test true is = absurd (false≢true (sym aside ∙ subst (λ (y : Page). is_own_page y ≡ true) (sym (same_pages x g is)) own))
+    by_test false is = refl
 
 -- an event that may change where a page is
 stands_if : (b : Bool) (o q : Option ℕ) (x y : Place) → o ≡ standing x → (b ≡ true → q ≡ standing y)
@@ -98,27 +118,37 @@ stays_if : (b : Bool) (o : Option ℕ) (x y : Place) → o ≡ standing x → (b
 stays_if true o x y h k = k refl
 stays_if false o x y h k = h
 
+secs_aside : (e : ℕ) → is_own_page (secs_page e) ≡ false
+secs_aside e = by_test (e == 0)
+  where
+    by_test : (b : Bool) → (not b && false) ≡ false
+    by_test true = refl
+    by_test false = refl
+
 frames_more : (past : List Entry) (a : Actor) (ev : Event) → CanMove past ev → Stand past → Stand (entry_of a ev ∷ past)
-frames_more past a (Did (actions.Add enclave number f kind perm init) answer) can h g =
-    stands_if (same_page (page_at enclave number) g) (frame_of past g) (Some f.0) (place past g) (Here f.0) (h g) (λ _. refl)
-frames_more past a (Did (actions.Eld f) (Moved page version tag)) can h g =
-    stands_if (same_page page g) (frame_of past g) (Some f.0) (place past g) (Here f.0) (h g) (λ _. refl)
-frames_more past a (Did (actions.Ewb f) (Moved page version tag)) can h g =
-    stands_if (same_page page g) (frame_of past g) None (place past g) (gone_to (open_start past f.0) (place past g)) (h g)
-    (λ _. ap (λ o. standing (gone_to o (place past g))) (sym can.1.1))
-frames_more past a (Did (actions.EldStart f page slot) answer) can h g =
-    stays_if (same_page page g) (frame_of past g) (place past g) (Loading f.0 slot) (h g)
-    (λ same. h g ∙ ap (λ x. standing (place past x)) (sym (same_pages page g same)) ∙ ap standing can.1)
-frames_more past a (Refused (actions.Eld f) why) can h g =
-    stays_if (is_load_of (open_start past f.0) g) (frame_of past g) (place past g) (back_to (place past g)) (h g)
-    (λ _. h g ∙ sym (back (place past g)))
-frames_more past a (Age page look) can h g =
-    stays_if (same_page page g) (frame_of past g) (place past g) (after_look look (place past g)) (h g)
-    (λ _. h g ∙ sym (looked look (place past g)))
-frames_more past a (Did action answer) can h g = h g
-frames_more past a (Refused action why) can h g = h g
-frames_more past a (Kick cpu) can h g = h g
-frames_more past a (Bus page why) can h g = h g
+frames_more past a (Did (actions.Add enclave number f kind perm init) answer) can h g own =
+    stands_if (same_page (page_at enclave number) g) (frame_of past g) (Some f.0) (place past g) (Here f.0) (h g own) (λ _. refl)
+frames_more past a (Did (actions.Eld f) (Moved page version tag)) can h g own =
+    stands_if (same_page page g) (frame_of past g) (Some f.0) (place past g) (Here f.0) (h g own) (λ _. refl)
+frames_more past a (Did (actions.Ewb f) (Moved page version tag)) can h g own =
+    stands_if (same_page page g) (frame_of past g) None (place past g) (gone_to (open_slot past f.0) (place past g)) (h g own)
+    (λ _. ap (λ o. standing (gone_to (slot_of o) (place past g))) (sym can.1.1))
+frames_more past a (Did (actions.EldStart f page slot) answer) can h g own =
+    stays_if (same_page page g) (frame_of past g) (place past g) (comes_into f.0 (place past g)) (h g own)
+    (λ same. h g own ∙ sym (comes f.0 (place past g)))
+frames_more past a (Refused (actions.Eld f) why) can h g own =
+    h g own ∙ sym (back f.0 (place past g))
+frames_more past a (Did (actions.Epa f) answer) can h g own =
+    h g own ∙ ap (λ b. standing (if b then Here f.0 else place past g)) (sym (other_page (va_page (vas_made past)) g refl own))
+frames_more past a (Did (actions.Create enclave f base size) answer) can h g own =
+    h g own ∙ ap (λ b. standing (if b then Here f.0 else place past g)) (sym (other_page (secs_page enclave) g (secs_aside enclave) own))
+frames_more past a (Age page look) can h g own =
+    stays_if (same_page page g) (frame_of past g) (place past g) (after_look look (place past g)) (h g own)
+    (λ _. h g own ∙ sym (looked look (place past g)))
+frames_more past a (Did action answer) can h g own = h g own
+frames_more past a (Refused action why) can h g own = h g own
+frames_more past a (Kick cpu) can h g own = h g own
+frames_more past a (Bus page why) can h g own = h g own
 
 -- ---- which entries are due
 
@@ -267,10 +297,13 @@ module _ (j : JobView) (past : List Entry) (few : (g : Page) → IsWithin (saved
   finds Finished action answer h n = absurd n
   finds (Waits why) action answer h n = absurd n
   finds (Reports page why) action answer h n = cc
-  finds (Fetches g slot None) action answer h n = absurd n
-  finds (Fetches g slot (Some f)) action answer h n = subst (FindsRoom j past) (sym n) tt
+  finds (Fetches g (WaitsFor target)) action answer h n = absurd n
+  finds (Fetches g (Asks target slot None)) action answer h n = absurd n
+  finds (Fetches g (Asks target None (Some f))) action answer h n = cc
+  finds (Fetches g (Asks target (Some slot) (Some f))) action answer h n =
+      let same : actions.EldStart (frame_at f) target slot ≡ action = cc in subst (FindsRoom j past) same tt
   finds (LooksAt page held young) action answer h n = absurd n
-  finds (TriesOut f) action answer h n = tried action n
+  finds (TriesOut g f) action answer h n = tried action n
     where
       tried : (a : Action) → IsTryOf f (Did a answer) → FindsRoom j past a
       tried (actions.EwbStart k slot) m = tt
@@ -420,7 +453,7 @@ none_within (Some (lines.Reg first count perm value plain)) = tt
 none_within (Some (lines.Tcs page ossa nssa plain)) = omega arith
 
 pub orderly_first : (j : JobView) → IsOrderly j []
-orderly_first j = record { frames = λ g. refl; room = λ p g. none_within (LineOf j g) }
+orderly_first j = record { frames = λ g own. refl; room = λ p g. none_within (LineOf j g) }
 
 -- who enters names two frames: one of a TCS page, and one of a REG page
 pub enters_apart : (cpus : ℕ) (s : State) (a : Actor) (action : Action) (e : Entry) (t : State) → CanApply cpus a action

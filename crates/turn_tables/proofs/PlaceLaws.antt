@@ -3,7 +3,8 @@ use Rattle.std.proofs.Common.{◌≡◌, ℕ, zero, suc, ◌+◌, ◌<◌, ◌�
 use Rattle.std.proofs.Common.{None, length, map, get_or, slice_get, replicate, take, refl, sym, ap, subst, ◌∙◌, arith}
 use Rattle.std.specs.Global.{Vec}
 use Rattle.std.proofs.lemmas.Bool.{cases_eq, cases_lt}
-use Rattle.std.proofs.lemmas.List.{get_or_append_left, get_or_past, get_or_push, length-map, length_push, map_push, take_more}
+use Rattle.std.proofs.lemmas.List.{get_or_append_left, get_or_past, get_or_push, length-map, length-replicate, length_push, map_push}
+use Rattle.std.proofs.lemmas.List.{take_more}
 use Rattle.job_grammar.specs.declared.jobs.EnclaveJob.{EnclaveJob}
 use Rattle.job_grammar.specs.declared.jobs.PageLine.{PageLine}
 use Rattle.job_grammar.specs.Jobs.{EnclaveView, lines_at, lines_in, tcs_line}
@@ -33,12 +34,20 @@ got_past (x ∷ xs) (suc k) high = got_past xs k (omega (arith, high))
 
 -- ---- enclaves
 
-first_at : (e n : ℕ) → get_or (get_or ([] ∷ []) e []) n None ≡ tcs_by (tcs_line (lines_at [] e) n) 0
-first_at zero n = refl
-first_at (suc e) n = refl
+none_of : (arrays n : ℕ) → get_or (replicate arrays None) n None ≡ tcs_by (tcs_line [] n) 0
+none_of zero n = refl
+none_of (suc arrays) zero = refl
+none_of (suc arrays) (suc n) = none_of arrays n
 
-pub table_first : IsNewTable [] ([] ∷ [])
-table_first = record { places = refl; turns = λ g. first_at g.enclave g.number }
+first_at : (arrays e n : ℕ) → get_or (get_or (replicate arrays None ∷ []) e []) n None ≡ tcs_by (tcs_line (lines_at [] e) n) 0
+first_at arrays zero n = none_of arrays n
+first_at arrays (suc e) n = refl
+
+pub table_first : (arrays : ℕ) → IsNewTable arrays [] (replicate arrays None ∷ [])
+table_first arrays = record {
+  places = ap (λ n. n ∷ []) (length-replicate arrays None);
+  turns = λ g. first_at arrays g.enclave g.number;
+}
 
 abbrev is_row : List (Option TcsTurn) → List PageLine → Type 0
 is_row row ls = (n : ℕ) → get_or row n None ≡ tcs_by (tcs_line ls n) 0
@@ -73,18 +82,18 @@ rows_more es x t row len is new (suc e) n = ⊎_elim before (λ high. ⊎_elim (
         ap (λ r. get_or r n None) (get_or_past (t ++ row ∷ []) (suc e) [] (omega (arith, len, longer, high, other)))
         ∙ ap (λ o. tcs_by (tcs_line (lines_in o) n) 0) (sym (got_past (es ++ x ∷ []) e (omega (arith, more, high, other))))
 
-pub table_more : (es : List EnclaveView) (x : EnclaveView) (t : List (List (Option TcsTurn))) (row : List (Option TcsTurn))
-    → IsNewTable es t → length row ≡ enclave_places x → is_row row x.lines → IsNewTable (es ++ x ∷ []) (t ++ row ∷ [])
-table_more es x t row is sized new = record {
+pub table_more : (arrays : ℕ) (es : List EnclaveView) (x : EnclaveView) (t : List (List (Option TcsTurn))) (row : List (Option TcsTurn))
+    → IsNewTable arrays es t → length row ≡ enclave_places x → is_row row x.lines → IsNewTable arrays (es ++ x ∷ []) (t ++ row ∷ [])
+table_more arrays es x t row is sized new = record {
   places = map_push length t row ∙ ap (λ ks. ks ++ length row ∷ []) is.places
-      ∙ ap (λ k. 0 ∷ (map enclave_places es ++ k ∷ [])) sized ∙ ap (λ ks. 0 ∷ ks) (sym (map_push enclave_places es x));
+      ∙ ap (λ k. arrays ∷ (map enclave_places es ++ k ∷ [])) sized ∙ ap (λ ks. arrays ∷ ks) (sym (map_push enclave_places es x));
   turns = λ g. rows_more es x t row len (λ e n. is.turns (record { enclave = e; number = n })) new g.enclave g.number;
 }
   where
     len : length t ≡ length es + 1
     len = sym (length-map t length) ∙ ap length is.places ∙ counted
       where
-        counted : length (0 ∷ map enclave_places es) ≡ length es + 1
+        counted : length (arrays ∷ map enclave_places es) ≡ length es + 1
         counted = let k = length-map es enclave_places in omega (arith, k)
 
 -- ---- lines
@@ -105,13 +114,13 @@ taken_more ls i d old new low is before n =
     ∙ ap (λ xs. tcs_by (tcs_line xs n) 0) (sym (take_more ls i d low))
 
 -- one enclave more was taken
-pub table_pushed : (enclaves : List EnclaveJob) (i : ℕ) (x : EnclaveJob) (pages new : List (Vec (Option TcsTurn)))
+pub table_pushed : (arrays : ℕ) (enclaves : List EnclaveJob) (i : ℕ) (x : EnclaveJob) (pages new : List (Vec (Option TcsTurn)))
     (v : Vec (Option TcsTurn)) → i < length enclaves → x ≡ get_or enclaves i x
-    → IsNewTable (map enclave_view (take i enclaves)) (map turns_in pages) → length v.items ≡ last_end x.lines.items
+    → IsNewTable arrays (map enclave_view (take i enclaves)) (map turns_in pages) → length v.items ≡ last_end x.lines.items
     → is_row v.items x.lines.items → new ≡ pages ++ v ∷ []
-    → IsNewTable (map enclave_view (take (i + 1) enclaves)) (map turns_in new)
-table_pushed enclaves i x pages new v low at is sized row pushed =
-    subst (λ es. IsNewTable es (map turns_in new)) (sym (views_more enclave_view enclaves i x low at))
-    (subst (IsNewTable (map enclave_view (take i enclaves) ++ enclave_view x ∷ []))
+    → IsNewTable arrays (map enclave_view (take (i + 1) enclaves)) (map turns_in new)
+table_pushed arrays enclaves i x pages new v low at is sized row pushed =
+    subst (λ es. IsNewTable arrays es (map turns_in new)) (sym (views_more enclave_view enclaves i x low at))
+    (subst (IsNewTable arrays (map enclave_view (take i enclaves) ++ enclave_view x ∷ []))
     (sym (ap (map turns_in) pushed ∙ map_push turns_in pages v))
-    (table_more (map enclave_view (take i enclaves)) (enclave_view x) (map turns_in pages) v.items is sized row))
+    (table_more arrays (map enclave_view (take i enclaves)) (enclave_view x) (map turns_in pages) v.items is sized row))

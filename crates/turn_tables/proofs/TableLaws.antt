@@ -15,9 +15,8 @@ use Rattle.sgx_types.proofs.Pages.{same_pages}
 use Rattle.job_grammar.specs.declared.jobs.PageLine.{PageLine}
 use Rattle.job_grammar.specs.declared.jobs.PageLine.TheVariants as lines
 use Rattle.job_grammar.specs.Jobs.{covers, is_tcs_line, tcs_line}
-use Rattle.active_list.specs.inner.Places.{IsPlaced}
 use Rattle.turn_tables.specs.declared.tcs_turns.TcsTurn.{TcsTurn}
-use Rattle.turn_tables.specs.inner.TcsTurns.{changed, tcs_at, tcs_by, with_turn}
+use Rattle.turn_tables.specs.inner.TcsTurns.{IsInRow, changed, tcs_at, tcs_by, with_turn}
 use Rattle.turn_tables.specs.inner.TcsPlaces.{or_line, turns_in}
 
 -- ---- lists
@@ -46,7 +45,7 @@ lengths_stay [] e n x = refl
 lengths_stay (r ∷ rs) zero n x = ap (λ k. k ∷ map length rs) (length-set r n x)
 lengths_stay (r ∷ rs) (suc e) n x = ap (λ ks. length r ∷ ks) (lengths_stay rs e n x)
 
-within_counts : (ks : List ℕ) (e n : ℕ) → n < get_or ks e 0 → e < length ks
+pub within_counts : (ks : List ℕ) (e n : ℕ) → n < get_or ks e 0 → e < length ks
 within_counts [] e n h = absurd (omega (arith, h))
 within_counts (k ∷ ks) zero n h = omega arith
 within_counts (k ∷ ks) (suc e) n h = let low = within_counts ks e n h in omega (arith, low)
@@ -76,14 +75,14 @@ count_there vs es t i e v view same at found =
 
 pub place_there : (vs es : List (Vec (Option TcsTurn))) (t : List (List (Option TcsTurn))) (i e n : ℕ) (v : Vec (Option TcsTurn))
     → map turns_in vs ≡ t → es ≡ vs → i ≡ e → (i < length es) × HoldsAt (λ y. v ≡ y) es i → n < length v.items
-    → IsPlaced (map length t) (page_at e n)
+    → IsInRow (map length t) (page_at e n)
 place_there vs es t i e n v view same at found low =
     let count : slice_index (map length t) e ≡ length v.items = count_there vs es t i e v view same at found in
     record { within = omega (arith, count, low) }
 
 -- a place of the table, to be written
 pub row_low : (vs : List (Vec (Option TcsTurn))) (t : List (List (Option TcsTurn))) (g : Page) → map turns_in vs ≡ t
-    → IsPlaced (map length t) g → g.enclave < length vs
+    → IsInRow (map length t) g → g.enclave < length vs
 row_low vs t g view placed =
     let low : g.enclave < length (map length t) = within_counts (map length t) g.enclave g.number placed.within in
     let one = length-map t length in
@@ -91,7 +90,7 @@ row_low vs t g view placed =
     let three = length-map vs turns_in in omega (arith, low, one, two, three)
 
 pub place_low : (vs : List (Vec (Option TcsTurn))) (t : List (List (Option TcsTurn))) (g : Page) (i : ℕ) (v : Vec (Option TcsTurn))
-    → map turns_in vs ≡ t → IsPlaced (map length t) g → i ≡ g.enclave → v ≡ get_or vs i v → g.number < length v.items
+    → map turns_in vs ≡ t → IsInRow (map length t) g → i ≡ g.enclave → v ≡ get_or vs i v → g.number < length v.items
 place_low vs t g i v view placed at is =
     let low : g.enclave < length vs = row_low vs t g view placed in
     let read : get_or (map length (map turns_in vs)) i 0 ≡ length v.items = len_read vs i v (omega (arith, low, at)) is in
@@ -101,7 +100,7 @@ place_low vs t g i v view placed at is =
     omega (arith, read, told, within)
 
 pub row_set : (vs : List (Vec (Option TcsTurn))) (t : List (List (Option TcsTurn))) (g : Page) (i : ℕ) (v : Vec (Option TcsTurn))
-    (x : TcsTurn) → map turns_in vs ≡ t → IsPlaced (map length t) g → i ≡ g.enclave → v ≡ get_or vs i v
+    (x : TcsTurn) → map turns_in vs ≡ t → IsInRow (map length t) g → i ≡ g.enclave → v ≡ get_or vs i v
     → map turns_in (set vs i (with_item v g.number (Some x))) ≡ with_turn t g x
 row_set vs t g i v x view placed at is =
     map-set turns_in vs i (with_item v g.number (Some x))

@@ -1,10 +1,9 @@
 //! What a processor does next: of its turn the end of a load that it has started, and else the first rule that applies to it.
 
 ghost use Rattle.std.specs.Prelude.{◌≡◌, ◌<◌, List, length, map};
-ghost use Rattle.sgx_types.specs.Making.{Making};
 ghost use Rattle.sgx_rules.specs.declared.entries.Entry.{Entry};
 ghost use Rattle.driver_rules.specs.Turns.{cpu_due};
-ghost use Rattle.driver_steps.specs.inner.Agrees.{Agrees};
+ghost use Rattle.driver_laws.specs.inner.Agrees.{Keeping};
 ghost use Rattle.turn_rules.specs.inner.Cursor.{IsCursor};
 ghost use Rattle.turn_tables.specs.inner.Asked.{CanAsk, after_by, cpu_by, early_by, inside_by, is_last_by, looks_at, next_step};
 ghost use Rattle.turn_tables.specs.inner.Asked.{op_at};
@@ -12,9 +11,9 @@ ghost use Rattle.turn_tables.specs.inner.Asked.{outside_by};
 ghost use Rattle.turn_tables.specs.inner.Asked.{frame_seen, page_behind, turn_by};
 ghost use Rattle.turn_tables.specs.inner.CpuTurns.{turn_at};
 ghost use Rattle.turn_tables.specs.declared.steps.CpuStep.TheVariants as steps;
-ghost use Rattle.turn_tables.specs.inner.Due.{IsOrderly, IsReady, due_in};
+ghost use Rattle.turn_tables.specs.inner.Due.{IsOrderly, IsReady, IsShown, due_in};
 ghost use Rattle.turn_tables.specs.inner.Shown.{ShowsTurns};
-ghost use Rattle.turn_tables.specs.inner.TcsTurns.{tcs_at};
+ghost use Rattle.turn_tables.specs.inner.TcsTurns.{rows, tcs_at};
 
 use crate::cpu_turns::{CpuTurn, Interruption, Last};
 use crate::dues::CpuDue;
@@ -34,7 +33,7 @@ impl Turns {
     pub fn cpu_due(&self, job: &Job, driver: &Driver, machine: &Machine, cpu: Cpu) -> CpuDue
         requires cpu { cpu.0 < length job.now.scripts }
         requires ready { IsReady job.now driver.now machine.now self.now }
-        ensures { (made : Making) (past : List Entry) → Agrees made job.now past driver.now machine.now → IsOrderly job.now past
+        ensures { (k : Keeping) (past : List Entry) → IsShown k job.now past driver.now machine.now → IsOrderly job.now past
             → ShowsTurns job.now past self.now → due_in job.now past result ≡ cpu_due job.now past cpu.0 }
     {
         self.cpu_due_by(job, driver, machine, cpu)
@@ -122,7 +121,7 @@ impl Turns {
 
     // The resumption behind an interruption, with the page of the access behind a fault.
     fn resumption(&self, driver: &Driver, interruption: Interruption, op: Op) -> CpuDue
-        requires { map length self.now.tcs ≡ driver.now.states.counts }
+        requires { map length self.now.tcs ≡ rows driver.now.states.counts }
         ensures { result ≡ after_by (frame_seen driver.now self.now) (tcs_at self.now.tcs) interruption op }
     {
         let tcs = Page {

@@ -1,14 +1,14 @@
 //! What the builder does next.
 
 ghost use Rattle.std.specs.Prelude.{◌≡◌, List, is_some, length, map};
-ghost use Rattle.sgx_types.specs.Making.{Making};
 ghost use Rattle.sgx_rules.specs.declared.entries.Entry.{Entry};
 ghost use Rattle.turn_rules.specs.Script.{step_action};
 ghost use Rattle.driver_rules.specs.Turns.{builder_due};
-ghost use Rattle.driver_steps.specs.inner.Agrees.{Agrees};
+ghost use Rattle.driver_laws.specs.inner.Agrees.{Keeping};
 ghost use Rattle.turn_rules.specs.inner.Cursor.{IsCursor};
+ghost use Rattle.turn_tables.specs.inner.TcsTurns.{rows};
 ghost use Rattle.turn_tables.specs.inner.Asked.{IsBuilderDue, next_step, standing_seen, step_by, with_frame};
-ghost use Rattle.turn_tables.specs.inner.Due.{IsOrderly, IsReady, building_in};
+ghost use Rattle.turn_tables.specs.inner.Due.{IsOrderly, IsReady, IsShown, building_in};
 ghost use Rattle.turn_tables.specs.inner.Shown.{ShowsTurns};
 
 use crate::dues::BuilderDue;
@@ -25,7 +25,7 @@ impl Turns {
     /// What the builder does next: its next step, with the least free frame or that of the page that it measures. Constant time.
     pub fn builder_due(&self, job: &Job, driver: &Driver, machine: &Machine) -> BuilderDue
         requires { IsReady job.now driver.now machine.now self.now }
-        ensures { (made : Making) (past : List Entry) → Agrees made job.now past driver.now machine.now → IsOrderly job.now past
+        ensures { (k : Keeping) (past : List Entry) → IsShown k job.now past driver.now machine.now → IsOrderly job.now past
             → ShowsTurns job.now past self.now → building_in result ≡ builder_due job.now past }
     {
         self.builder_due_by(job, driver, machine)
@@ -34,7 +34,7 @@ impl Turns {
     // What the builder does next, by what machine and tables show.
     fn builder_due_by(&self, job: &Job, driver: &Driver, machine: &Machine) -> BuilderDue
         requires cursor { IsCursor job.now self.now.cursor }
-        requires places { map length self.now.tcs ≡ driver.now.states.counts }
+        requires places { map length self.now.tcs ≡ rows driver.now.states.counts }
         ensures { IsBuilderDue job.now driver.now machine.now self.now result }
     {
         let free = machine.first_free();
@@ -66,7 +66,7 @@ impl Turns {
 
     // A step that makes a page takes the free frame, and one that measures that of its page.
     fn step_due(&self, driver: &Driver, free: Option<Frame>, step: BuildStep) -> BuilderDue
-        requires { map length self.now.tcs ≡ driver.now.states.counts }
+        requires { map length self.now.tcs ≡ rows driver.now.states.counts }
         ensures { result ≡ step_by free (standing_seen driver.now self.now) step }
     {
         match step {

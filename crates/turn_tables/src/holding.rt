@@ -1,30 +1,31 @@
 //! The holds behind an entry.
 
-ghost use Rattle.std.specs.Prelude.{◌≡◌, ◌<◌, ◌∷◌, length, IfSome};
+ghost use Rattle.std.specs.Prelude.{◌≡◌, ◌<◌, ◌∷◌, length, map, IfSome};
 ghost use Rattle.active_list.specs.inner.Active.{without_holds};
 ghost use Rattle.active_list.specs.inner.Holds.{holder_of};
 ghost use Rattle.turn_rules.specs.inner.Cursor.{IsCursor};
 ghost use Rattle.turn_rules.specs.Script.{action_of};
-ghost use Rattle.turn_tables.specs.inner.Asked.{op_at};
+ghost use Rattle.turn_tables.specs.inner.Asked.{here_seen, op_at};
 ghost use Rattle.turn_tables.specs.inner.Holding.{CanHold, FitsAll, FitsEntry, FitsHold, FitsNext, FitsOwn, KeepsHolds};
-ghost use Rattle.turn_tables.specs.inner.Holding.{access_inside_of};
+ghost use Rattle.turn_tables.specs.inner.Holding.{access_inside_of, array_held, aside_held, brought, if_here};
 ghost use Rattle.turn_tables.specs.inner.Holding.{enter_needs, held_after, held_of, holding, holding_all, loads_held};
 ghost use Rattle.turn_tables.specs.inner.Holding.{measured_next, mode_of};
 ghost use Rattle.turn_tables.specs.inner.Holding.{needed_of, one_held, own_after, own_held, page_inside_of, replies};
 ghost use Rattle.turn_tables.specs.inner.Holding.{resume_needs};
 ghost use Rattle.turn_tables.specs.inner.Noting.{IsAmong};
-ghost use Rattle.turn_tables.specs.inner.TcsTurns.{tcs_at};
+ghost use Rattle.turn_tables.specs.inner.TcsTurns.{rows, tcs_at};
 
 use crate::asking::op_at;
 use crate::cpu_turns::{CpuTurn, Interruption};
 use crate::operations::access_page;
 use crate::turns::Turns;
 use active_list::active::Active;
+use active_list::page_states::PageStates;
 use cached_translations::processor::Mode;
 use job_grammar::jobs::{Job, Op};
 use paging_machine::machine::Machine;
 use sgx_rules::entries::{Action, Cause, Entry, Event};
-use sgx_types::names::{Actor, Cpu, Page};
+use sgx_types::names::{Actor, Cpu, Page, SECS_NUMBER};
 use turn_rules::replies::is_reply;
 use turn_rules::steps::BuildStep;
 
@@ -54,40 +55,64 @@ impl Turns {
     /// nothing where the entry is another actor's. The holds of a processor end with its reply; else it begins to hold the page whose
     /// translation it takes, the page for which it left, a page that it brings back with those that it needs before it, and the TCS
     /// page and the state save page by which it resumes. The builder holds the page that it measures next.
+    /// Before a SECS or a version array page, which is brought back for a page that it needs, those are the ones that are here by
+    /// `states`; no SECS is held.
     #[inline(always)]
-    pub fn hold(&self, job: &Job, active: &mut Active, before: Mode, entry: &Entry)
-        requires { CanHold job.now active.old before self.now entry.now }
-        ensures holds { (can : CanHold job.now active.old before self.now entry.now)
+    pub fn hold(
+        &self,
+        job: &Job,
+        states: &PageStates,
+        active: &mut Active,
+        before: Mode,
+        entry: &Entry,
+    )
+        requires { CanHold job.now states.now active.old before self.now entry.now }
+        ensures holds { (can : CanHold job.now states.now active.old before self.now entry.now)
             → KeepsHolds job.now active.new.own (entry.now ∷ can.past) }
         ensures others { active.new ≡ record active.old { own = active.new.own } }
     {
-        self.hold_by(job, active, before, entry);
+        self.hold_by(job, states, active, before, entry);
     }
 
     // Each actor has its own holds; the reclaimer has none.
-    fn hold_by(&self, job: &Job, active: &mut Active, before: Mode, entry: &Entry)
-        requires { FitsEntry job.now self.now before entry.now.actor entry.now.event active.old }
-        ensures { active.new ≡ held_after job.now self.now before entry.now.actor entry.now.event active.old }
+    fn hold_by(
+        &self,
+        job: &Job,
+        states: &PageStates,
+        active: &mut Active,
+        before: Mode,
+        entry: &Entry,
+    )
+        requires { FitsEntry job.now states.now self.now before entry.now.actor entry.now.event active.old }
+        ensures { active.new ≡ held_after job.now states.now self.now before entry.now.actor entry.now.event active.old }
     {
         match entry.actor {
             Actor::Builder => self.hold_next(job, active),
-            Actor::Cpu(cpu) => self.hold_own(job, active, cpu, before, &entry.event),
+            Actor::Cpu(cpu) => self.hold_own(job, states, active, cpu, before, &entry.event),
             Actor::Reclaimer => {}
         }
     }
 
     // The holds of a processor end with each reply, and else some begin.
-    fn hold_own(&self, job: &Job, active: &mut Active, cpu: Cpu, before: Mode, event: &Event)
-        requires { FitsOwn job.now self.now before cpu.0 event.now active.old }
+    fn hold_own(
+        &self,
+        job: &Job,
+        states: &PageStates,
+        active: &mut Active,
+        cpu: Cpu,
+        before: Mode,
+        event: &Event,
+    )
+        requires { FitsOwn job.now states.now self.now before cpu.0 event.now active.old }
         ensures { active.new ≡ own_after (replies self.now cpu.0 event.now) active.old cpu.0
-            (own_held job.now self.now cpu.0 before event.now) }
+            (own_held job.now states.now self.now cpu.0 before event.now) }
     {
         let turn = self.cpus.get(cpu);
         if is_reply(turn.interruption.is_some(), event) {
             active.drop_holds(Actor::Cpu(cpu));
             return;
         }
-        let held = self.held_by(job, cpu, turn, before, event);
+        let held = self.held_by(job, states, cpu, turn, before, event);
         hold_all(active, cpu, held);
     }
 
@@ -121,32 +146,45 @@ impl Turns {
     }
 
     // What a processor, which stood so before it, begins to hold by an entry.
-    fn held_by(&self, job: &Job, cpu: Cpu, turn: CpuTurn, before: Mode, event: &Event) -> HeldPages
-        ensures { result ≡ held_of (tcs_at self.now.tcs) before turn.interruption (op_at job.now cpu.0 turn.replied)
-            (action_of event.now) }
+    fn held_by(
+        &self,
+        job: &Job,
+        states: &PageStates,
+        cpu: Cpu,
+        turn: CpuTurn,
+        before: Mode,
+        event: &Event,
+    ) -> HeldPages
+        requires { map length self.now.tcs ≡ rows states.now.counts }
+        ensures { result ≡ held_of (here_seen states.now self.now) (tcs_at self.now.tcs) before turn.interruption
+            (op_at job.now cpu.0 turn.replied) (action_of event.now) }
     {
         let Some(action) = action_of(event) else {
             return NO_PAGES;
         };
         let op = op_at(job, cpu, turn.replied);
-        self.held_of(turn.interruption, op, before, &action)
+        self.held_of(states, turn.interruption, op, before, &action)
     }
 
     fn held_of(
         &self,
+        states: &PageStates,
         interruption: Option<Interruption>,
         op: Option<Op>,
         before: Mode,
         action: &Action,
     ) -> HeldPages
-        ensures { result ≡ held_of (tcs_at self.now.tcs) before interruption op (Some action.now) }
+        requires { map length self.now.tcs ≡ rows states.now.counts }
+        ensures { result ≡ held_of (here_seen states.now self.now) (tcs_at self.now.tcs) before interruption op (Some action.now) }
     {
         match *action {
             Action::Fill { number, .. } => one_held(page_inside(before, number)),
             Action::Aex {
                 cause: Cause::Fault,
             } => one_held(access_inside(before, op)),
-            Action::EldStart { page, .. } => loads_held(self.needed(interruption, op), page),
+            Action::EldStart { page, .. } => {
+                self.brought(states, self.needed(interruption, op), page)
+            }
             Action::Resume { enclave, tcs, .. } => {
                 let needed = self.resume_needs(enclave, tcs);
                 HeldPages {
@@ -156,6 +194,65 @@ impl Turns {
                 }
             }
             _ => NO_PAGES,
+        }
+    }
+
+    // A page that it brings back, with those that it needs before it.
+    fn brought(&self, states: &PageStates, needed: Option<Needed>, page: Page) -> HeldPages
+        requires { map length self.now.tcs ≡ rows states.now.counts }
+        ensures { result ≡ brought (here_seen states.now self.now) needed page }
+    {
+        if page.enclave != 0 && page.number != SECS_NUMBER {
+            loads_held(needed, page)
+        } else {
+            self.aside_held(states, needed, page)
+        }
+    }
+
+    // .. which is a SECS or a version array page, with those that are here. No SECS is held.
+    fn aside_held(&self, states: &PageStates, needed: Option<Needed>, page: Page) -> HeldPages
+        requires { map length self.now.tcs ≡ rows states.now.counts }
+        ensures { result ≡ aside_held (here_seen states.now self.now) needed page }
+    {
+        let third = array_held(page);
+        if let Some(needed) = needed {
+            if self.is_here(states, needed.tcs) {
+                return HeldPages {
+                    first: Some(needed.tcs),
+                    second: self.if_here(states, needed.save),
+                    third,
+                };
+            }
+        }
+        HeldPages {
+            first: None,
+            second: None,
+            third,
+        }
+    }
+
+    // Whether a page is here.
+    fn is_here(&self, states: &PageStates, page: Page) -> bool
+        requires { map length self.now.tcs ≡ rows states.now.counts }
+        ensures { result ≡ here_seen states.now self.now page }
+    {
+        self.frame_by(states, page).is_some()
+    }
+
+    // A page where it is here.
+    fn if_here(&self, states: &PageStates, page: Option<Page>) -> Option<Page>
+        requires { map length self.now.tcs ≡ rows states.now.counts }
+        ensures { result ≡ if_here (here_seen states.now self.now) page }
+    {
+        match page {
+            Some(page) => {
+                if self.is_here(states, page) {
+                    Some(page)
+                } else {
+                    None
+                }
+            }
+            None => None,
         }
     }
 
@@ -273,7 +370,14 @@ fn access_inside(before: Mode, op: Option<Op>) -> Option<Page>
     }
 }
 
-// A page that it brings back, with those that it needs before it.
+// A version array page that it brings back.
+fn array_held(page: Page) -> Option<Page>
+    ensures { result ≡ array_held page }
+{
+    if page.enclave == 0 { Some(page) } else { None }
+}
+
+// A TCS or REG page that it brings back, with those that it needs before it.
 fn loads_held(needed: Option<Needed>, page: Page) -> HeldPages
     ensures { result ≡ loads_held needed page }
 {

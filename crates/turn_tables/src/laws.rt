@@ -1,21 +1,26 @@
 //! What the entries of a driver keep. A law is the contract of a function without arguments.
 
 ghost use Rattle.std.specs.Prelude.{ℕ, ◌≡◌, ◌<◌, ◌^◌, ◌∷◌, [], List, length, replicate};
+ghost use Rattle.driver_laws.specs.inner.Agrees.{drivers};
 ghost use Rattle.driver_laws.specs.inner.Kinds.{CanMove};
 ghost use Rattle.driver_laws.specs.inner.Three.{NamesOwn, TcsAreApart};
 ghost use Rattle.driver_rules.specs.Dues.{Finished};
 ghost use Rattle.driver_rules.specs.Scripts.{IsEnded, ScriptRule};
 ghost use Rattle.driver_rules.specs.Turns.{builder_due, cpu_due};
+ghost use Rattle.driver_steps.specs.inner.Agrees.{Agrees};
+ghost use Rattle.driver_tables.specs.declared.driver.Driver.{Driver};
 ghost use Rattle.cached_translations.specs.declared.processor.Mode.{Mode};
 ghost use Rattle.job_grammar.specs.Jobs.{JobView};
 ghost use Rattle.job_grammar.specs.inner.Valid.{IsValid};
 ghost use Rattle.paging_laws.specs.inner.State.{State};
 ghost use Rattle.paging_laws.specs.inner.Steps.{CanApply, IsStep};
+ghost use Rattle.paging_machine.specs.inner.Parts.{Parts};
+ghost use Rattle.sgx_types.specs.Making.{Making};
 ghost use Rattle.sgx_rules.specs.Rules.{Along};
 ghost use Rattle.sgx_rules.specs.declared.entries.Action.{Action};
 ghost use Rattle.sgx_types.specs.declared.names.Actor.{Actor};
 ghost use Rattle.sgx_rules.specs.declared.entries.Entry.{Entry};
-ghost use Rattle.turn_tables.specs.inner.Due.{IsOrderly};
+ghost use Rattle.turn_tables.specs.inner.Due.{IsOrderly, IsShown};
 ghost use Rattle.turn_tables.specs.inner.Ending.{EndsAreTold, IsForRecord, NoneFails};
 ghost use Rattle.turn_tables.specs.inner.Entries.{CanNote, EntersApart};
 ghost use Rattle.turn_tables.specs.inner.Holding.{KeepsHolds};
@@ -40,6 +45,12 @@ pub fn finished_runs_are_ended()
         → builder_due j past ≡ Finished → ((p : ℕ) → p < length j.scripts → cpu_due j past p ≡ Finished) → IsEnded j past }
     ensures first { EndsAreTold [] }
     ensures more { (past : List Entry) (e : Entry) → IsForRecord past e.event → EndsAreTold past → EndsAreTold (e ∷ past) }
+{}
+
+/// Where driver and machine agree on some entries, the driver's tables and the machine show them.
+pub fn agreeing_tables_show()
+    ensures { (made : Making) (j : JobView) (past : List Entry) (d : Driver) (m : Parts) → Agrees made j past d m
+        → IsShown (drivers j) j past d m }
 {}
 
 /// Nobody holds a page before a job's first entry.

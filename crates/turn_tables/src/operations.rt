@@ -6,7 +6,7 @@ ghost use Rattle.turn_tables.specs.declared.steps.CpuStep.TheVariants as steps;
 ghost use Rattle.turn_tables.specs.inner.Asked.{CanAsk, access_by, access_in, access_page, enters_by, fill_by, frame_seen};
 ghost use Rattle.turn_tables.specs.inner.Asked.{last_save_of};
 ghost use Rattle.turn_tables.specs.inner.Asked.{looks_at, next_save_of, op_by, page_of, resumes_by, with_access};
-ghost use Rattle.turn_tables.specs.inner.TcsTurns.{tcs_at};
+ghost use Rattle.turn_tables.specs.inner.TcsTurns.{rows, tcs_at};
 
 use crate::dues::CpuDue;
 use crate::steps::CpuStep;
@@ -133,7 +133,7 @@ impl Turns {
     // With its pages here it enters, by their frames: those of the TCS page and of the state save page, that of the first alone where
     // all of these are in use.
     fn enters(&self, driver: &Driver, tcs: Page) -> CpuDue
-        requires { map length self.now.tcs ≡ driver.now.states.counts }
+        requires { map length self.now.tcs ≡ rows driver.now.states.counts }
         ensures { result ≡ enters_by (frame_seen driver.now self.now) tcs (next_save_of tcs.enclave (tcs_at self.now.tcs tcs)) }
     {
         let Some(tcs_frame) = self.frame(driver, tcs) else {
@@ -150,7 +150,7 @@ impl Turns {
 
     /// With its pages here it resumes: the TCS page, the state save page that was used last, and the page of an access.
     pub(crate) fn resumes(&self, driver: &Driver, tcs: Page, access: Option<Page>) -> CpuDue
-        requires { map length self.now.tcs ≡ driver.now.states.counts }
+        requires { map length self.now.tcs ≡ rows driver.now.states.counts }
         ensures { result ≡ resumes_by (frame_seen driver.now self.now) tcs (last_save_of tcs.enclave (tcs_at self.now.tcs tcs)) access }
     {
         let Some(tcs_frame) = self.frame(driver, tcs) else {
@@ -169,7 +169,7 @@ impl Turns {
 
     // With the page of its access here too.
     fn with_access(&self, driver: &Driver, access: Option<Page>, due: CpuDue) -> CpuDue
-        requires { map length self.now.tcs ≡ driver.now.states.counts }
+        requires { map length self.now.tcs ≡ rows driver.now.states.counts }
         ensures { result ≡ with_access (frame_seen driver.now self.now) access due }
     {
         let Some(page) = access else {

@@ -1,24 +1,32 @@
 //! Where the pages are that an actor needs.
 
 ghost use Rattle.std.specs.Prelude.{◌≡◌, length, map};
-ghost use Rattle.turn_tables.specs.inner.Asked.{frame_seen, last_save_of, next_save_of, standing_seen};
-ghost use Rattle.turn_tables.specs.inner.TcsTurns.{tcs_at};
+ghost use Rattle.turn_tables.specs.inner.Asked.{frame_by, frame_seen, last_save_of, next_save_of, standing_seen};
+ghost use Rattle.turn_tables.specs.inner.TcsTurns.{rows, tcs_at};
 
 use crate::turns::Turns;
-use active_list::page_states::PageState;
+use active_list::page_states::{PageState, PageStates};
 use driver_tables::driver::Driver;
 use sgx_types::names::{Frame, Page};
 
 impl Turns {
     /// The frame of a page that is here.
     pub(crate) fn frame(&self, driver: &Driver, page: Page) -> Option<Frame>
-        requires { map length self.now.tcs ≡ driver.now.states.counts }
+        requires { map length self.now.tcs ≡ rows driver.now.states.counts }
         ensures { result ≡ frame_seen driver.now self.now page }
+    {
+        self.frame_by(&driver.states, page)
+    }
+
+    /// .. by the states of pages.
+    pub(crate) fn frame_by(&self, states: &PageStates, page: Page) -> Option<Frame>
+        requires { map length self.now.tcs ≡ rows states.now.counts }
+        ensures { result ≡ frame_by states.now self.now page }
     {
         if !self.tcs.has_place(page) {
             return None;
         }
-        match driver.states.state(page) {
+        match states.state(page) {
             PageState::Here(frame) => Some(frame),
             _ => None,
         }
@@ -26,7 +34,7 @@ impl Turns {
 
     /// The frame of a page that is here, or on its way out.
     pub(crate) fn standing(&self, driver: &Driver, page: Page) -> Option<Frame>
-        requires { map length self.now.tcs ≡ driver.now.states.counts }
+        requires { map length self.now.tcs ≡ rows driver.now.states.counts }
         ensures { result ≡ standing_seen driver.now self.now page }
     {
         if !self.tcs.has_place(page) {

@@ -3,7 +3,7 @@
 ghost use Rattle.std.specs.Prelude.{◌≡◌, ◌<◌, ◌^◌};
 ghost use Rattle.driver_rules.specs.Stops.{is_last_refusal, spends};
 ghost use Rattle.turn_tables.specs.inner.Noting.{broken_after, broken_by, broken_in, exits, failed_by, last_after, page_loaded};
-ghost use Rattle.turn_tables.specs.inner.Noting.{turn_after};
+ghost use Rattle.turn_tables.specs.inner.Noting.{start_failed, turn_after};
 
 use crate::cpu_turns::{CpuTurn, Interruption, Last};
 use cached_translations::processor::Mode;
@@ -98,6 +98,10 @@ fn last_after(event: &Event, last: Last) -> Last
             page: *page,
         },
         Event::Refused {
+            action: Action::EldStart { page, .. },
+            why,
+        } => start_failed(*page, why),
+        Event::Refused {
             action: Action::Eld { .. },
             why,
         } => failed_by(page_loaded(last), why),
@@ -130,6 +134,19 @@ fn failed_by(page: Option<Page>, refusal: &Refusal) -> Last
         Refusal::BadHeader { .. } => Last::Fails {
             page,
             why: BusWhy::Header,
+        },
+        _ => Last::WasEnded,
+    }
+}
+
+// A refused start of a load. The slot held no version.
+fn start_failed(page: Page, refusal: &Refusal) -> Last
+    ensures { result ≡ start_failed page refusal.now }
+{
+    match refusal {
+        Refusal::SlotEmpty => Last::Fails {
+            page,
+            why: BusWhy::Slot,
         },
         _ => Last::WasEnded,
     }

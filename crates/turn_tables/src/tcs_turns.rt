@@ -4,13 +4,13 @@ ghost use Rattle.std.specs.Prelude.{ℕ, ◌≡◌, ◌<◌, ◌≤◌, ◌^◌,
 ghost use Rattle.std.specs.List.{All};
 ghost use Rattle.job_grammar.specs.Jobs.{tcs_line};
 ghost use Rattle.job_grammar.specs.inner.Jobs.{enclave_view};
-ghost use Rattle.active_list.specs.inner.Places.{IsPlaced};
 ghost use Rattle.driver_tables.specs.inner.Counts.{IsLow, IsShort, last_end, line_end};
-ghost use Rattle.turn_tables.specs.inner.TcsTurns.{IsNewTable, has_place, tcs_at, tcs_by, with_less, with_more, with_turn};
+ghost use Rattle.turn_tables.specs.inner.TcsTurns.{IsInRow, IsNewTable, has_place, has_row, tcs_at, tcs_by, with_less, with_more};
+ghost use Rattle.turn_tables.specs.inner.TcsTurns.{with_turn};
 ghost use Rattle.turn_tables.specs.inner.TcsPlaces.{or_line};
 
 use job_grammar::jobs::{EnclaveJob, PageLine};
-use sgx_types::names::{Memory, Page};
+use sgx_types::names::{Memory, Page, SECS_NUMBER};
 use std::alloc::Global;
 use std::marker::Model;
 
@@ -22,10 +22,11 @@ pub struct TcsTurn {
     pub saved: u64,
 }
 
-/// Those of each TCS page of a job. There is a place for each page that the job's lines name, and for those below it.
+/// Those of each TCS page of a job. There is a place for each page that the job's lines name, and for those below it, and for each version
+/// array page.
 #[derive(Drop)]
 pub struct TcsTurns {
-    // By enclave, and then by page number; there is no enclave 0.
+    // By enclave, and then by page number. Version array pages are of enclave 0.
     pages: Vec<Vec<Option<TcsTurn>>>,
 }
 
@@ -40,22 +41,36 @@ impl Model for TcsTurns {
 }
 
 impl TcsTurns {
-    /// A place for each page of these enclaves, with no state save page in use.
-    pub(crate) fn new(alloc: Global, enclaves: &[EnclaveJob]) -> Result<TcsTurns, Memory>
+    /// A place for each of so many version array pages and for each page of these enclaves, with no state save page in use.
+    pub(crate) fn new(
+        alloc: Global,
+        arrays: u32,
+        enclaves: &[EnclaveJob],
+    ) -> Result<TcsTurns, Memory>
         requires { All IsLow enclaves.now }
-        ensures { IfOk result (IsNewTable (map enclave_view enclaves.now)) }
+        ensures { IfOk result (IsNewTable arrays (map enclave_view enclaves.now)) }
     {
         let mut pages = Vec::with_capacity(alloc, enclaves.len())?;
-        pages.push(Vec::new(alloc))?;
+        pages.push(vec![in alloc; None; arrays as usize]?)?;
         for enclave in enclaves {
             pages.push(turns_of(alloc, &enclave.lines)?)?;
         }
         Ok(TcsTurns { pages })
     }
 
-    /// Whether the table has a place for a page.
+    /// Whether a job's tables have a place for a page: for its TCS and REG pages, its version array pages, and the SECS of each enclave.
     pub fn has_place(&self, page: Page) -> bool
         ensures { result ≡ has_place self.now page }
+    {
+        if page.enclave != 0 && page.number == SECS_NUMBER {
+            return usize::from(page.enclave) < self.pages.len();
+        }
+        self.has_row(page)
+    }
+
+    // Whether there are so many pages of the page's enclave, or so many version array pages.
+    fn has_row(&self, page: Page) -> bool
+        ensures { result ≡ has_row self.now page }
     {
         match self.pages.get(usize::from(page.enclave)) {
             Some(turns) => (page.number as usize) < turns.len(),
@@ -66,7 +81,7 @@ impl TcsTurns {
     /// What stands of a TCS page, None of every other page.
     pub fn get(&self, page: Page) -> Option<TcsTurn>
         ensures value { result ≡ tcs_at self.now page }
-        ensures placed { IfSome result (λ turn. IsPlaced (map length self.now) page) }
+        ensures placed { IfSome result (λ turn. IsInRow (map length self.now) page) }
     {
         let turns = self.pages.get(usize::from(page.enclave))?;
         let turn = turns.get(page.number as usize)?;
@@ -75,7 +90,7 @@ impl TcsTurns {
 
     // What stands of a page from now on.
     fn set(&mut self, page: Page, turn: TcsTurn)
-        requires { IsPlaced (map length self.old) page }
+        requires { IsInRow (map length self.old) page }
         ensures { self.new ≡ with_turn self.old page turn }
     {
         self.pages[usize::from(page.enclave)][page.number as usize] = Some(turn);

@@ -33,7 +33,7 @@ impl Turns {
             cursor: BuildCursor::new(job),
             inits: [false; 9],
             cpus: CpuTurns::new(alloc, job.scripts().len())?,
-            tcs: TcsTurns::new(alloc, job.enclaves())?,
+            tcs: TcsTurns::new(alloc, job.va_pages(), job.enclaves())?,
             last: None,
             is_spent: false,
         })

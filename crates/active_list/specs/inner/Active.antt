@@ -4,21 +4,21 @@ use Rattle.std.specs.List.{IsDistinct, list_all}
 use Rattle.sgx_types.specs.declared.names.Page.{Page}
 use Rattle.sgx_types.specs.Pages.{same_page}
 use Rattle.active_list.specs.declared.ring.Listed.{Listed}
-use Rattle.active_list.specs.inner.Places.{IsPlaced}
+use Rattle.active_list.specs.inner.Places.{IsPlaced, PageCounts}
 use Rattle.active_list.specs.inner.Ring.{pages_of, is_listed}
 use Rattle.active_list.specs.inner.Listing.{turn, touched}
 use Rattle.active_list.specs.inner.Holds.{own_of, joined, is_held}
 
--- the listed pages from the head on, how many pages each enclave of the job has, by its number, and the pages that each
--- actor holds: the processors in order, and then the builder
+-- the listed pages from the head on, how many pages the job has, and the pages that each actor holds: the processors in order, and then
+-- the builder
 pub record ActiveList : Type 0 where
   pub pages : List Listed
-  pub counts : List ℕ
+  pub counts : PageCounts
   pub own : List (List Page)
 
 -- an empty list without holds
-abbrev pub new_active : List ℕ → ActiveList
-new_active counts = record { pages = []; counts = 0 ∷ counts; own = replicate 17 [] }
+abbrev pub new_active : PageCounts → ActiveList
+new_active counts = record { pages = []; counts = counts; own = replicate 17 [] }
 
 -- no page is listed twice, and each is a page of the job
 pub record IsActive (list : ActiveList) : Type 0 where

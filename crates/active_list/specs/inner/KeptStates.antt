@@ -1,6 +1,7 @@
 -- What the states of pages are kept as.
-use Rattle.std.specs.Prelude.{◌≡◌, length, sum}
+use Rattle.std.specs.Prelude.{◌≡◌, length}
 use Rattle.active_list.specs.declared.page_states.PageStates.TheInside.{Inside}
+use Rattle.active_list.specs.inner.Places.{total}
 use Rattle.active_list.specs.inner.States.{StateTable}
 
 -- the states by place
@@ -9,4 +10,4 @@ table_of s = record { counts = s.places; states = s.states.items }
 
 -- each page has its place
 abbrev pub IsKept : Inside → Type 0
-IsKept s = length s.states.items ≡ sum s.places
+IsKept s = length s.states.items ≡ total s.places

@@ -1,21 +1,21 @@
 -- The list of the pages that may be written out, as contracts see it.
-use Rattle.std.specs.Prelude.{◌≡◌, ℕ, ◌&&◌, if◌then◌else◌, Bool, true, false, List, [], ◌∷◌, ◌++◌, map, Option}
+use Rattle.std.specs.Prelude.{◌≡◌, ◌&&◌, if◌then◌else◌, Bool, true, false, List, [], ◌∷◌, ◌++◌, map, Option}
 use Rattle.std.specs.Prelude.{Some, None, ◌<◌, ◌^◌, length}
 use Rattle.std.specs.List.{list_any, IsDistinct}
 use Rattle.sgx_types.specs.declared.names.Page.{Page}
 use Rattle.sgx_types.specs.Pages.{same_page}
 use Rattle.active_list.specs.declared.ring.Listed.{Listed}
-use Rattle.active_list.specs.inner.Places.{IsPlaced}
+use Rattle.active_list.specs.inner.Places.{IsPlaced, PageCounts}
 use Rattle.active_list.specs.inner.Ring.{pages_of, is_listed}
 
--- the listed pages from the head on, and how many pages each enclave of the job has, by its number
+-- the listed pages from the head on, and how many pages the job has
 pub record Listing : Type 0 where
   pub pages : List Listed
-  pub counts : List ℕ
+  pub counts : PageCounts
 
 -- an empty list
-abbrev pub new_listing : List ℕ → Listing
-new_listing counts = record { pages = []; counts = 0 ∷ counts }
+abbrev pub new_listing : PageCounts → Listing
+new_listing counts = record { pages = []; counts = counts }
 
 -- no page is listed twice, each is a page of the job, and their number has 32 bits
 pub record IsListing (list : Listing) : Type 0 where

@@ -1,18 +1,18 @@
 -- The states of pages as contracts see them.
-use Rattle.std.specs.Prelude.{ℕ, List, ◌∷◌, sum, replicate, slice_index_or, slice_set}
+use Rattle.std.specs.Prelude.{List, replicate, slice_index_or, slice_set}
 use Rattle.sgx_types.specs.declared.names.Page.{Page}
 use Rattle.active_list.specs.declared.page_states.PageState.{PageState}
 use Rattle.active_list.specs.declared.page_states.PageState.TheVariants.{Absent}
-use Rattle.active_list.specs.inner.Places.{place_of}
+use Rattle.active_list.specs.inner.Places.{PageCounts, place_of, total}
 
--- how many pages each enclave has, by its number, and the state of each page, by its place
+-- how many pages there are, and the state of each, by its place
 pub record StateTable : Type 0 where
-  pub counts : List ℕ
+  pub counts : PageCounts
   pub states : List PageState
 
 -- no page has been in a frame
-abbrev pub all_absent : List ℕ → StateTable
-all_absent counts = record { counts = 0 ∷ counts; states = replicate (sum counts) Absent }
+abbrev pub all_absent : PageCounts → StateTable
+all_absent counts = record { counts = counts; states = replicate (total counts) Absent }
 
 -- the state of a page
 abbrev pub state_of : StateTable → Page → PageState

@@ -6,7 +6,7 @@ use Rattle.job_grammar.specs.Jobs.{JobView}
 use Rattle.turn_rules.specs.Machines.{machine_of}
 use Rattle.paging_laws.specs.inner.Histories.{StandsWithAllRules}
 use Rattle.paging_machine.specs.inner.Parts.{Parts, state_of}
-use Rattle.driver_laws.specs.inner.Counted.{CountsSlots}
+use Rattle.driver_laws.specs.inner.Agrees.{auditors}
 use Rattle.driver_laws.specs.inner.Three.{TcsAreApart}
 use Rattle.driver_tables.specs.declared.driver.Driver.{Driver}
 use Rattle.driver_tables.specs.inner.Tables.{ShowsTables}
@@ -24,9 +24,8 @@ pub record ShowsTrace (j : JobView) (past : List Entry) (d : Driver) (m : Parts)
   pub goes_on : GoesOn j past
   pub stands : StandsWithAllRules (machine_of j) (state_of m) past (made_by j.key past)
   pub cpus : length m.cpus ≡ d.cpus
-  -- the driver's tables have what the entries say, and as many slots are out as pages have one
-  pub shows : ShowsTables j d past
-  pub counted : CountsSlots d.slots past
+  -- the driver's tables have what the entries say, with all slots
+  pub shows : ShowsTables auditors j d past
   pub holds : KeepsHolds j d.active.own past
   -- so have the tables of what is due
   pub turns : ShowsTurns j past t

@@ -1,7 +1,7 @@
 -- When the driver's tables can follow an entry of a trace, and what is so of them then.
 use Rattle.std.specs.Prelude.{◌≡◌, true, List, ◌∷◌, Option, None, Some}
 use Rattle.sgx_rules.specs.declared.entries.Action.{Action}
-use Rattle.sgx_rules.specs.declared.entries.Action.TheVariants.{Ewb, Eld}
+use Rattle.sgx_rules.specs.declared.entries.Action.TheVariants.{EwbStart, Ewb, EldStart, Eld}
 use Rattle.sgx_rules.specs.declared.entries.Entry.{Entry}
 use Rattle.sgx_rules.specs.declared.entries.Event.{Event}
 use Rattle.sgx_rules.specs.declared.entries.Event.TheVariants.{Did, Refused}
@@ -11,11 +11,10 @@ use Rattle.sgx_rules.specs.inner.Starts.{bare_start}
 use Rattle.cached_translations.specs.declared.processor.Mode.{Mode}
 use Rattle.job_grammar.specs.Jobs.{JobView}
 use Rattle.turn_rules.specs.Script.{action_of}
-use Rattle.slot_keeper.specs.inner.Keeper.{count_out}
 use Rattle.paging_laws.specs.inner.Steps.{IsStep}
 use Rattle.paging_machine.specs.declared.starts.Start as starts
 use Rattle.paging_machine.specs.inner.Parts.{Parts, start_of, state_of}
-use Rattle.driver_laws.specs.inner.Counted.{CountMoves}
+use Rattle.driver_laws.specs.inner.Agrees.{auditors}
 use Rattle.driver_tables.specs.declared.driver.Driver.{Driver}
 use Rattle.driver_tables.specs.inner.Tables.{ShowsTables}
 use Rattle.run_history.specs.inner.Histories.{GoesOn}
@@ -32,7 +31,14 @@ frame_ended (Did (Eld f) answer) = Some f
 frame_ended (Refused (Eld f) refusal) = Some f
 frame_ended event = None
 
--- an entry of a trace which keeps each rule with it. Before it the tables showed the trace; `start` is the open start that it ends
+-- .. and that of the start that it opens
+abbrev pub frame_begun : Event → Option Frame
+frame_begun (Did (EwbStart f at) answer) = Some f
+frame_begun (Did (EldStart f page at) answer) = Some f
+frame_begun event = None
+
+-- an entry of a trace which keeps each rule with it. Before it the tables showed the trace; `start` is the open start that it ends, or that
+-- it has opened
 pub record CanFollow (t : Turns) (d : Driver) (before : Mode) (start : Option starts.Start) (e : Entry) : Type 0 where
   pub j : JobView
   pub past : List Entry
@@ -46,13 +52,13 @@ pub record CanFollow (t : Turns) (d : Driver) (before : Mode) (start : Option st
   pub step : (action : Action) → action_of e.event ≡ Some action → is_plain action ≡ true
       → IsStep (state_of m) e.actor action e (state_of m')
   pub stood : before ≡ mode_of m e.actor
-  pub opened : (f : Frame) → frame_ended e.event ≡ Some f → start_of start ≡ bare_start (open_start past f.0)
+  pub ended : (f : Frame) → frame_ended e.event ≡ Some f → start_of start ≡ bare_start (open_start past f.0)
+  pub begun : (f : Frame) → frame_begun e.event ≡ Some f → start_of start ≡ bare_start (open_start (e ∷ past) f.0)
 
 -- the tables behind the entry
 pub record IsFollowed (j : JobView) (past : List Entry) (old : Driver) (e : Entry) (new : Driver) : Type 0 where
   -- they show it
-  pub shows : ShowsTables j new (e ∷ past)
-  -- as many slots are out as pages have one, and who holds which pages is as before
-  pub counts : CountMoves e.event (count_out old.slots) (count_out new.slots)
+  pub shows : ShowsTables auditors j new (e ∷ past)
+  -- who holds which pages is as before
   pub own : new.active.own ≡ old.active.own
   pub arrays : KeepsArrays j new.slots (e ∷ past)

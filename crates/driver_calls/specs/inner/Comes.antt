@@ -2,6 +2,7 @@
 use Rattle.std.specs.Prelude.{◌≡◌, List, Option, None, Some}
 use Rattle.sgx_types.specs.declared.names.Actor.TheVariants as actors
 use Rattle.sgx_rules.specs.declared.entries.BusWhy.{BusWhy}
+use Rattle.sgx_rules.specs.declared.entries.BusWhy.TheVariants as reasons
 use Rattle.sgx_rules.specs.declared.entries.Entry.{Entry}
 use Rattle.sgx_rules.specs.declared.entries.Event.TheVariants.{Bus}
 use Rattle.sgx_types.specs.declared.names.Cpu.{Cpu}
@@ -37,9 +38,12 @@ Tells (Some calls) are = are calls
 abbrev pub bus_of : Cpu → Page → BusWhy → Entry
 bus_of cpu page why = record { actor = actors.Cpu cpu; event = Bus page why }
 
+-- the answer for the page that is asked for; behind a refused start comes the bus that tells it
 abbrev pub AnswerComes : Cpu → Page → FaultAnswer → List Call → List Call → Driver → Driver → Type 0
 AnswerComes cpu page (answers.Started e work) calls longer d d' = Comes e calls longer d d'
 AnswerComes cpu page (answers.Bus why) calls longer d d' = Comes (bus_of cpu page why) calls longer d d'
+AnswerComes cpu page (answers.Slot e) calls longer d d' =
+    Comes e calls longer d d' × Comes (bus_of cpu page reasons.Slot) longer longer d' d'
 AnswerComes cpu page answer calls longer d d' = IsNoCall calls longer d d'
 
 -- the end of a load, and where it was refused the bus behind it

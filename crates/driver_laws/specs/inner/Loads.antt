@@ -2,7 +2,6 @@
 use Rattle.std.specs.Prelude.{ℕ, ◌≡◌, false, List, Option, None, Some}
 use Rattle.sgx_rules.specs.declared.entries.Action.TheVariants.{Eld}
 use Rattle.sgx_types.specs.declared.names.Actor.{Actor}
-use Rattle.sgx_types.specs.declared.names.Actor.TheVariants as actors
 use Rattle.sgx_rules.specs.declared.entries.Entry.{Entry}
 use Rattle.sgx_rules.specs.declared.entries.Event.{Event}
 use Rattle.sgx_rules.specs.declared.entries.Event.TheVariants.{Did, Refused}
@@ -10,7 +9,8 @@ use Rattle.sgx_types.specs.declared.names.Cpu.{Cpu}
 use Rattle.sgx_types.specs.declared.names.Page.{Page}
 use Rattle.sgx_rules.specs.Starts.{open_start}
 use Rattle.driver_rules.specs.Scripts.{is_load}
-use Rattle.driver_rules.specs.Turns.{Last, Loads, last_of, load_of}
+use Rattle.driver_rules.specs.Turns.{Last, last_of, load_of, Loads}
+use Rattle.sgx_types.specs.declared.names.Actor.TheVariants as actors
 
 -- by the page that each frame's open start loads, and how its last entry left each processor
 pub record LoadsAreOwned (loads : ℕ → Option Page) (last : ℕ → Last) : Type 0 where

@@ -4,14 +4,16 @@ use Rattle.std.specs.Prelude.{ℕ, ◌≡◌, ◌==◌, ◌≤◌, Bool, true, f
 use Rattle.sgx_rules.specs.declared.entries.Entry.{Entry}
 use Rattle.sgx_rules.specs.declared.entries.Event.{Event}
 use Rattle.sgx_rules.specs.declared.entries.Event.TheVariants.{Did}
-use Rattle.sgx_rules.specs.declared.entries.Action.TheVariants.{Block, EwbStart, Ewb}
+use Rattle.sgx_rules.specs.declared.entries.Action.TheVariants.{Block, Ewb, EwbStart}
 use Rattle.sgx_types.specs.declared.names.Page.{Page}
 use Rattle.sgx_rules.specs.Frames.{is_blocked, is_sealing}
-use Rattle.sgx_rules.specs.Starts.{Start, open_start}
+use Rattle.sgx_types.specs.Pages.{is_own_page}
+use Rattle.sgx_rules.specs.Starts.{open_start, Start}
 use Rattle.driver_rules.specs.Holds.{is_among}
-use Rattle.driver_rules.specs.Passes.{Between, Blocking, Form, Pass, Scan, Sealing, Tries}
-use Rattle.driver_rules.specs.Places.{Here, Leaving, active, place}
+use Rattle.driver_rules.specs.Passes.{Aside, aside, Between, Blocking, Form, IsToGo, NoneAside, Pass, Scan, Sealing, Tries}
+use Rattle.driver_rules.specs.Places.{active, Here, Leaving, place}
 use Rattle.driver_laws.specs.inner.Sound.{is_write_start}
+use Rattle.driver_rules.specs.Passes as goes
 
 -- ---- one page
 
@@ -72,9 +74,22 @@ HasPages past (Blocking [] taken) = ⊥
 HasPages past (Blocking (g ∷ gs) taken) = IsBlocking past (g ∷ gs) taken
 HasPages past (Tries g rest form) = IsTrying past g rest form
 
+-- ---- a page that goes out beside the passes
+
+-- it alone of the SECSs and version array pages is leaving. That no page of its enclave, or no start of a slot of it, is there the places
+-- tell: these want it here
+abbrev pub IsOnly : List Entry → Page → Type 0
+IsOnly past g = (is_own_page g ≡ false) × ((h : Page) (f : ℕ) → place past h ≡ Leaving f → is_own_page h ≡ false → h ≡ g)
+
+abbrev pub HasAside : List Entry → Aside → Type 0
+HasAside past NoneAside = (g : Page) (f : ℕ) → place past g ≡ Leaving f → is_own_page g ≡ true
+HasAside past (IsToGo g) = IsOnly past g × IsTaken past false g
+HasAside past (goes.IsGoing g) = IsOnly past g × IsGoing past g
+
 -- ---- all of it
 
 pub record KeepsPages (past : List Entry) (pass : Pass) : Type 0 where
+  pub aside : HasAside past (aside past)
   -- a page that is here is not blocked
   pub here : (g : Page) (f : ℕ) → place past g ≡ Here f → is_blocked past f ≡ false
   -- a frame's page is on its way out exactly where a start of a write-out is open

@@ -1,16 +1,17 @@
 -- The three pages that a processor needs at once, of which all that it holds are.
-use Rattle.std.specs.Prelude.{ℕ, Bool, false, ◌≡◌, ◌+◌, true, List, [], ◌∷◌, ◌++◌, Option, Some, None, is_some}
+use Rattle.std.specs.Prelude.{ℕ, Bool, false, ◌≡◌, ◌==◌, ◌<◌, ◌+◌, ◌⊎◌, true, List, [], ◌∷◌, ◌++◌, Option, Some, None, is_some}
 use Rattle.std.specs.List.{list_any}
 use Rattle.sgx_rules.specs.declared.entries.Entry.{Entry}
 use Rattle.sgx_types.specs.declared.names.Page.{Page}
-use Rattle.sgx_types.specs.Pages.{page_at, same_page}
+use Rattle.sgx_types.specs.Pages.{is_own_page, is_va_page, page_at, same_page}
+use Rattle.sgx_rules.specs.Frames.{vas_made}
 use Rattle.sgx_rules.specs.Processors.{Stay, stay}
 use Rattle.job_grammar.specs.declared.jobs.Op.{Op}
-use Rattle.job_grammar.specs.declared.jobs.Op.TheVariants as ops
 use Rattle.job_grammar.specs.Jobs.{JobView, lines_at, tcs_line}
 use Rattle.turn_rules.specs.Script.{is_interrupted, saved, script_of}
 use Rattle.driver_rules.specs.Holds.{holds, is_among}
-use Rattle.driver_rules.specs.Needs.{Interruption, access_page, interruption, last_save, listed, needs_of, next_op}
+use Rattle.driver_rules.specs.Needs.{access_page, Interruption, interruption, last_save, listed, needs_of, next_op}
+use Rattle.job_grammar.specs.declared.jobs.Op.TheVariants as ops
 
 -- the TCS page, the state save page that was used last where so many are in use, and the page of the access
 abbrev pub pages_by : JobView → ℕ → ℕ → ℕ → Op → List Page
@@ -45,9 +46,18 @@ tcs_of j past p = tcs_by (stay past p) (interruption past p) (next_op j past p)
 abbrev pub AreAmong : List Page → List Page → Type 0
 AreAmong pages others = (g : Page) → is_among pages g ≡ true → is_among others g ≡ true
 
--- what a processor holds is of these; it has still to resume exactly where it was interrupted, and is outside then
+-- a version array page that was made, but the first
+pub record IsLaterArray (past : List Entry) (g : Page) : Type 0 where
+  pub va : is_va_page g ≡ true
+  pub later : (g.number == 0) ≡ false
+  pub made : g.number < vas_made past
+
+-- what a processor holds of TCS and REG pages is of these; it has still to resume exactly where it was interrupted, and is outside then
 pub record HoldsThree (j : JobView) (past : List Entry) (p : ℕ) : Type 0 where
-  pub held : AreAmong (holds j past p) (three j past p)
+  pub held : (g : Page) → is_among (holds j past p) g ≡ true → is_own_page g ≡ true → is_among (three j past p) g ≡ true
+  -- .. and of other pages, beside those that are among the three, version array pages that it brought back, never the first
+  pub arrays : (g : Page) → is_among (holds j past p) g ≡ true → is_own_page g ≡ false
+      → (is_among (three j past p) g ≡ true) ⊎ IsLaterArray past g
   pub interrupted : is_interrupted past p ≡ is_some (interruption past p)
   pub apart : is_some (stay past p) ≡ true → interruption past p ≡ None
 

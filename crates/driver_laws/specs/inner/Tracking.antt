@@ -2,14 +2,14 @@
 use Rattle.std.specs.Prelude.{ℕ, ◌≡◌, ◌==◌, true, false, List, Option, None, is_some}
 use Rattle.sgx_rules.specs.declared.entries.Action.TheVariants.{Track}
 use Rattle.sgx_types.specs.declared.names.Actor.{Actor}
-use Rattle.sgx_types.specs.declared.names.Actor.TheVariants as actors
 use Rattle.sgx_rules.specs.declared.entries.Entry.{Entry}
 use Rattle.sgx_rules.specs.declared.entries.Event.{Event}
 use Rattle.sgx_rules.specs.declared.entries.Event.TheVariants.{Did}
 use Rattle.sgx_types.specs.declared.names.TheConstants.{LAST_EPOCH}
 use Rattle.sgx_rules.specs.inner.Enclaves.{created}
 use Rattle.sgx_rules.specs.Epochs.{epoch, older_at}
-use Rattle.sgx_rules.specs.Processors.{Enters, Keeps, Leaves, Move, Stay, move_by, stay}
+use Rattle.sgx_rules.specs.Processors.{Enters, Keeps, Leaves, Move, move_by, Stay, stay}
+use Rattle.sgx_types.specs.declared.names.Actor.TheVariants as actors
 
 abbrev pub CanMoveFrom : List Entry → Option Stay → Move → Type 0
 CanMoveFrom past before (Enters seat) = (before ≡ None) × (is_some (created past seat.enclave) ≡ true)

@@ -3,32 +3,33 @@ use Rattle.std.specs.Prelude.{ℕ, zero, suc, ◌≡◌, ◌==◌, ◌&&◌, ◌
 use Rattle.std.specs.Prelude.{Some, None, length, nat_lt}
 use Rattle.sgx_rules.specs.declared.entries.Entry.{Entry}
 use Rattle.sgx_rules.specs.declared.entries.Event.{Event}
-use Rattle.sgx_rules.specs.declared.entries.Event.TheVariants.{Did, Refused, Age, Kick, Bus}
+use Rattle.sgx_rules.specs.declared.entries.Event.TheVariants.{Age, Bus, Did, Kick, Refused}
 use Rattle.sgx_types.specs.declared.names.Actor.{Actor}
-use Rattle.sgx_types.specs.declared.names.Actor.TheVariants as actors
 use Rattle.sgx_rules.specs.declared.entries.Action.{Action}
-use Rattle.sgx_rules.specs.declared.entries.Action.TheVariants.{Block, Track, EwbStart, Ewb, EldStart}
+use Rattle.sgx_rules.specs.declared.entries.Action.TheVariants.{Block, Ewb, EwbStart, Track}
 use Rattle.sgx_rules.specs.declared.entries.BusWhy.{BusWhy}
-use Rattle.sgx_rules.specs.declared.entries.BusWhy.TheVariants as reasons
 use Rattle.sgx_rules.specs.declared.entries.Look.{Look}
 use Rattle.sgx_types.specs.declared.names.Page.{Page}
-use Rattle.sgx_types.specs.declared.names.SlotAt.{SlotAt}
-use Rattle.sgx_rules.specs.declared.refusals.Refusal.TheVariants as why
 use Rattle.sgx_types.specs.Pages.{same_page}
 use Rattle.sgx_rules.specs.Processors.{Stay, stay}
 use Rattle.job_grammar.specs.Jobs.{JobView}
-use Rattle.turn_rules.specs.Script.{action_of, build_of, built, frame_at, replied, script_of}
-use Rattle.driver_rules.specs.Ages.{head_of}
-use Rattle.driver_rules.specs.Dues.{Due, Ends, Fetches, KicksAll, LooksAt, Makes, Reports, TriesOut, is_look}
+use Rattle.turn_rules.specs.Script.{action_of, build_of, built, replied, script_of}
+use Rattle.driver_rules.specs.Ages.{Ahead, ahead, EndsNext, GoesOn, head_of, Looks, TriesNext}
+use Rattle.driver_rules.specs.Dues.{Asks, Due, Ends, Fetch, Fetches, is_look, KicksAll, load_by, LooksAt, Makes, Reports, TriesOut}
+use Rattle.driver_rules.specs.Dues.{WaitsFor}
 use Rattle.driver_rules.specs.Holds.{is_held}
-use Rattle.driver_rules.specs.Passes.{Blocking, Between, First, Form, Kicks, Pass, Scan, Sealing, Second, Third, ToKick, ToTrack}
-use Rattle.driver_rules.specs.Passes.{Tries}
-use Rattle.driver_rules.specs.Passes.{keepers, pass}
-use Rattle.driver_rules.specs.Places.{Leaving, Place, active, is_young, place}
+use Rattle.driver_rules.specs.Passes.{aside, Between, Blocking, First, Form, is_aside, keepers, Kicks, Pass, pass, Scan, Sealing}
+use Rattle.driver_rules.specs.Passes.{Second, Third, ToKick, ToTrack, Tries}
+use Rattle.driver_rules.specs.Places.{active, is_young, Leaving, Place, place}
 use Rattle.driver_rules.specs.inner.Same.{same_action}
 use Rattle.driver_rules.specs.Scripts.{is_load}
+use Rattle.driver_rules.specs.Spares.{Outs, outs}
 use Rattle.driver_rules.specs.Stops.{has_bus, is_spent}
 use Rattle.driver_rules.specs.Turns.{builder_due, cpu_due}
+use Rattle.sgx_types.specs.declared.names.Actor.TheVariants as actors
+use Rattle.sgx_rules.specs.declared.entries.BusWhy.TheVariants as reasons
+use Rattle.sgx_rules.specs.declared.entries.Look.TheVariants as looks
+use Rattle.sgx_rules.specs.declared.refusals.Refusal.TheVariants as why
 
 -- a test passes exactly where something is so
 abbrev pub Tells : Bool → Type 0 → Type 0
@@ -68,22 +69,49 @@ is_in_pass past (Blocking due taken) (Did (Block f) answer) = is_next_block past
 is_in_pass past (Tries g rest form) event = is_in_tries past g event
 is_in_pass past _ event = false
 
-abbrev pub looks_of : JobView → List Entry → Actor → Event → Bool
-looks_of j past actors.Reclaimer (Age page look) = looks_at j past page look
-looks_of j past _ _ = true
+abbrev pub looks_of : JobView → List Entry → Event → Bool
+looks_of j past (Age page look) = looks_at j past page look
+looks_of j past _ = true
 
-abbrev pub pass_of : List Entry → Pass → Actor → Event → Bool
-pass_of past at actors.Reclaimer event = is_in_pass past at event
-pass_of past at _ event = true
+abbrev pub is_of_pass : JobView → List Entry → Event → Bool
+is_of_pass j past event = looks_of j past event && is_in_pass past (pass j past) event
+
+abbrev pub is_look_ahead : Page → Event → Bool
+is_look_ahead g (Age page looks.NoRoom) = same_page page g
+is_look_ahead g (Age page looks.Taken) = same_page page g
+is_look_ahead g event = false
+
+abbrev pub is_try_ahead : List Entry → Page → Event → Bool
+is_try_ahead past g (Did (EwbStart f slot) answer) = is_leaving_in (place past g) f.0
+is_try_ahead past g (Refused (EwbStart f slot) why.VersionSpent) = is_leaving_in (place past g) f.0
+is_try_ahead past g event = false
+
+abbrev pub is_end_ahead : List Entry → Page → Event → Bool
+is_end_ahead past g (Did (Ewb f) answer) = is_leaving_in (place past g) f.0
+is_end_ahead past g event = false
+
+abbrev pub is_ahead : JobView → List Entry → Ahead → Event → Bool
+is_ahead j past GoesOn event = is_of_pass j past event
+is_ahead j past (Looks g) event = is_look_ahead g event
+is_ahead j past (TriesNext g) event = is_try_ahead past g event
+is_ahead j past (EndsNext g) event = is_end_ahead past g event
+
+abbrev pub age_of : JobView → List Entry → Outs → Actor → Event → Bool
+age_of j past out actors.Reclaimer event = is_ahead j past (ahead j past out) event
+age_of j past out _ event = true
+
+abbrev pub keeps_age_by : JobView → List Entry → Outs → Entry → Bool
+keeps_age_by j past out e = age_of j past out e.actor e.event
 
 abbrev pub keeps_age : JobView → List Entry → Entry → Bool
-keeps_age j past e = looks_of j past e.actor e.event && pass_of past (pass j past) e.actor e.event
+keeps_age j past e = keeps_age_by j past (outs j past) e
 
 -- ---- Kick
 
 abbrev pub is_last_try : Event → Bool
 is_last_try (Did (EwbStart f slot) answer) = true
 is_last_try (Refused (EwbStart f slot) why.VersionSpent) = true
+is_last_try (Refused (EwbStart f slot) (why.SlotOccupied version)) = true
 is_last_try _ = false
 
 abbrev pub is_try : Event → Bool
@@ -121,7 +149,7 @@ is_beside (Kicks rest) = false
 is_beside _ = true
 
 abbrev pub form_of : List Entry → Pass → Actor → Event → Bool
-form_of past (Tries g rest form) actors.Reclaimer event = is_in_form past g form event
+form_of past (Tries g rest form) actors.Reclaimer event = is_aside (aside past) event || is_in_form past g form event
 form_of past _ _ event = true
 
 abbrev pub beside_of : Pass → Actor → Bool
@@ -147,15 +175,17 @@ same_reason reasons.Header reasons.Header = true
 same_reason reasons.Slot reasons.Slot = true
 same_reason _ _ = false
 
-abbrev pub is_fetch : Page → SlotAt → Option ℕ → Event → Bool
-is_fetch g slot None (Bus page reasons.PutFailed) = same_page page g
-is_fetch g slot None event = false
-is_fetch g slot (Some f) (Bus page reasons.PutFailed) = same_page page g
-is_fetch g slot (Some f) (Bus page reasons.GetFailed) = same_page page g
-is_fetch g slot (Some f) (Bus page reasons.NoRecord) = same_page page g
-is_fetch g slot (Some f) (Did action answer) = same_action action (EldStart (frame_at f) g slot)
-is_fetch g slot (Some f) (Refused action refusal) = same_action action (EldStart (frame_at f) g slot)
-is_fetch g slot (Some f) event = false
+abbrev pub is_lost : Page → Fetch → Page → Bool
+is_lost g (WaitsFor target) page = same_page page g
+is_lost g (Asks target slot free) page = same_page page g || same_page page target
+
+abbrev pub is_fetch : Page → Fetch → Event → Bool
+is_fetch g fetch (Bus page reasons.PutFailed) = is_lost g fetch page
+is_fetch g (Asks target slot (Some f)) (Bus page reasons.GetFailed) = same_page page target
+is_fetch g (Asks target slot (Some f)) (Bus page reasons.NoRecord) = same_page page target
+is_fetch g (Asks target slot (Some f)) (Did action answer) = is_action (load_by target slot f) action
+is_fetch g (Asks target slot (Some f)) (Refused action why.SlotEmpty) = is_action (load_by target slot f) action
+is_fetch g _ event = false
 
 abbrev pub is_stop : Page → BusWhy → Event → Bool
 is_stop page reason (Bus g other) = same_page g page && same_reason other reason
@@ -174,9 +204,9 @@ abbrev pub is_next : Due → Event → Bool
 is_next (Ends action) event = is_action (action_of event) action
 is_next (Makes action) event = is_action (action_of event) action
 is_next (Reports page reason) event = is_stop page reason event
-is_next (Fetches g slot free) event = is_fetch g slot free event
+is_next (Fetches g fetch) event = is_fetch g fetch event
 is_next (LooksAt page held young) event = is_look_of page held young event
-is_next (TriesOut n) event = is_try_of n event
+is_next (TriesOut g n) event = is_try_of n event
 is_next (KicksAll cpus) event = is_kick_of cpus event
 is_next _ event = false
 

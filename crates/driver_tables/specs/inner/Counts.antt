@@ -3,7 +3,8 @@ use Rattle.std.specs.Prelude.{ℕ, ◌+◌, ◌<◌, ◌^◌, List, fold, map, m
 use Rattle.std.specs.List.{All}
 use Rattle.job_grammar.specs.declared.jobs.EnclaveJob.{EnclaveJob}
 use Rattle.job_grammar.specs.declared.jobs.PageLine.{PageLine}
-use Rattle.job_grammar.specs.Jobs.{EnclaveView, JobView, first_page, page_count}
+use Rattle.job_grammar.specs.Jobs.{EnclaveView, JobView, first_page, page_count, va_pages}
+use Rattle.active_list.specs.inner.Places.{PageCounts}
 
 -- one past the highest page number that a line names
 abbrev pub line_end : PageLine → ℕ
@@ -19,6 +20,10 @@ enclave_places e = last_end e.lines
 -- .. for each enclave of a job, from number 1 on
 abbrev pub page_counts : JobView → List ℕ
 page_counts j = map enclave_places j.enclaves
+
+-- .. and with the version array pages
+abbrev pub job_counts : JobView → PageCounts
+job_counts j = record { own = page_counts j; arrays = va_pages j }
 
 -- page numbers have 20 bits
 abbrev pub IsShort : PageLine → Type 0

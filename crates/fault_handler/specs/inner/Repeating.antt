@@ -3,7 +3,7 @@ use Rattle.std.specs.Prelude.{◌≡◌, true, None, Some, Option}
 use Rattle.sgx_types.specs.declared.names.Cpu.{Cpu}
 use Rattle.sgx_types.specs.declared.names.Frame.{Frame}
 use Rattle.sgx_types.specs.declared.names.Page.{Page}
-use Rattle.sgx_types.specs.declared.names.SlotAt.{SlotAt}
+use Rattle.sgx_types.specs.declared.names.VaSlot.{VaSlot}
 use Rattle.sgx_rules.specs.Table.{is_loading}
 use Rattle.std.specs.Global.{Box}
 use Rattle.seal_record.specs.declared.unseal.UnsealWork.{UnsealWork}
@@ -19,14 +19,14 @@ use Rattle.fault_handler.specs.inner.Resolving.{IsToOpen}
 pub record WaitsFor (d : Driver) (m : Parts) (page : Page) : Type 0 where
   pub placed : IsPlaced d.states.counts page
   pub frame : Frame
-  pub slot : SlotAt
+  pub slot : VaSlot
   pub loading : page_state d.states page ≡ Loading frame slot
   pub waits : is_loading ((state_of m).content frame.0) ≡ true
 
 -- the kept record is to be opened for the frame into which its page is loading
 pub record IsWorkOf (d : Driver) (m : Parts) (kept : Kept) (work : UnsealWork) : Type 0 where
   pub frame : Frame
-  pub slot : SlotAt
+  pub slot : VaSlot
   pub loading : page_state d.states kept.page ≡ Loading frame slot
   pub opens : IsToOpen (state_of m) frame.0 kept.sealed work
 

@@ -5,26 +5,19 @@ ghost use Rattle.version_array.specs.inner.Slots.{IsSlot};
 ghost use Rattle.slot_keeper.specs.inner.Keeper.{is_out};
 
 use sgx_rules::refusals::Refusal;
-use sgx_types::names::{Frame, SlotAt};
+use sgx_types::names::{Frame, SlotAt, VaSlot};
 use slot_keeper::keeper::SlotKeeper;
 use std::process::Abort;
 use std::test::Fail;
 use version_array::va_table::VaTable;
 use version_array::versions::Versions;
 
-// Takes a slot of frame 0 that was not taken yet.
-fn take_new(
-    rt: &impl Abort,
-    keeper: &mut SlotKeeper,
-    was_taken: &mut [bool; 512],
-) -> Result<SlotAt, Fail>
+// Takes the least slot of page 0 that is not out: the one of this index.
+fn take_next(rt: &impl Abort, keeper: &mut SlotKeeper, index: u16) -> Result<VaSlot, Fail>
     ensures { IfOk result (λ slot. is_out keeper.new slot ≡ true) }
 {
     let slot = keeper.take().ok_or("too few slots")?;
-    assert_eq!(rt; slot.frame, Frame(0));
-    assert!(rt; slot.index < 512);
-    assert!(rt; !was_taken[usize::from(slot.index)], "{slot:?} twice");
-    was_taken[usize::from(slot.index)] = true;
+    assert_eq!(rt; slot, VaSlot { va: 0, index });
     Ok(slot)
 }
 
@@ -34,13 +27,12 @@ fn take_none(rt: &impl Abort, keeper: &mut SlotKeeper)
     assert!(rt; keeper.take().is_none());
 }
 
-// Takes each slot of one page, and gives the last back.
+// Takes each slot of page 0 from its third one on, and gives the last back.
 fn take_each(rt: &impl Abort, keeper: &mut SlotKeeper) -> Result<(), Fail> {
-    let mut was_taken = [false; 512];
-    for _ in 0..511 {
-        let _ = take_new(rt, keeper, &mut was_taken)?;
+    for index in 2..511 {
+        let _ = take_next(rt, keeper, index)?;
     }
-    let last = take_new(rt, keeper, &mut was_taken)?;
+    let last = take_next(rt, keeper, 511)?;
     take_none(rt, keeper);
     keeper.give(last);
     assert_eq!(rt; keeper.take(), Some(last));
@@ -49,11 +41,22 @@ fn take_each(rt: &impl Abort, keeper: &mut SlotKeeper) -> Result<(), Fail> {
 }
 
 #[test]
-fn hands_out_each_slot_once(rt: HostRuntime) -> Result<(), Fail> {
+fn hands_out_the_least_slot(rt: HostRuntime) -> Result<(), Fail> {
     let mut keeper = SlotKeeper::new(rt.alloc(), 1)?;
     take_none(&rt, &mut keeper);
-    keeper.add(Frame(0));
+    keeper.add(0, 2);
     take_each(&rt, &mut keeper)
+}
+
+#[test]
+fn takes_a_slot_that_is_named(rt: HostRuntime) -> Result<(), Fail> {
+    let mut keeper = SlotKeeper::new(rt.alloc(), 2)?;
+    keeper.add(0, 511);
+    assert!(rt; !keeper.is_full(0));
+    keeper.take_at(VaSlot { va: 0, index: 511 });
+    assert!(rt; keeper.is_full(0));
+    take_none(&rt, &mut keeper);
+    Ok(())
 }
 
 const LAST: SlotAt = SlotAt {

@@ -1,5 +1,5 @@
 -- What a turn asks of the store.
-use Rattle.std.specs.Prelude.{ℕ, ◌+◌, List, Option, None, Some, true}
+use Rattle.std.specs.Prelude.{ℕ, ◌+◌, List, Option, None, Some}
 use Rattle.sgx_rules.specs.declared.entries.Event.{Event}
 use Rattle.sgx_rules.specs.declared.entries.Event.TheVariants.{Age}
 use Rattle.sgx_rules.specs.declared.entries.Look.{Look}
@@ -9,22 +9,15 @@ use Rattle.backing_store.specs.Calls.{Call}
 use Rattle.reclaim_worker.specs.inner.Looked.{told_look}
 use Rattle.reclaim_worker.specs.declared.turns.PassTurn.{PassTurn}
 use Rattle.reclaim_worker.specs.declared.turns.PassTurn.TheVariants as turns
-use Rattle.reclaim_worker.specs.declared.turns.Phase.{Phase}
-use Rattle.reclaim_worker.specs.declared.turns.Phase.TheVariants as phases
 
 abbrev pub look_of : Event → Option (Page × Look)
 look_of (Age page look) = Some (page, look)
 look_of _ = None
 
+-- the look of a turn
 abbrev pub look_told : PassTurn → Option (Page × Look)
 look_told (turns.One e) = look_of e.event
 look_told _ = None
-
--- the look of a turn, which looks come first in a pass
-abbrev pub look_in : Phase → PassTurn → Option (Page × Look)
-look_in (phases.Idle true) turn = look_told turn
-look_in (phases.Scan left) turn = look_told turn
-look_in _ turn = None
 
 -- a store is asked by looks alone
 abbrev pub told_by : Option (Page × Look) → Option (List Call) → Option (List Call)

@@ -15,6 +15,7 @@ use Rattle.fault_handler.specs.declared.answers.Loaded.TheVariants as ends
 -- a fact of the entry of an answer, if it has one
 abbrev pub OfAnswer : Cpu → Page → FaultAnswer → (Entry → Type 0) → Type 0
 OfAnswer cpu page (answers.Started e work) says = says e
+OfAnswer cpu page (answers.Slot e) says = says e
 OfAnswer cpu page (answers.Bus why) says = says (bus_of cpu page why)
 OfAnswer cpu page answer says = Unit {0}
 

@@ -2,7 +2,7 @@
 use Rattle.std.specs.Prelude.{ℕ, ◌≡◌, List, Some}
 use Rattle.sgx_rules.specs.declared.entries.Entry.{Entry}
 use Rattle.sgx_types.specs.declared.names.Page.{Page}
-use Rattle.sgx_types.specs.declared.names.SlotAt.{SlotAt}
+use Rattle.sgx_types.specs.declared.names.VaSlot.{VaSlot}
 use Rattle.sgx_types.specs.Sealed.{Sealed}
 use Rattle.backing_store.specs.Calls.{Call}
 use Rattle.driver_rules.specs.Places.{Loading, place}
@@ -20,4 +20,4 @@ pub record IsLastPut (key : List ℕ) (past : List Entry) (calls : List Call) (g
 
 -- each load that has started was given the last record put of its page
 abbrev pub GiftsAreLast : List Entry → List Call → Type 0
-GiftsAreLast past calls = (g : Page) (f : ℕ) (slot : SlotAt) → place past g ≡ Loading f slot → gift past calls f ≡ last_put calls g
+GiftsAreLast past calls = (g : Page) (f : ℕ) (slot : VaSlot) → place past g ≡ Loading f slot → gift past calls f ≡ last_put calls g

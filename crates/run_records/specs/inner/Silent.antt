@@ -1,5 +1,6 @@
 -- Entries that tell nothing of a record and build no enclave, and answers without an entry.
 use Rattle.std.specs.Prelude.{ℕ, ◌≡◌, false, List, Option}
+use Rattle.sgx_rules.specs.declared.entries.BusWhy.TheVariants as reasons
 use Rattle.sgx_rules.specs.declared.entries.Entry.{Entry}
 use Rattle.sgx_types.specs.declared.names.Cpu.{Cpu}
 use Rattle.sgx_types.specs.declared.names.Page.{Page}
@@ -23,8 +24,14 @@ pub record IsSilent (e : Entry) : Type 0 where
 -- the answer of a fault step has no entry
 abbrev pub HasNoEntry : FaultAnswer → Type 0
 HasNoEntry (answers.Started e work) = ⊥
+HasNoEntry (answers.Slot e) = ⊥
 HasNoEntry (answers.Bus why) = ⊥
 HasNoEntry answer = Unit {0}
+
+-- a fact of the refused start of a load, and of the bus behind it
+abbrev pub OfSlot : Cpu → Page → FaultAnswer → (Entry → Entry → Type 0) → Type 0
+OfSlot cpu page (answers.Slot e) says = says e (bus_of cpu page reasons.Slot)
+OfSlot cpu page answer says = Unit {0}
 
 -- a turn of a pass has no entry of the reclaimer
 abbrev pub MakesNoEntry : PassTurn → Type 0

@@ -9,5 +9,5 @@ use Rattle.turn_tables.specs.inner.Holding.{CanHold}
 
 -- .. for these entries before it
 pub record CanHoldBehind (j : JobView) (past : List Entry) (d : Driver) (before : Mode) (t : Turns) (e : Entry) : Type 0 where
-  pub can : CanHold j d.active before t e
+  pub can : CanHold j d.states d.active before t e
   pub same : can.past ≡ past

@@ -8,10 +8,10 @@ use Rattle.sgx_rules.specs.Rules.{Along}
 use Rattle.job_grammar.specs.Jobs.{JobView}
 use Rattle.turn_rules.specs.Machines.{machine_of}
 use Rattle.backing_store.specs.Calls.{Call}
-use Rattle.driver_rules.specs.Passes.{pass}
 use Rattle.driver_laws.specs.inner.Three.{TcsAreApart}
-use Rattle.reclaim_worker.specs.inner.Standing.{StandsFor, is_kicked, is_sealing}
-use Rattle.reclaim_worker.specs.inner.Stored.{still_out}
+use Rattle.reclaim_pass.specs.inner.Standing.{StandsAt}
+use Rattle.reclaim_worker.specs.inner.Ready.{HasFirst}
+use Rattle.reclaim_pass.specs.inner.Viewed.{is_amid, is_kicked, is_sealing, still_out}
 use Rattle.turn_tables.specs.declared.cpu_turns.CpuTurn.{CpuTurn}
 use Rattle.turn_tables.specs.declared.cpu_turns.Last.{Last}
 use Rattle.turn_tables.specs.declared.cpu_turns.Last.TheVariants as ways
@@ -37,7 +37,7 @@ has_open_load x = is_load x.last
 
 -- how many starts are open: loads of processors, and a write-out
 abbrev pub open_starts : Course → ℕ
-open_starts c = count_by has_open_load c.turns.cpus + (if is_sealing c.pass.phase then 1 else 0)
+open_starts c = count_by has_open_load c.turns.cpus + (if is_sealing c.pass then 1 else 0)
 
 -- ---- between two turns
 
@@ -53,8 +53,10 @@ pub record KeepsCourse (c : Course) (told : Option (List Call)) (spare : ℕ) : 
   pub tcs : TcsAreApart c.job
   pub book : KeepsBook (machine_of c.job) c.job (past_of c) told c.driver c.machine c.turns
   -- the reclaimer's pass is as far as the entries are, and each of its pages has a place in the store
-  pub stands : StandsFor c.job.start_epoch (past_of c) c.pass.taken.items c.pass.phase (pass c.job (past_of c))
-  pub places : still_out c.pass.taken.items c.pass.phase ≤ spare
+  pub stands : StandsAt c.job.start_epoch c.job (past_of c) c.pass
+  pub whole : is_amid c.pass ≡ false
+  pub first : HasFirst (past_of c)
+  pub places : still_out c.pass ≤ spare
   -- the keeper of the slots has room for the version array pages that are still to be made
   pub arrays : KeepsArrays c.job c.driver.slots (past_of c)
   -- who was ended was told why
@@ -69,8 +71,7 @@ pub record IsSame (old new : Course) : Type 0 where
   pub machine : new.machine ≡ old.machine
   pub driver : new.driver ≡ old.driver
   pub turns : new.turns ≡ old.turns
-  pub taken : new.pass.taken.items ≡ old.pass.taken.items
-  pub phase : new.pass.phase ≡ old.pass.phase
+  pub pass : new.pass ≡ old.pass
   pub entries : new.entries.items ≡ old.entries.items
   pub room : vec_capacity old.entries ≤ vec_capacity new.entries
 
@@ -86,5 +87,5 @@ pub record Grows (old : Course) (by : Actor) (n : ℕ) (new : Course) (told : Op
   pub actors : All (λ (e : Entry). e.actor ≡ by) entries
   pub past : past_of new ≡ entries ++ past_of old
   pub job : new.job ≡ old.job
-  pub kicks : KeepsKicks by (is_kicked old.pass.phase) (is_kicked new.pass.phase)
+  pub kicks : KeepsKicks by (is_kicked old.pass) (is_kicked new.pass)
   pub keeps : KeepsCourse new told spare

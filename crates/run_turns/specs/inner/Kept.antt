@@ -2,7 +2,7 @@
 use Rattle.std.specs.Prelude.{◌≡◌, ℕ, Bool, List, Option, IfSome}
 use Rattle.io_edges.specs.declared.plans.PlanLine.{PlanLine}
 use Rattle.backing_store.specs.Calls.{Call}
-use Rattle.reclaim_worker.specs.inner.Standing.{is_kicked}
+use Rattle.reclaim_pass.specs.inner.Viewed.{is_kicked}
 use Rattle.run_turns.specs.declared.course.Course.{Course}
 use Rattle.run_turns.specs.inner.Courses.{KeepsCourse, past_of}
 use Rattle.run_turns.specs.inner.Views.{BookView}
@@ -15,7 +15,7 @@ view_of c told plans out_of_memory = record {
   told = told;
   plans = plans;
   out_of_memory = out_of_memory;
-  kicked = is_kicked c.pass.phase;
+  kicked = is_kicked c.pass;
 }
 
 pub record IsKept (c : Course) (told : Option (List Call)) (plans : List PlanLine) (spare : ℕ) : Type 0 where

@@ -4,17 +4,15 @@ use Rattle.sgx_rules.specs.declared.entries.Event.TheVariants.{Kick}
 use Rattle.backing_store.specs.Calls.{Call}
 use Rattle.turn_rules.specs.Machines.{machine_of}
 use Rattle.driver_rules.specs.Dues.{KicksAll}
-use Rattle.driver_rules.specs.Passes.{pass}
-use Rattle.driver_rules.specs.inner.Reclaims.{pass_due}
+use Rattle.driver_rules.specs.Spares.{outs_kept}
+use Rattle.driver_rules.specs.inner.Reclaims.{going_due}
 use Rattle.driver_rules.specs.Stops.{is_spent}
 use Rattle.driver_laws.specs.inner.Three.{TcsAreApart}
 use Rattle.driver_steps.specs.inner.Asked.{IsNextOf}
 use Rattle.reclaim_worker.specs.inner.After.{cpu_of, kicked_past}
 use Rattle.reclaim_worker.specs.inner.Answers.{bits_of, by_reclaimer}
-use Rattle.reclaim_worker.specs.inner.Standing.{StandsFor}
-use Rattle.reclaim_worker.specs.declared.turns.Form.TheVariants as forms
-use Rattle.reclaim_worker.specs.declared.turns.Phase.TheVariants as phases
-use Rattle.reclaim_worker.specs.declared.turns.Taken.{Taken}
+use Rattle.reclaim_pass.specs.inner.Standing.{StandsAt}
+use Rattle.reclaim_pass.specs.inner.Viewed.{is_amid, PassView}
 use Rattle.run_book.specs.inner.Books.{KeepsBook, with_own}
 use Rattle.run_book.specs.inner.Loads.{GoesOnWith}
 use Rattle.run_turns.specs.declared.course.Course.{Course}
@@ -26,13 +24,12 @@ pub record CanKick (c : Course) (bits : ℕ) : Type 0 where
   pub tcs : TcsAreApart c.job
   pub book : KeepsBook (machine_of c.job) c.job (past_of c) told c.driver c.machine c.turns
   -- how far the pass was before this turn
-  pub taken : List Taken
-  pub next : ℕ
-  pub block : ℕ
-  pub stands : StandsFor c.job.start_epoch (past_of c) taken (phases.Tries next forms.Kick block) (pass c.job (past_of c))
+  pub before : PassView
+  pub stands : StandsAt c.job.start_epoch c.job (past_of c) before
+  pub whole : is_amid before ≡ false
   pub going : is_spent (past_of c) ≡ false
   pub cpus : List ℕ
-  pub due : pass_due c.job (past_of c) false (pass c.job (past_of c)) ≡ KicksAll cpus
+  pub due : going_due c.job (past_of c) (outs_kept c.job (past_of c)) false ≡ KicksAll cpus
   pub same : bits ≡ bits_of cpus
   pub place : vec_len c.entries + 16 ≤ vec_capacity c.entries
 

@@ -6,11 +6,12 @@ use Rattle.sgx_rules.specs.declared.entries.Entry.{Entry}
 use Rattle.backing_store.specs.Calls.{Call}
 use Rattle.cached_translations.specs.declared.processor.Mode.TheVariants.{Outside}
 use Rattle.driver_rules.specs.Dues.{KicksAll}
-use Rattle.driver_rules.specs.Passes.{pass}
-use Rattle.driver_rules.specs.inner.Reclaims.{pass_due}
+use Rattle.driver_rules.specs.Spares.{outs_kept}
+use Rattle.driver_rules.specs.inner.Reclaims.{going_due}
 use Rattle.reclaim_worker.specs.inner.After.{kicked_past}
-use Rattle.reclaim_worker.specs.inner.Standing.{StandsFor, is_kicked, is_sealing}
-use Rattle.reclaim_worker.specs.inner.Stored.{still_out}
+use Rattle.reclaim_worker.specs.inner.Ready.{HasFirst}
+use Rattle.reclaim_pass.specs.inner.Standing.{StandsAt}
+use Rattle.reclaim_pass.specs.inner.Viewed.{is_amid, is_kicked, is_sealing, still_out}
 use Rattle.reclaim_worker.specs.declared.turns.PassTurn.{PassTurn}
 use Rattle.reclaim_worker.specs.declared.turns.PassTurn.TheVariants as passed
 use Rattle.turn_tables.specs.declared.dues.BuilderDue.{BuilderDue}
@@ -35,13 +36,14 @@ pub record IsOwnEntry (c : Course) (e : Entry) (longer : Option (List Call)) (sp
   pub take : CanTake c Outside e
   pub same : take.can.longer ≡ longer
   pub actor : e.actor ≡ actors.Reclaimer
-  pub places : still_out c.pass.taken.items c.pass.phase ≤ spare
+  pub first : HasFirst (e ∷ past_of c)
+  pub places : still_out c.pass ≤ spare
   pub arrays : KeepsArrays c.job c.driver.slots (e ∷ past_of c)
   pub ends : EndsAreTold (e ∷ past_of c)
   pub clear : IsClear c.job (e ∷ past_of c)
   -- the entry, and the ends of the starts that are open behind it
   pub room : vec_len c.entries + 1 + 2
-      * (count_by has_open_load (with_kick e.event c.turns.cpus) + (if is_sealing c.pass.phase then 1 else 0)) ≤ vec_capacity c.entries
+      * (count_by has_open_load (with_kick e.event c.turns.cpus) + (if is_sealing c.pass then 1 else 0)) ≤ vec_capacity c.entries
 
 pub record CanTakeOwn (c : Course) (e : Entry) : Type 0 where
   pub longer : Option (List Call)
@@ -53,9 +55,10 @@ pub record CanTakeOwn (c : Course) (e : Entry) : Type 0 where
 pub record IsOwnKicks (c : Course) (bits : ℕ) (longer : Option (List Call)) (spare : ℕ) : Type 0 where
   pub kick : CanKick c bits
   pub same : kick.told ≡ longer
-  pub stands : StandsFor c.job.start_epoch (kicked_past kick.cpus (past_of c)) c.pass.taken.items c.pass.phase
-      (pass c.job (kicked_past kick.cpus (past_of c)))
-  pub places : still_out c.pass.taken.items c.pass.phase ≤ spare
+  pub stands : StandsAt c.job.start_epoch c.job (kicked_past kick.cpus (past_of c)) c.pass
+  pub whole : is_amid c.pass ≡ false
+  pub first : HasFirst (past_of c)
+  pub places : still_out c.pass ≤ spare
   pub arrays : KeepsArrays c.job c.driver.slots (past_of c)
   pub ends : EndsAreTold (past_of c)
   pub clear : IsClear c.job (past_of c)
@@ -67,10 +70,9 @@ pub record IsOwnKicks (c : Course) (bits : ℕ) (longer : Option (List Call)) (s
 abbrev pub FollowsBy : Course → PassTurn → Option (List Call) → ℕ → Type 0
 FollowsBy c (passed.One e) longer spare = IsOwnEntry c e longer spare
 FollowsBy c (passed.Spent e) longer spare = IsOwnEntry c e longer spare
-FollowsBy c (passed.Seal e) longer spare = IsOwnEntry c e longer spare × ((is_sealing c.pass.phase ≡ true) × (is_some c.room ≡ true))
+FollowsBy c (passed.Seal e) longer spare = IsOwnEntry c e longer spare × ((is_sealing c.pass ≡ true) × (is_some c.room ≡ true))
 FollowsBy c (passed.Kicks bits) longer spare = IsOwnKicks c bits longer spare
 FollowsBy c (passed.Again why) longer spare = Unit {0}
-FollowsBy c passed.NoSlot longer spare = ⊥
 
 pub record CanFollow (c : Course) (turn : PassTurn) : Type 0 where
   pub longer : Option (List Call)
@@ -80,16 +82,16 @@ pub record CanFollow (c : Course) (turn : PassTurn) : Type 0 where
 -- one entry more of the reclaimer
 abbrev pub HasOne : Entry → Course → Turn → Course → Option (List Call) → ℕ → Type 0
 HasOne e old (turns.Did n) new told spare =
-    (n ≡ 1) × (past_of new ≡ e ∷ past_of old) × (is_kicked new.pass.phase ≡ is_kicked old.pass.phase)
+    (n ≡ 1) × (past_of new ≡ e ∷ past_of old) × (is_kicked new.pass ≡ is_kicked old.pass)
     × Grows old actors.Reclaimer 1 new told spare
 HasOne e old _ new told spare = ⊥
 
 -- one for each processor that was due to be kicked
 abbrev pub HasKicks : Course → Turn → Course → Option (List Call) → ℕ → Type 0
 HasKicks old (turns.Did n) new told spare =
-    ((cpus : List ℕ) → pass_due old.job (past_of old) false (pass old.job (past_of old)) ≡ KicksAll cpus
+    ((cpus : List ℕ) → going_due old.job (past_of old) (outs_kept old.job (past_of old)) false ≡ KicksAll cpus
     → (n ≡ length cpus) × (past_of new ≡ kicked_past cpus (past_of old)))
-    × (is_kicked new.pass.phase ≡ is_kicked old.pass.phase) × Grows old actors.Reclaimer n new told spare
+    × (is_kicked new.pass ≡ is_kicked old.pass) × Grows old actors.Reclaimer n new told spare
 HasKicks old _ new told spare = ⊥
 
 -- one entry more, and the work of the started write-out
@@ -104,7 +106,6 @@ IsFollowed old (passed.Spent e) result new told spare = HasOne e old result new 
 IsFollowed old (passed.Kicks bits) result new told spare = HasKicks old result new told spare
 IsFollowed old (passed.Seal e) result new told spare = HasSealed old result new told spare
 IsFollowed old (passed.Again why) result new told spare = (result ≡ turns.Again why) × (new ≡ old)
-IsFollowed old passed.NoSlot result new told spare = ⊥
 
 -- ---- the work of the started write-out
 

@@ -1,5 +1,5 @@
 -- What is asked of an entry that is taken in, and what stands behind it.
-use Rattle.std.specs.Prelude.{◌≡◌, ◌+◌, ◌≤◌, List, ◌∷◌, Option, vec_len, vec_capacity}
+use Rattle.std.specs.Prelude.{◌≡◌, ◌+◌, ◌≤◌, false, List, ◌∷◌, Option, vec_len, vec_capacity}
 use Rattle.sgx_rules.specs.declared.entries.Entry.{Entry}
 use Rattle.turn_rules.specs.Machines.{machine_of}
 use Rattle.backing_store.specs.Calls.{Call}
@@ -8,7 +8,8 @@ use Rattle.paging_machine.specs.inner.Parts.{Parts}
 use Rattle.driver_rules.specs.Passes.{pass, pass_after}
 use Rattle.driver_laws.specs.inner.Three.{TcsAreApart}
 use Rattle.driver_tables.specs.declared.driver.Driver.{Driver}
-use Rattle.reclaim_worker.specs.inner.Standing.{StandsFor}
+use Rattle.reclaim_pass.specs.inner.Standing.{StandsAt, StandsFor}
+use Rattle.reclaim_pass.specs.inner.Viewed.{is_amid}
 use Rattle.turn_tables.specs.inner.Holding.{mode_of}
 use Rattle.run_book.specs.inner.Books.{IsMade, KeepsBook}
 use Rattle.run_turns.specs.declared.course.Course.{Course}
@@ -30,12 +31,12 @@ pub record CanRecord (c : Course) (before : Mode) (e : Entry) : Type 0 where
 -- .. and the pass, before it is decided whether it works
 pub record CanTake (c : Course) (before : Mode) (e : Entry) : Type 0 where
   pub can : CanRecord c before e
-  pub stands : StandsFor c.job.start_epoch (e ∷ past_of c) c.pass.taken.items c.pass.phase
-      (pass_after c.job (past_of c) e.actor e.event (pass c.job (past_of c)))
+  pub stands : StandsFor c.job.start_epoch (e ∷ past_of c) c.pass (pass_after c.job (past_of c) e.actor e.event (pass c.job (past_of c)))
+  pub whole : is_amid c.pass ≡ false
 
 -- behind it all stand for the longer list
 abbrev pub IsRecorded : Course → Entry → Option (List Call) → Course → Type 0
 IsRecorded old e longer new = KeepsBook (machine_of old.job) old.job (e ∷ past_of old) longer new.driver new.machine new.turns
 
 abbrev pub IsTaken : Course → Entry → Course → Type 0
-IsTaken old e new = StandsFor old.job.start_epoch (e ∷ past_of old) new.pass.taken.items new.pass.phase (pass old.job (e ∷ past_of old))
+IsTaken old e new = StandsAt old.job.start_epoch old.job (e ∷ past_of old) new.pass × (is_amid new.pass ≡ false)

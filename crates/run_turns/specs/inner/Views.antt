@@ -8,7 +8,7 @@ use Rattle.sgx_rules.specs.declared.entries.Entry.{Entry}
 use Rattle.sgx_types.specs.declared.names.Cpu.{Cpu}
 use Rattle.sgx_types.specs.declared.names.Page.{Page}
 use Rattle.sgx_rules.specs.PageBytes.{bytes_at, header_at}
-use Rattle.sgx_rules.specs.Frames.{content, is_page}
+use Rattle.sgx_rules.specs.Frames.{content, page_there}
 use Rattle.sgx_rules.specs.Rules.{Along, EvictRule, Fits, RisingRule, Stale}
 use Rattle.sgx_rules.specs.Starts.{Start, open_start}
 use Rattle.io_edges.specs.declared.plans.PlanLine.{PlanLine}
@@ -16,9 +16,10 @@ use Rattle.job_grammar.specs.Jobs.{JobView}
 use Rattle.backing_store.specs.Calls.{Call}
 use Rattle.seal_record.specs.declared.seal.SealWork.{SealWork}
 use Rattle.seal_record.specs.declared.unseal.UnsealWork.{UnsealWork}
-use Rattle.driver_rules.specs.Ages.{AgeRule, KickRule}
+use Rattle.driver_rules.specs.Ages.{KeptAgeRule, KickRule}
 use Rattle.driver_rules.specs.Dues.{Due, Finished}
-use Rattle.driver_rules.specs.inner.Reclaims.{reclaimer_due}
+use Rattle.driver_rules.specs.inner.Reclaims.{reclaimer_due_by}
+use Rattle.driver_rules.specs.Spares.{outs_kept}
 use Rattle.driver_rules.specs.Scripts.{IsEnded, ScriptRule}
 use Rattle.driver_rules.specs.Stops.{is_spent}
 use Rattle.driver_rules.specs.inner.Stops.{frame_started, last_event, started}
@@ -34,7 +35,8 @@ use Rattle.run_turns.specs.Spent.{SpentRule}
 use Rattle.run_turns.specs.declared.turn.Turn.{Turn}
 use Rattle.run_turns.specs.declared.turn.Turn.TheVariants as turns
 use Rattle.run_turns.specs.inner.Courses.{KeepsKicks}
-use Rattle.run_turns.specs.inner.Turns.{EndsLoad, EndsOut, IsNotLost, IsWaitBy, KicksBy, MakesMany}
+use Rattle.run_turns.specs.inner.Turns.{EndsLoad, EndsOut, IsNotLost, IsReclaimerWait, IsWaitBy, KicksBy, MakesMany}
+use Rattle.run_turns.specs.inner.Turns.{RunsMany}
 
 -- the job, the entries so far, the newest first, what the store tells, whether memory was refused to a worker, and what no entry tells
 pub record BookView : Type 0 where
@@ -60,7 +62,8 @@ tells_stop _ = false
 -- are those of the entries
 pub record HoldsAnyhow (b : BookView) : Type 0 where
   pub script : Along (ScriptRule b.job) b.past
-  pub age : Along (AgeRule b.job) b.past
+  -- .. by the slots that the driver keeps as out
+  pub age : Along (KeptAgeRule b.job) b.past
   pub kick : Along (KickRule b.job) b.past
   pub tracking : Along (TrackingRule b.job.start_epoch) b.past
   pub fits : Fits b.job.epc b.past
@@ -114,9 +117,10 @@ pub record OpensLoad (b : BookView) (cpu : Cpu) (work : UnsealWork) : Type 0 whe
   pub version : IsSomeAnd (open_start b.past frame) (λ start. work.version ≡ start.version)
   pub given : IfSome b.told (λ calls. gift b.past calls frame ≡ Some work.rec)
 
--- a turn of a processor. By an entry it starts nothing; or a load has started in it, or was open before
+-- a turn of a processor. By entries it starts nothing; or a load has started in it, or was open before
 abbrev pub IsRun : BookView → Cpu → Turn → BookView → Type 0
-IsRun old cpu (turns.Did n) new = (n ≡ 1) × (started new.past (actors.Cpu cpu) ≡ false) × HasGrown old (actors.Cpu cpu) 1 new
+IsRun old cpu (turns.Did n) new =
+    RunsMany n new.past × (started new.past (actors.Cpu cpu) ≡ false) × HasGrown old (actors.Cpu cpu) n new
 IsRun old cpu (turns.Unseal work) new = OpensLoad new cpu work.value × (HasGrown old (actors.Cpu cpu) 1 new ⊎ (new ≡ old))
 IsRun old cpu (turns.Again why) new =
     IsWaitBy (cpu_due old.job old.past cpu.0) why × IsNotLost old.told (cpu_due old.job old.past cpu.0) × (new ≡ old)
@@ -140,13 +144,13 @@ pub record SealsPageOut (b : BookView) (work : SealWork) : Type 0 where
   pub opened : open_start b.past frame ≡ Some start
   pub version : work.version ≡ start.version
   pub page : Page
-  pub held : is_page (content b.past frame) page ≡ true
+  pub held : page_there (content b.past frame) ≡ Some page
   pub header : header_at b.past page ≡ Some work.header
   pub bytes : IfSome b.told (λ calls. UnforgedRun b.job.key b.past calls → work.plain.items ≡ bytes_at b.past page)
 
--- what is due to the reclaimer
+-- what is due to the reclaimer, by the slots that the driver keeps as out
 abbrev pub reclaim_due : BookView → Due
-reclaim_due b = reclaimer_due b.job b.past b.kicked
+reclaim_due b = reclaimer_due_by b.job b.past (outs_kept b.job b.past) b.kicked
 
 -- a turn of the reclaimer. By entries it starts nothing; or a write-out has started in it, or was open before
 abbrev pub IsReclaim : BookView → Turn → BookView → Type 0
@@ -154,7 +158,7 @@ IsReclaim old (turns.Did n) new =
     MakesMany (reclaim_due old) n × KicksBy (reclaim_due old) old.kicked new.kicked × (started new.past actors.Reclaimer ≡ false)
     × HasGrown old actors.Reclaimer n new
 IsReclaim old (turns.Seal work) new = SealsPageOut new work.value × (HasGrown old actors.Reclaimer 1 new ⊎ (new ≡ old))
-IsReclaim old (turns.Again why) new = IsWaitBy (reclaim_due old) why × (new ≡ old)
+IsReclaim old (turns.Again why) new = IsReclaimerWait old.job old.past (reclaim_due old) why × (new ≡ old)
 IsReclaim old turns.Finished new = (reclaim_due old ≡ Finished) × (new ≡ old)
 IsReclaim old turns.Stopped new = (is_stopped old ≡ true) × (new ≡ old)
 IsReclaim old _ new = ⊥

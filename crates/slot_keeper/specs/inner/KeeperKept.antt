@@ -1,27 +1,30 @@
 -- What a keeper is kept as.
-use Rattle.std.specs.Prelude.{◌≡◌, ℕ, ◌*◌, ◌<◌, ◌≤◌, ◌^◌, ◌==◌, Bool, true, length, vec_capacity}
-use Rattle.std.specs.List.{IsDistinct}
-use Rattle.sgx_types.specs.declared.names.Frame.{Frame}
+use Rattle.std.specs.Prelude.{◌≡◌, ℕ, ◌+◌, ◌<◌, ◌≤◌, Bool, List, length, get_or, vec_capacity}
+use Rattle.std.specs.List.{All}
+use Rattle.slot_keeper.specs.declared.array_slots.ArraySlots.TheInside as one
 use Rattle.slot_keeper.specs.declared.keeper.SlotKeeper.TheInside.{Inside}
-use Rattle.slot_keeper.specs.inner.Keeper.{Keeper}
-use Rattle.slot_keeper.specs.inner.Keys.{is_taken, free_below, IsCounted}
+use Rattle.slot_keeper.specs.inner.Keeper.{all_free, ArrayView, IsArray, Keeper}
+
+abbrev pub array_of : one.Inside → ArrayView
+array_of a = record { va = a.va; first = a.first; free = a.free }
+
+abbrev pub IsArrayKept : one.Inside → Type 0
+IsArrayKept a = IsArray (array_of a)
+
+-- no two places have one page
+abbrev pub AreApart : List ArrayView → Type 0
+AreApart arrays = (i k : ℕ) (d : ArrayView) → i < length arrays → k < length arrays
+    → (get_or arrays i d).va ≡ (get_or arrays k d).va → i ≡ k
 
 abbrev pub keeper_of : Inside → Keeper
-keeper_of k = record {
-  frames = k.frames.items;
-  free = free_below k.frames.items (is_taken k.slots) (512 * length k.frames.items);
-  room = vec_capacity k.frames;
-}
+keeper_of k = record { arrays = k.arrays.items; room = length k.arrays.items + length k.maps.items }
 
-abbrev pub same_frame : Frame → Frame → Bool
-same_frame a b = b.0 == a.0
+abbrev pub IsAllFree : List Bool → Type 0
+IsAllFree map = map ≡ all_free
 
--- each page was added once, there is a key for each slot of as many pages as there is room for, and those of pages that
--- were not added are taken
+-- each page was added once, and there is a map of all slots for each page that can still be added
 pub record IsKept (k : Inside) : Type 0 where
-  pub distinct : IsDistinct same_frame k.frames.items
-  pub few : vec_capacity k.frames < 2 ^ 32
-  pub fits : length k.frames.items ≤ vec_capacity k.frames
-  pub room : 512 * vec_capacity k.frames ≤ k.slots.capacity
-  pub counted : IsCounted k.slots
-  pub later : (key : ℕ) → 512 * length k.frames.items ≤ key → key < k.slots.capacity → is_taken k.slots key ≡ true
+  pub apart : AreApart k.arrays.items
+  pub arrays : All IsArray k.arrays.items
+  pub maps : All IsAllFree k.maps.items
+  pub fits : length k.arrays.items + length k.maps.items ≤ vec_capacity k.arrays

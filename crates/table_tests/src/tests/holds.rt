@@ -17,7 +17,7 @@ const A1: Page = Page {
 
 // A page that one actor holds twice and another once is held until both have ended their holds.
 fn hold(rt: &impl Abort, active: &mut Active)
-    requires { active.old ≡ new_active (2 ∷ 0 ∷ 3 ∷ []) }
+    requires { active.old ≡ new_active (record { own = 2 ∷ 0 ∷ 3 ∷ []; arrays = 1 }) }
 {
     active.push_back(A1);
     active.hold(CPU, A1);
@@ -33,7 +33,7 @@ fn hold(rt: &impl Abort, active: &mut Active)
 
 #[test]
 fn a_page_is_held_by_each_of_its_holders(rt: HostRuntime) -> Result<(), Fail> {
-    let active = Active::new(rt.alloc(), &[2, 0, 3])?;
+    let active = Active::new(rt.alloc(), &[2, 0, 3], 1)?;
     let mut active = Box::new(rt.alloc(), active)?;
     hold(&rt, &mut active);
     Ok(())

@@ -3,20 +3,21 @@
 ghost use Rattle.std.specs.Prelude.{◌≡◌};
 ghost use Rattle.slot_keeper.specs.inner.Keeper.{new_keeper};
 
-use sgx_types::names::{Frame, SlotAt};
+use sgx_types::names::VaSlot;
 use slot_keeper::keeper::SlotKeeper;
 use std::process::Abort;
 use std::test::Fail;
 
-const PAGES: u32 = 64;
+// No job has more.
+const PAGES: u32 = 9;
 
 const TIMES: u32 = 1_000_000;
 
 fn add_each(keeper: &mut SlotKeeper)
-    requires { keeper.old ≡ new_keeper 64 }
+    requires { keeper.old ≡ new_keeper 9 }
 {
     for number in 0..PAGES {
-        keeper.add(Frame(number));
+        keeper.add(number, 0);
     }
 }
 
@@ -28,7 +29,7 @@ fn take_each(rt: &impl Abort, keeper: &mut SlotKeeper, times: u32) {
 }
 
 // Takes a slot and gives it back, so many times, and tells the last.
-fn renew(rt: &impl Abort, keeper: &mut SlotKeeper, times: u32) -> Option<SlotAt> {
+fn renew(rt: &impl Abort, keeper: &mut SlotKeeper, times: u32) -> Option<VaSlot> {
     let mut last = None;
     for _ in 0..times {
         last = keeper.take();
@@ -39,7 +40,7 @@ fn renew(rt: &impl Abort, keeper: &mut SlotKeeper, times: u32) -> Option<SlotAt>
     last
 }
 
-// Of 32,768 slots all but one are out, which is taken and given back. A search for it would make more than 10^10 steps.
+// Of 4,608 slots all but one are out, which is taken and given back. A search for it would make more than 10^9 steps.
 #[test]
 fn a_million_slots_are_handed_out(rt: HostRuntime) -> Result<(), Fail> {
     let mut keeper = SlotKeeper::new(rt.alloc(), PAGES)?;

@@ -51,14 +51,14 @@ impl Model for World {
 
     ghost view = { λ w. w.first };
 
-    ghost invariant = { λ w. w.active.value.counts ≡ 0 ∷ w.first ∷ w.second ∷ [] };
+    ghost invariant = { λ w. w.active.value.counts ≡ record { own = w.first ∷ w.second ∷ []; arrays = 1 } };
 }
 
 impl World {
     pub fn new(alloc: Global, first: u32, second: u32) -> Result<World, Memory>
-        requires { first + second < 2 ^ 32 }
+        requires { first + second + 3 < 2 ^ 32 }
     {
-        let active = Active::new(alloc, &[first, second])?;
+        let active = Active::new(alloc, &[first, second], 1)?;
         let active = Box::new(alloc, active)?;
         Ok(World {
             active,
@@ -131,7 +131,7 @@ impl World {
 }
 
 fn is_page(first: u32, second: u32, page: Page) -> bool
-    ensures { IsTrue result → IsPlaced (0 ∷ first ∷ second ∷ []) page }
+    ensures { IsTrue result → IsPlaced (record { own = first ∷ second ∷ []; arrays = 1 }) page }
 {
     match page.enclave {
         1 => page.number < first,

@@ -23,11 +23,11 @@ use Rattle.table_notes.specs.inner.Plain.{is_plain}
 use Rattle.turn_tables.specs.inner.Entries.{EntersApart}
 use Rattle.turn_tables.specs.inner.Holding.{mode_of}
 use Rattle.audit_laws.specs.inner.Shown.{ShowsTrace}
-use Rattle.audit_pass.specs.inner.Noted.{gone_by}
-use Rattle.audit_pass.specs.inner.Standing.{StandsAt}
-use Rattle.audit_pass.specs.inner.Viewed.{TraceView}
 use Rattle.audit_records.specs.inner.Kept.{KeepsRecords, records_of}
-use Rattle.audit_tables.specs.inner.Followed.{frame_ended}
+use Rattle.audit_tables.specs.inner.Followed.{frame_begun, frame_ended}
+use Rattle.reclaim_pass.specs.inner.Noted.{gone_by}
+use Rattle.reclaim_pass.specs.inner.Standing.{StandsAt}
+use Rattle.reclaim_pass.specs.inner.Viewed.{PassView}
 use Rattle.trace_auditor.specs.declared.auditing.Auditing.{Auditing}
 
 -- each part stands for the entries so far, which keep each rule
@@ -87,7 +87,7 @@ pub record CanFollow (j : JobView) (a : Auditing) (before : Mode) (start : Optio
   pub past : List Entry
   -- the machine and the pass before it
   pub m : Parts
-  pub v : TraceView
+  pub v : PassView
   pub trace : ShowsTrace j past a.driver m a.turns
   pub arrays : KeepsArrays j a.driver.slots past
   pub taken : IsTaken j past m e a.machine
@@ -96,5 +96,6 @@ pub record CanFollow (j : JobView) (a : Auditing) (before : Mode) (start : Optio
   pub goes_on : GoesOn j (e ∷ past)
   pub records : KeepsRecords j.key (e ∷ past) (records_of a.records)
   pub stood : before ≡ mode_of m e.actor
-  pub opened : (f : Frame) → frame_ended e.event ≡ Some f → start_of start ≡ bare_start (open_start past f.0)
+  pub ended : (f : Frame) → frame_ended e.event ≡ Some f → start_of start ≡ bare_start (open_start past f.0)
+  pub begun : (f : Frame) → frame_begun e.event ≡ Some f → start_of start ≡ bare_start (open_start (e ∷ past) f.0)
   pub few : length past < 2 ^ 63

@@ -27,7 +27,7 @@ use Rattle.turn_rules.specs.inner.Cursor.{left}
 use Rattle.turn_rules.specs.Script.{frame_at, script_of, step_action}
 use Rattle.active_list.specs.declared.page_states.PageState.{PageState}
 use Rattle.active_list.specs.declared.page_states.PageState.TheVariants as states
-use Rattle.active_list.specs.inner.States.{state_of as page_state}
+use Rattle.active_list.specs.inner.States.{StateTable, state_of as page_state}
 use Rattle.paging_machine.specs.inner.Parts.{Parts, cpu_at, state_of}
 use Rattle.driver_rules.specs.declared.waits.Why.TheVariants as waits
 use Rattle.driver_tables.specs.declared.driver.Driver.{Driver}
@@ -43,7 +43,7 @@ use Rattle.turn_tables.specs.declared.steps.CpuStep.{CpuStep}
 use Rattle.turn_tables.specs.declared.steps.CpuStep.TheVariants as steps
 use Rattle.turn_tables.specs.declared.tcs_turns.TcsTurn.{TcsTurn}
 use Rattle.turn_tables.specs.declared.turns.Turns.{Turns}
-use Rattle.turn_tables.specs.inner.TcsTurns.{has_place, tcs_at}
+use Rattle.turn_tables.specs.inner.TcsTurns.{has_place, rows, tcs_at}
 
 -- ---- pages
 
@@ -52,8 +52,14 @@ here_if true (states.Here f) = Some f
 here_if _ state = None
 
 -- the frame of a page that is here. A page that has no place in the driver's tables is not
+abbrev pub frame_by : StateTable → Turns → Page → Option Frame
+frame_by table t g = here_if (has_place t.tcs g) (page_state table g)
+
 abbrev pub frame_seen : Driver → Turns → Page → Option Frame
-frame_seen d t g = here_if (has_place t.tcs g) (page_state d.states g)
+frame_seen d t g = frame_by d.states t g
+
+abbrev pub here_seen : StateTable → Turns → Page → Bool
+here_seen table t g = is_some (frame_by table t g)
 
 abbrev pub stands_if : Bool → PageState → Option Frame
 stands_if true (states.Here f) = Some f
@@ -254,6 +260,6 @@ is_last_by p (Some actor) = is_by p actor
 
 -- the tables have the driver's places, and both and the machine this processor
 pub record CanAsk (d : Driver) (m : Parts) (t : Turns) (p : ℕ) : Type 0 where
-  pub places : map length t.tcs ≡ d.states.counts
+  pub places : map length t.tcs ≡ rows d.states.counts
   pub turn : p < length t.cpus
   pub cpu : p < length m.cpus

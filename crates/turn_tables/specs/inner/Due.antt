@@ -1,22 +1,26 @@
 -- What the answers say, and when the actors can be asked.
-use Rattle.std.specs.Prelude.{ℕ, ◌≡◌, ◌+◌, ◌≤◌, if◌then◌else◌, List, Option, None, Some}
+use Rattle.std.specs.Prelude.{ℕ, ◌≡◌, ◌+◌, ◌≤◌, if◌then◌else◌, true, List, Option, None, Some, length}
 use Rattle.sgx_rules.specs.declared.entries.Action.{Action}
 use Rattle.sgx_rules.specs.declared.entries.Action.TheVariants as actions
 use Rattle.sgx_rules.specs.declared.entries.Entry.{Entry}
 use Rattle.sgx_types.specs.declared.names.Page.{Page}
+use Rattle.sgx_types.specs.Pages.{is_own_page}
 use Rattle.sgx_rules.specs.Frames.{frame_of}
-use Rattle.sgx_types.specs.Making.{Making}
 use Rattle.sgx_rules.specs.Processors.{stay}
 use Rattle.job_grammar.specs.declared.jobs.PageLine.{PageLine}
 use Rattle.job_grammar.specs.declared.jobs.PageLine.TheVariants as lines
 use Rattle.job_grammar.specs.Jobs.{JobView, lines_at, tcs_line}
 use Rattle.turn_rules.specs.Script.{is_seated_at, saved}
-use Rattle.paging_machine.specs.inner.Parts.{Parts}
+use Rattle.paging_laws.specs.inner.Columns.{HasColumns}
+use Rattle.paging_machine.specs.inner.Parts.{Parts, state_of}
 use Rattle.driver_rules.specs.Dues.{Due, Ends, Finished, Makes, Reports, Stopped, Waits}
 use Rattle.driver_rules.specs.Places.{Here, Leaving, Place, place}
 use Rattle.driver_rules.specs.Turns.{fetches}
+use Rattle.driver_laws.specs.inner.Agrees.{Keeping}
+use Rattle.driver_laws.specs.inner.Counted.{AddsAreBuilt}
+use Rattle.driver_laws.specs.inner.Sound.{IsSound}
 use Rattle.driver_tables.specs.declared.driver.Driver.{Driver}
-use Rattle.driver_steps.specs.inner.Agrees.{Agrees}
+use Rattle.driver_tables.specs.inner.Tables.{ShowsTables}
 use Rattle.turn_tables.specs.declared.dues.BuilderDue.{BuilderDue}
 use Rattle.turn_tables.specs.declared.dues.BuilderDue.TheVariants as builders
 use Rattle.turn_tables.specs.declared.dues.CpuDue.{CpuDue}
@@ -81,16 +85,27 @@ standing _ = None
 -- ---- what the entries of a driver keep
 
 pub record IsOrderly (j : JobView) (past : List Entry) : Type 0 where
-  -- a page is in the frame into which it was last put
-  pub frames : (g : Page) → frame_of past g ≡ standing (place past g)
+  -- a TCS or REG page is in the frame into which it was last put
+  pub frames : (g : Page) → is_own_page g ≡ true → frame_of past g ≡ standing (place past g)
   -- no TCS page has more state save pages in use than it has, nor would have when a processor leaves by it
   pub room : (p : ℕ) (g : Page) → IsWithin (in_use past p g) (tcs_line (lines_at j.enclaves g.enclave) g.number)
 
 -- ---- when the actors can be asked
 
+-- the driver's tables and the machine show the entries, whichever slots are kept: a driver's tables do where it agrees with the machine,
+-- and an auditor's do too
+pub record IsShown (k : Keeping) (j : JobView) (past : List Entry) (d : Driver) (m : Parts) : Type 0 where
+  pub columns : HasColumns (state_of m) past
+  pub frames : (state_of m).frames ≡ j.epc
+  pub cpus : length m.cpus ≡ d.cpus
+  -- frames, places and list fit each other, and no more pages were added, or made, than the build has steps for
+  pub sound : IsSound past
+  pub built : AddsAreBuilt j past
+  pub shows : ShowsTables k j d past
+
 -- driver, machine and these tables stand for the same entries
 pub record IsReady (j : JobView) (d : Driver) (m : Parts) (t : Turns) : Type 0 where
-  pub made : Making
+  pub keeping : Keeping
   pub past : List Entry
-  pub agrees : Agrees made j past d m
+  pub shown : IsShown keeping j past d m
   pub shows : ShowsTurns j past t

@@ -65,8 +65,14 @@ failed_by (Some page) (why.MacFail given computed) = ways.Fails page reasons.Mac
 failed_by (Some page) (why.BadHeader enclave address flags) = ways.Fails page reasons.Header
 failed_by _ refusal = ways.WasEnded
 
+-- a start that found no version in the slot
+abbrev pub start_failed : Page → Refusal → Last
+start_failed page why.SlotEmpty = ways.Fails page reasons.Slot
+start_failed page refusal = ways.WasEnded
+
 abbrev pub last_after : Event → Last → Last
 last_after (Did (actions.EldStart f page slot) answer) last = ways.Loads f page
+last_after (Refused (actions.EldStart f page slot) refusal) last = start_failed page refusal
 last_after (Refused (actions.Eld f) refusal) last = failed_by (page_loaded last) refusal
 last_after (Bus page why) last = ways.WasEnded
 last_after _ last = ways.Other

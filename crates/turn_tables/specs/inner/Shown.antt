@@ -4,7 +4,7 @@ use Rattle.std.specs.Prelude.{slice_index_or}
 use Rattle.sgx_types.specs.declared.names.Actor.{Actor}
 use Rattle.sgx_rules.specs.declared.entries.Entry.{Entry}
 use Rattle.sgx_types.specs.declared.names.Page.{Page}
-use Rattle.job_grammar.specs.Jobs.{JobView, lines_at, tcs_line}
+use Rattle.job_grammar.specs.Jobs.{JobView, lines_at, tcs_line, va_pages}
 use Rattle.job_grammar.specs.inner.Valid.{IsValid}
 use Rattle.turn_rules.specs.inner.Cursor.{IsCursor, left}
 use Rattle.turn_rules.specs.Script.{build_of, built, is_initialised, replied, saved}
@@ -41,6 +41,6 @@ pub record ShowsTurns (j : JobView) (past : List Entry) (t : Turns) : Type 0 whe
   pub each : length t.cpus ≡ length j.scripts
   -- of each TCS page its line, and how many of its state save pages are in use
   pub saves : (g : Page) → tcs_at t.tcs g ≡ tcs_by (tcs_line (lines_at j.enclaves g.enclave) g.number) (saved past g)
-  pub places : map length t.tcs ≡ 0 ∷ page_counts j
+  pub places : map length t.tcs ≡ va_pages j ∷ page_counts j
   pub last : t.last ≡ last_actor past
   pub spent : t.is_spent ≡ is_spent past

@@ -1,4 +1,4 @@
-use Rattle.audit_laws.proofs.AgreeLaws.{ends_told}
+use Rattle.audit_laws.proofs.EndLaws.{ends_told}
 use Rattle.audit_laws.proofs.laws.ends_are_told.Goals as goal
 
 pub returns : goal.returns

@@ -1,5 +1,4 @@
-use Rattle.driver_laws.proofs.HistoryLaws.{first_sound}
-use Rattle.driver_laws.proofs.SoundLaws.{stays_sound}
+use Rattle.driver_laws.proofs.SoundLaws.{first_sound, stays_sound}
 use Rattle.driver_laws.proofs.laws.entries_stay_sound.Goals as goal
 
 pub returns : goal.returns

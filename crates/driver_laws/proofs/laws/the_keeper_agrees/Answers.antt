@@ -1,5 +1,5 @@
-use Rattle.driver_laws.proofs.KeepLaws.{first_shows, moves_counted, stays_shown}
+use Rattle.driver_laws.proofs.KeepLaws.{first_shows, stays_shown}
 use Rattle.driver_laws.proofs.laws.the_keeper_agrees.Goals as goal
 
 pub returns : goal.returns
-returns c = record { first = first_shows; more = stays_shown; counted = moves_counted }
+returns c = record { first = first_shows; more = stays_shown }

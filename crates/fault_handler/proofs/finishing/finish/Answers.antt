@@ -25,6 +25,7 @@ returns-clause-does c can =
             fits = c.eld_commit-entry.ensures.fits;
             history = c.eld_commit-entry.ensures.history;
             back = c.eld_commit-entry.ensures.back;
+            arrays = c.eld_commit-entry.ensures.arrays;
             making = c.eld_commit-entry.ensures.making;
           });
       ends = search rules;

@@ -1,11 +1,11 @@
-use Rattle.std.proofs.Common.{rules, subst}
-use Rattle.fault_handler.specs.inner.Resolving.{TellsFault}
+use Rattle.std.proofs.Common.{rules}
+use Rattle.fault_handler.proofs.StartLaws.{no_fault}
 use Rattle.fault_handler.proofs.resolving.fetch.Goals as goal
 
 pub returns-in-Ok-Some-clause-cause : goal.returns-in-Ok-Some-clause-cause
 returns-in-Ok-Some-clause-cause g c = record {
   not_fallen = c.get.ensures.cause.not_fallen;
-  risen = λ told. absurd (subst TellsFault c.start.ensures.does.says told);
+  risen = λ told. absurd (no_fault c.start.ensures.does told);
 }
 
 pub returns-in-Err-Failed-clause-cause : goal.returns-in-Err-Failed-clause-cause

@@ -4,4 +4,5 @@ use Rattle.driver_laws.specs.inner.Sound.{is_absent}
 use Rattle.reclaim_worker.proofs.laws.a_slot_is_left_for_a_try.Goals as goal
 
 pub returns : goal.returns
-returns c made j past d m g f a at out = not_all_out j d.slots past g a.sound a.shows.slots a.counted a.built (ap is_absent at) out
+returns c made j past d m g f a none own at out =
+    not_all_out j d.slots past g a.sound a.shows.slots a.counted a.built none own (ap is_absent at) out

@@ -1,11 +1,11 @@
 use Rattle.std.proofs.Common.{◌≡◌, ◌<◌, ◌-◌, ◌^◌}
 use Rattle.paging_machine.specs.inner.Parts.{cpu_at}
+use Rattle.reclaim_pass.specs.inner.Keeping.{is_older}
 use Rattle.reclaim_worker.specs.inner.Answers.{bits_from}
-use Rattle.reclaim_worker.specs.inner.Tried.{is_kept_by}
 use Rattle.reclaim_worker.proofs.seats.keepers.Given as goal
 
 abbrev pub invariant-loop-back : goal.invariant-loop-back
 invariant-loop-back l = record {
-  bits : l.bits ≡ bits_from (λ p. is_kept_by (cpu_at l.machine p).mode l.enclave l.block) (l.cpus - l.back) l.back;
+  bits : l.bits ≡ bits_from (λ p. is_older (cpu_at l.machine p).mode l.enclave l.epoch) (l.cpus - l.back) l.back;
   small : l.bits < 2 ^ l.back;
 }

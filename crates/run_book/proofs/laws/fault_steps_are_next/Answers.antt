@@ -2,5 +2,4 @@ use Rattle.run_book.proofs.LoadTurns.{fault_next}
 use Rattle.run_book.proofs.laws.fault_steps_are_next.Goals as goal
 
 pub returns : goal.returns
-returns c made j past d d' m m' taken phase cpu page answer told told' = fault_next made j past d d' m m' taken phase cpu page answer told
-    told'
+returns c = fault_next

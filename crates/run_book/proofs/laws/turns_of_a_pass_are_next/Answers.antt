@@ -2,4 +2,4 @@ use Rattle.run_book.proofs.TurnLaws.{turn_next}
 use Rattle.run_book.proofs.laws.turns_of_a_pass_are_next.Goals as goal
 
 pub returns : goal.returns
-returns c made j past d d' m m' taken phase turn = turn_next made j past d d' m m' taken phase turn
+returns c = turn_next

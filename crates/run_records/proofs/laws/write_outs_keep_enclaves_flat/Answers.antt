@@ -3,5 +3,4 @@ use Rattle.run_records.proofs.PassRecords.{out_flat}
 use Rattle.run_records.proofs.laws.write_outs_keep_enclaves_flat.Goals as goal
 
 pub returns : goal.returns
-returns c past taken phase d d' m m' told told' faults faults' e =
-    out_flat past taken phase (state_of m) (state_of m') d d' told told' faults faults' e
+returns c past v d d' m m' told told' faults faults' e = out_flat past v (state_of m) (state_of m') d d' told told' faults faults' e

@@ -1,6 +1,6 @@
 use Rattle.std.proofs.Common.{◌≡◌, IfSome, [], sym, ap, subst, ◌∙◌}
 use Rattle.job_grammar.specs.Jobs.{JobView}
-use Rattle.reclaim_worker.specs.inner.Standing.{is_kicked}
+use Rattle.reclaim_pass.specs.inner.Viewed.{is_kicked}
 use Rattle.run_turns.specs.declared.course.Course.{Course}
 use Rattle.run_turns.specs.inner.Kept.{IsKept}
 use Rattle.run_turns.proofs.ViewLaws.{plans_begin}
@@ -20,4 +20,4 @@ invariant_of-result g c =
 
 pub returns-clause-kicked : goal.returns-clause-kicked
 returns-clause-kicked g c =
-    ap (λ (x : Course). is_kicked x.pass.phase) c.in_ok-course.ensures.ok ∙ c.in_ok-new.ensures.kicks
+    ap (λ (x : Course). is_kicked x.pass) c.in_ok-course.ensures.ok ∙ c.in_ok-new.ensures.kicks

@@ -1,5 +1,7 @@
 use Rattle.std.proofs.Common.{refl, sym, ap, subst, ◌∙◌}
 use Rattle.turn_rules.specs.Machines.{machine_of}
+use Rattle.driver_laws.specs.inner.Agrees.{drivers}
+use Rattle.turn_tables.proofs.FirstLaws.{agrees_shown}
 use Rattle.turn_tables.specs.inner.Due.{building_in}
 use Rattle.run_turns.specs.inner.Courses.{past_of}
 use Rattle.run_turns.specs.inner.Turns.{IsWaitBy}
@@ -15,7 +17,8 @@ instruct-requires c =
       told = c.requires.told;
       spare = c.requires.spare;
       keeps = c.requires.keeps;
-      due = sym (c.builder_due-due.ensures (machine_of s.job) (past_of s) k.agrees k.orderly k.turns)
+      due = sym (c.builder_due-due.ensures (drivers s.job) (past_of s)
+          (agrees_shown (machine_of s.job) s.job (past_of s) s.driver s.machine k.agrees) k.orderly k.turns)
           ∙ ap building_in c.in-Makes.is;
     }
 
@@ -23,7 +26,9 @@ pub returns-in-Stopped-clause-turn : goal.returns-in-Stopped-clause-turn
 returns-in-Stopped-clause-turn c = λ can.
     (let s = c.args.self.now in
     let k = can.keeps.book in (
-      sym (c.builder_due-due.ensures (machine_of s.job) (past_of s) k.agrees k.orderly k.turns) ∙ ap building_in c.in-Stopped.is,
+      sym (c.builder_due-due.ensures (drivers s.job) (past_of s)
+          (agrees_shown (machine_of s.job) s.job (past_of s) s.driver s.machine k.agrees) k.orderly k.turns)
+          ∙ ap building_in c.in-Stopped.is,
       same_self s,
     ))
 
@@ -31,7 +36,8 @@ pub returns-in-Finished-clause-turn : goal.returns-in-Finished-clause-turn
 returns-in-Finished-clause-turn c = λ can.
     (let s = c.args.self.now in
     let k = can.keeps.book in (
-      sym (c.builder_due-due.ensures (machine_of s.job) (past_of s) k.agrees k.orderly k.turns)
+      sym (c.builder_due-due.ensures (drivers s.job) (past_of s)
+          (agrees_shown (machine_of s.job) s.job (past_of s) s.driver s.machine k.agrees) k.orderly k.turns)
           ∙ ap building_in c.in-Finished.is,
       same_self s,
     ))
@@ -42,7 +48,8 @@ returns-in-Waits-clause-turn c = λ can.
     let k = can.keeps.book in (
       subst (λ due. IsWaitBy due c.in-Waits.why)
           (sym (ap building_in c.in-Waits.is)
-          ∙ c.builder_due-due.ensures (machine_of s.job) (past_of s) k.agrees k.orderly k.turns)
+          ∙ c.builder_due-due.ensures (drivers s.job) (past_of s)
+          (agrees_shown (machine_of s.job) s.job (past_of s) s.driver s.machine k.agrees) k.orderly k.turns)
           refl,
       same_self s,
     ))
@@ -51,5 +58,7 @@ pub returns-in-Makes-clause-turn : goal.returns-in-Makes-clause-turn
 returns-in-Makes-clause-turn c =
     let s = c.args.self.now in
     builder_made s c.instruct.new.self c.in-Makes.action c.instruct.result
-    (λ can. sym (c.builder_due-due.ensures (machine_of s.job) (past_of s) can.keeps.book.agrees can.keeps.book.orderly can.keeps.book.turns)
+    (λ can. sym (c.builder_due-due.ensures (drivers s.job) (past_of s)
+    (agrees_shown (machine_of s.job) s.job (past_of s) s.driver s.machine can.keeps.book.agrees) can.keeps.book.orderly
+    can.keeps.book.turns)
     ∙ ap building_in c.in-Makes.is) c.instruct.ensures.turn c.instruct.ensures.more

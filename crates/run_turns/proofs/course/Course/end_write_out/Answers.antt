@@ -1,11 +1,11 @@
 use Rattle.std.proofs.Common.{subst, sym, ap, ◌∙◌}
-use Rattle.reclaim_worker.specs.inner.Standing.{is_kicked}
+use Rattle.reclaim_pass.specs.inner.Viewed.{is_kicked}
 use Rattle.turn_rules.specs.Machines.{machine_of}
 use Rattle.run_turns.specs.inner.Courses.{past_of}
 use Rattle.paging_machine.specs.inner.Parts.{state_of}
 use Rattle.run_turns.specs.inner.Turns.{EndsOut}
 use Rattle.run_turns.proofs.CallLaws.{stored_tells, stored_writes}
-use Rattle.run_turns.proofs.EndTurnLaws.{course_open, end_is_own, kicks_behind, one_out}
+use Rattle.run_turns.proofs.EndTurnLaws.{course_open, end_is_own, ended_calm, one_out}
 use Rattle.run_turns.proofs.course.Course.end_write_out.Goals as goal
 
 pub stored-entry-requires-clause-started : goal.stored-entry-requires-clause-started
@@ -28,10 +28,10 @@ take_own-requires g c =
       spare = g.S.Backing.spare c.stored-entry.new.store;
       is = end_is_own c.args.self.now (g.S.Backing.told c.args.store.now) (g.S.Backing.told c.stored-entry.new.store)
           (g.S.Backing.spare c.args.store.now) (g.S.Backing.spare c.stored-entry.new.store) (g.S.Backing.faults c.args.store.now)
-          (g.S.Backing.faults c.stored-entry.new.store) c.stored-entry.result c.stored-entry.new.self c.stored-entry.new.driver
+          (g.S.Backing.faults c.stored-entry.new.store) c.stored-entry.result c.stored-entry.new.pass c.stored-entry.new.driver
           c.stored-entry.new.machine k c.requires.going c.requires.sealing
-          e.says e.phase e.taken e.used (e.shape made past k.book.agrees.follows)
-          (e.fits made past k.book.agrees.follows k.book.agrees.fits) e.cpus;
+          e.says e.pass e.used (e.shape made past k.book.agrees.follows)
+          (e.fits made past k.book.agrees.follows k.book.agrees.fits) e.arrays e.cpus;
     }
 
 pub returns-clause-grows : goal.returns-clause-grows
@@ -45,10 +45,10 @@ returns-clause-grows g c =
       spare = g.S.Backing.spare c.stored-entry.new.store;
       is = end_is_own c.args.self.now (g.S.Backing.told c.args.store.now) (g.S.Backing.told c.stored-entry.new.store)
           (g.S.Backing.spare c.args.store.now) (g.S.Backing.spare c.stored-entry.new.store) (g.S.Backing.faults c.args.store.now)
-          (g.S.Backing.faults c.stored-entry.new.store) c.stored-entry.result c.stored-entry.new.self c.stored-entry.new.driver
+          (g.S.Backing.faults c.stored-entry.new.store) c.stored-entry.result c.stored-entry.new.pass c.stored-entry.new.driver
           c.stored-entry.new.machine k c.requires.going c.requires.sealing
-          e.says e.phase e.taken e.used (e.shape made past k.book.agrees.follows)
-          (e.fits made past k.book.agrees.follows k.book.agrees.fits) e.cpus;
+          e.says e.pass e.used (e.shape made past k.book.agrees.follows)
+          (e.fits made past k.book.agrees.follows k.book.agrees.fits) e.arrays e.cpus;
     }) in
     record {
       entries = grows.entries;
@@ -63,19 +63,22 @@ returns-clause-grows g c =
 pub returns-clause-ends : goal.returns-clause-ends
 returns-clause-ends g c =
     subst EndsOut (sym c.take_own.ensures.past)
-    (stored_writes c.args.self.now.pass.taken.items c.args.self.now.pass.phase (state_of c.args.self.now.machine)
+    (stored_writes c.args.self.now.pass (state_of c.args.self.now.machine)
     (state_of c.stored-entry.new.machine) c.args.self.now.driver c.stored-entry.new.driver (g.S.Backing.told c.args.store.now)
     (g.S.Backing.told c.stored-entry.new.store) (g.S.Backing.faults c.args.store.now) (g.S.Backing.faults c.stored-entry.new.store)
     c.stored-entry.result c.stored-entry.ensures.says)
 
 pub returns-clause-tells : goal.returns-clause-tells
 returns-clause-tells g c =
-    stored_tells c.args.self.now.pass.taken.items c.args.self.now.pass.phase (state_of c.args.self.now.machine)
+    stored_tells c.args.self.now.pass (state_of c.args.self.now.machine)
     (state_of c.stored-entry.new.machine) c.args.self.now.driver c.stored-entry.new.driver (g.S.Backing.told c.args.store.now)
     (g.S.Backing.told c.stored-entry.new.store) (g.S.Backing.faults c.args.store.now) (g.S.Backing.faults c.stored-entry.new.store)
     c.stored-entry.result c.stored-entry.ensures.says
 
 pub returns-clause-kicks : goal.returns-clause-kicks
 returns-clause-kicks g c =
-    c.take_own.ensures.kicks ∙ (ap is_kicked c.stored-entry.ensures.phase
-    ∙ kicks_behind c.args.self.now.pass.taken.items c.args.self.now.pass.phase c.requires.sealing)
+    c.take_own.ensures.kicks ∙ (ap is_kicked c.stored-entry.ensures.pass
+    ∙ ended_calm c.args.self.now (g.S.Backing.told c.args.store.now) (g.S.Backing.told c.stored-entry.new.store)
+    (g.S.Backing.spare c.args.store.now) (g.S.Backing.faults c.args.store.now) (g.S.Backing.faults c.stored-entry.new.store)
+    c.stored-entry.result c.stored-entry.new.driver (state_of c.args.self.now.machine) (state_of c.stored-entry.new.machine)
+    c.requires.keeps c.stored-entry.ensures.says)

@@ -1,5 +1,5 @@
 use Rattle.reclaim_worker.specs.inner.After.{kicked_past}
-use Rattle.reclaim_worker.specs.inner.Standing.{is_kicked}
+use Rattle.reclaim_pass.specs.inner.Viewed.{is_kicked}
 use Rattle.run_turns.specs.declared.course.Course.{Course}
 use Rattle.run_turns.specs.inner.Courses.{past_of}
 use Rattle.std.proofs.Common.{◌≡◌, ℕ, List, [], length, refl, ap, subst, sym, ◌∙◌}
@@ -52,7 +52,7 @@ returns-in-Kicks c can =
             c.kick.ensures.count own.kick ∙ ap length same,
             (c.kick.ensures.kicked own.kick).past ∙ ap (λ ps. kicked_past ps (past_of c.args.self.now)) same,
           )),
-      ap (λ (x : Course). is_kicked x.pass.phase) (c.kick.ensures.kicked own.kick).others,
+      ap (λ (x : Course). is_kicked x.pass) (c.kick.ensures.kicked own.kick).others,
       kicks_grow c.args.self.now c.kick.new.self c.in-Kicks.bits can.longer can.spare c.kick.result own (c.kick.ensures.kicked own.kick)
           (c.kick.ensures.count own.kick),
     )

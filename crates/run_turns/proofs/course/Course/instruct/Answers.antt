@@ -7,7 +7,7 @@ use Rattle.run_turns.specs.declared.course.Course.{Course}
 use Rattle.run_turns.specs.inner.Courses.{past_of}
 use Rattle.run_turns.proofs.EndedLaws.{ends_told, none_fail}
 use Rattle.run_turns.proofs.InstructLaws.{none_started_of, acts, can_move, entered, lawful, notable, noted_by, plain_event}
-use Rattle.run_turns.proofs.KeepLaws.{grown_by_one, take_at}
+use Rattle.run_turns.proofs.KeepLaws.{first_behind, grown_by_one, take_at}
 use Rattle.driver_rules.specs.inner.Stops.{started}
 use Rattle.run_turns.proofs.SpentLaws.{plain_draws, step_calm, used_calm}
 use Rattle.run_turns.proofs.RecordLaws.{newest, plain_is_none}
@@ -21,22 +21,23 @@ apply-requires-clause-can_move c = can_move c.args.self.now c.args.actor c.args.
 
 pub note_tables-requires : goal.note_tables-requires
 note_tables-requires c =
-    notable c.args.self.now c.apply.new.self c.args.actor c.args.action.now c.in_ok-entry.entry c.mode_of-before.result c.requires
-    c.in_ok-entry.ensures.step c.mode_of-before.ensures
+    notable c.args.self.now c.apply.new.self c.args.actor c.args.action.now c.in_ok-entry.entry c.first_slot-first.result
+    c.mode_of-before.result c.requires c.in_ok-entry.ensures.step c.first_slot-first.ensures c.mode_of-before.ensures
 
 pub take_in-requires : goal.take_in-requires
 take_in-requires c =
     let s = c.args.self.now in
     let told = c.in_ok-entry.ensures in
     let carries : Carries (state_of s.machine) c.in_ok-entry.entry (state_of c.apply.new.self) =
-    record { shape = told.shape; fits = told.fits; history = told.history; making = c.apply.ensures.making } in
+    record { shape = told.shape; fits = told.fits; arrays = told.arrays; history = told.history; making = c.apply.ensures.making } in
     let k = c.requires in
     let x : Course = record s { machine = c.apply.new.self; driver = c.note_tables.new.driver; entries = c.reserve.new.self } in
     let room = c.in_ok-reserve.ensures.ok in
     take_at s x c.mode_of-before.result c.in_ok-entry.entry k.told k.told
-    (entered s x c.apply.new.self c.args.actor c.args.action.now c.in_ok-entry.entry c.mode_of-before.result k c.in_ok-entry.ensures.step
-    carries c.apply.ensures.cpus c.mode_of-before.ensures c.note_tables.ensures refl refl refl refl
-    c.reserve.ensures.items (omega (arith, room)))
+    (entered s x c.apply.new.self c.args.actor c.args.action.now c.in_ok-entry.entry c.first_slot-first.result c.mode_of-before.result k
+    c.in_ok-entry.ensures.step carries c.apply.ensures.cpus c.first_slot-first.ensures c.mode_of-before.ensures c.note_tables.ensures
+    refl refl refl
+    refl c.reserve.ensures.items (omega (arith, room)))
 
 pub returns-clause-more : goal.returns-clause-more
 returns-clause-more c = λ can.
@@ -44,24 +45,26 @@ returns-clause-more c = λ can.
     let e = c.in_ok-entry.entry in
     let told = c.in_ok-entry.ensures in
     let carries : Carries (state_of s.machine) e (state_of c.apply.new.self) =
-    record { shape = told.shape; fits = told.fits; history = told.history; making = c.apply.ensures.making } in
-    let noted = noted_by s c.note_tables.new.driver c.apply.new.self c.args.actor c.args.action.now e c.mode_of-before.result can
-    c.in_ok-entry.ensures.step c.mode_of-before.ensures c.note_tables.ensures in
+    record { shape = told.shape; fits = told.fits; arrays = told.arrays; history = told.history; making = c.apply.ensures.making } in
+    let noted = noted_by s c.note_tables.new.driver c.apply.new.self c.args.actor c.args.action.now e c.first_slot-first.result
+    c.mode_of-before.result can c.in_ok-entry.ensures.step c.first_slot-first.ensures c.mode_of-before.ensures c.note_tables.ensures in
     let both = acts s.machine c.apply.new.self c.args.actor c.args.action.now e c.in_ok-entry.ensures.step in
     let quiet = plain_event e.event c.args.action.now both.1 (lawful s c.args.actor c.args.action.now can).plain in
     let room = c.in_ok-reserve.ensures.ok in
     let x : Course = record s { machine = c.apply.new.self; driver = c.note_tables.new.driver; entries = c.reserve.new.self } in
+    let enters = entered s x c.apply.new.self c.args.actor c.args.action.now e c.first_slot-first.result c.mode_of-before.result can
+    c.in_ok-entry.ensures.step carries c.apply.ensures.cpus c.first_slot-first.ensures c.mode_of-before.ensures c.note_tables.ensures
+    refl refl refl refl c.reserve.ensures.items (omega (arith, room)) in
     grown_by_one s x c.mode_of-before.result e can.told can.told c.take_in.new.self c.args.actor can.spare
     (record {
-      enters = entered s x c.apply.new.self c.args.actor c.args.action.now e c.mode_of-before.result can c.in_ok-entry.ensures.step
-          carries c.apply.ensures.cpus c.mode_of-before.ensures c.note_tables.ensures refl refl refl refl
-          c.reserve.ensures.items (omega (arith, room));
+      enters = enters;
       book = c.take_in.ensures.book;
       stands = c.take_in.ensures.stands;
       job = ap (λ (x : Course). x.job) c.take_in.ensures.others;
       kept = c.take_in.ensures.kept;
       room = c.take_in.ensures.room;
     })
+    (first_behind s can.told can.spare e can.keeps enters.made.next.age)
     (subst (λ n. n ≤ can.spare) (sym c.take_in.ensures.places) can.keeps.places)
     (subst (λ k. KeepsArrays s.job k (e ∷ past_of s)) (sym (ap (λ (d : Driver). d.slots) c.take_in.ensures.driver)) noted.arrays)
     (ends_told (past_of s) e quiet can.keeps.ends)

@@ -1,6 +1,6 @@
 use Rattle.std.proofs.Common.{length, sym, ap, ◌∙◌}
 use Rattle.std.proofs.lemmas.List.{length-map}
-use Rattle.reclaim_worker.specs.inner.Standing.{is_kicked}
+use Rattle.reclaim_pass.specs.inner.Viewed.{is_kicked}
 use Rattle.run_steps.proofs.FreshLaws.{made_same}
 use Rattle.run_turns.proofs.FirstLaws.{course_first}
 use Rattle.run_turns.proofs.course.Course.new.Goals as goal
@@ -20,11 +20,10 @@ returns-clause-keeps c told spare none =
       };
       driver = c.in_ok-driver.ensures;
       turns = c.in_ok-turns.ensures;
-      taken = c.in_ok-pass.ensures.taken;
-      phase = c.in_ok-pass.ensures.phase;
+      pass = c.in_ok-pass.ensures;
       entries = c.in_ok-entries.ensures;
     })
     none
 
 pub returns-clause-kicks : goal.returns-clause-kicks
-returns-clause-kicks c = ap is_kicked c.in_ok-pass.ensures.phase
+returns-clause-kicks c = ap is_kicked c.in_ok-pass.ensures

@@ -1,5 +1,5 @@
 use Rattle.std.proofs.Common.{sym, ◌∙◌}
-use Rattle.reclaim_worker.specs.inner.Standing.{is_kicked}
+use Rattle.reclaim_pass.specs.inner.Viewed.{is_kicked}
 use Rattle.run_turns.specs.inner.Courses.{past_of}
 use Rattle.run_turns.proofs.KeepLaws.{same_self}
 use Rattle.run_turns.proofs.StartLaws.{finished_due}
@@ -8,7 +8,7 @@ use Rattle.run_turns.proofs.course.Course.reclaim_turn.Goals as goal
 pub returns-then-all_finished-clause-turn : goal.returns-then-all_finished-clause-turn
 returns-then-all_finished-clause-turn g c =
     let self = c.args.self.now in (
-      finished_due self.job.start_epoch self.job (past_of self) self.pass.taken.items self.pass.phase (is_kicked self.pass.phase)
+      finished_due self.job.start_epoch self.job (past_of self) self.pass (is_kicked self.pass)
           c.requires.stands c.requires.book.age (sym c.is_sealing.ensures ∙ c.if-is_sealing.false)
           (sym c.requires.book.turns.spent ∙ c.if-self.false) (sym c.all_finished.ensures ∙ c.if-all_finished.true),
       same_self self,

@@ -1,49 +1,61 @@
-use Rattle.std.proofs.Common.{◌≡◌, ◌*◌, ◌<◌, ◌≤◌, ◌∙◌, ◌∷◌, ◌++◌, [], List, length, vec_capacity, false}
-use Rattle.std.proofs.Common.{ap, arith}
+use Rattle.std.proofs.Common.{◌≡◌, ◌+◌, List, length, ap, subst, sym, false, arith}
+use Rattle.std.specs.List.{All}
 use Rattle.std.proofs.lemmas.List.{length_push}
-use Rattle.sgx_types.specs.declared.names.Frame.{Frame}
-use Rattle.slot_keeper.specs.inner.Keeper.{Keeper, is_added}
-use Rattle.slot_keeper.specs.inner.Keys.{is_taken, Frees, is_frame}
-use Rattle.slot_keeper.specs.inner.KeeperKept.{same_frame}
-use Rattle.std.specs.List.{IsDistinct}
-use Rattle.slot_keeper.proofs.KeeperLaws.{adds, distinct_push}
+use Rattle.std.proofs.lemmas.List.Elements.{All-push}
+use Rattle.slot_keeper.specs.inner.Keeper.{ArrayView, is_added, IsArray, Keeper}
+use Rattle.slot_keeper.specs.inner.KeeperKept.{AreApart, keeper_of}
+use Rattle.slot_keeper.proofs.ArrayLaws.{array_from}
+use Rattle.slot_keeper.proofs.KeeperLaws.{adds}
+use Rattle.slot_keeper.proofs.WriteLaws.{all_but_last, apart_more, with_arrays}
 use Rattle.slot_keeper.proofs.keeper.SlotKeeper.add.Goals as goal
+
+fresh : (c : goal.After-push_reserved) → is_added (keeper_of c.self.inside) c.args.va ≡ false
+fresh c = rw (← c.self.view_is) at c.requires.fresh
+
+fits : (c : goal.After-push_reserved) → IsArray c.new.result
+fits c = array_from c.new.result c.args.first c.requires.within c.new.ensures.first c.new.ensures.free c.new.ensures.counted
+    c.new.ensures.sized
 
 pub invariant_of-self : goal.invariant_of-self
 invariant_of-self c =
-    let frames : List Frame = c.self.inside.frames.items in
-    let is = c.self.invariant in
-    let fresh : is_frame frames c.args.f.0 ≡ false = ap (λ (k : Keeper). is_added k c.args.f.0) c.self.view_is ∙ c.requires.fresh in
-    let distinct : IsDistinct same_frame (frames ++ c.args.f ∷ []) = distinct_push frames c.args.f is.distinct fresh in
-    let first : c.from.result * c.len.result ≡ 512 * length frames = ap (λ n. n * c.len.result) c.from.ensures
-    ∙ ap (λ n. 512 * n) (c.len.ensures ∙ c.self.inside.frames.ok.0) in
-    let frees : Frees c.self.inside.slots (512 * length frames) 512 c.free_page.new.slots = rw first at c.free_page.ensures in
-    let items = c.push_reserved.ensures.items in
-    let capacity = c.push_reserved.ensures.capacity in
-    let low : length frames < vec_capacity c.self.inside.frames = omega
-    (arith, ap (λ (k : Keeper). length k.frames) c.self.view_is, ap (λ (k : Keeper). k.room) c.self.view_is, c.requires.room) in
+    let xs : List ArrayView = c.self.inside.arrays.items in
+    let p = c.push_reserved.ensures in
     record {
-      distinct = rw items distinct;
-      few = rw capacity is.few;
-      fits = rw (items, capacity) (omega (arith, length_push frames c.args.f));
-      room = rw (capacity, frees.capacity) is.room;
-      counted = frees.counted;
-      later = λ k from below.
-          let past : 512 * length (frames ++ c.args.f ∷ []) ≤ k = rw items at from in
-          frees.behind k (omega (arith, length_push frames c.args.f))
-          ∙ is.later k (omega (arith, length_push frames c.args.f)) (rw frees.capacity at below);
+      apart = subst AreApart (sym p.items) (apart_more xs c.args.va c.new.result c.self.invariant.apart c.new.ensures.va (fresh c));
+      arrays = subst (All IsArray) (sym p.items) (All-push IsArray xs c.new.result c.self.invariant.arrays (fits c));
+      maps = all_but_last c.self.inside.maps.items c.pop.new.self.items c.in-Some.all c.in-Some.ensures.items c.self.invariant.maps;
+      fits = omega (
+        arith,
+        ap length p.items,
+        length_push xs c.new.result,
+        p.capacity,
+        ap length c.in-Some.ensures.items,
+        length_push c.pop.new.self.items c.in-Some.all,
+        c.self.invariant.fits,
+      );
     }
 
 pub returns : goal.returns
 returns c =
-    let frames : List Frame = c.self.inside.frames.items in
-    let is = c.self.invariant in
-    let fresh : is_frame frames c.args.f.0 ≡ false = ap (λ (k : Keeper). is_added k c.args.f.0) c.self.view_is ∙ c.requires.fresh in
-    let distinct : IsDistinct same_frame (frames ++ c.args.f ∷ []) = distinct_push frames c.args.f is.distinct fresh in
-    let first : c.from.result * c.len.result ≡ 512 * length frames = ap (λ n. n * c.len.result) c.from.ensures
-    ∙ ap (λ n. 512 * n) (c.len.ensures ∙ c.self.inside.frames.ok.0) in
-    let frees : Frees c.self.inside.slots (512 * length frames) 512 c.free_page.new.slots = rw first at c.free_page.ensures in
-    rw (← c.self.view_is, c.push_reserved.ensures.items, c.push_reserved.ensures.capacity)
-    (adds frames c.args.f (is_taken c.self.inside.slots) (is_taken c.free_page.new.slots)
-    (vec_capacity c.self.inside.frames) is.distinct distinct fresh
-    (record { free = frees.free; before = frees.before }))
+    let xs : List ArrayView = c.self.inside.arrays.items in
+    let p = c.push_reserved.ensures in
+    let old : Keeper = keeper_of c.self.inside in
+    let new : Keeper = with_arrays c.push_reserved.new.self.items (length c.push_reserved.new.self.items + length c.pop.new.self.items) in
+    rw (← c.self.view_is)
+    (adds old new c.args.va c.args.first c.new.result (record {
+      arrays = c.self.invariant.arrays;
+      fresh = fresh c;
+      written = p.items;
+      room = omega (
+        arith,
+        ap length p.items,
+        length_push xs c.new.result,
+        ap length c.in-Some.ensures.items,
+        length_push c.pop.new.self.items c.in-Some.all,
+      );
+      va_is = c.new.ensures.va;
+      first_is = c.new.ensures.first;
+      fits = fits c;
+      free = c.new.ensures.free;
+      counted = c.new.ensures.counted;
+    }))

@@ -1,81 +1,70 @@
-use Rattle.std.proofs.Common.{◌≡◌, ℕ, ◌+◌, ◌*◌, ◌<◌, ◌∙◌, List, length, get_or, vec_capacity, Bool, true, sym, ap}
-use Rattle.std.proofs.Common.{subst, arith}
-use Rattle.sgx_types.specs.declared.names.Frame.{Frame}
-use Rattle.sgx_types.specs.declared.names.SlotAt.{SlotAt}
-use Rattle.slot_keeper.specs.inner.Keeper.{Keeper, is_out, Gives}
-use Rattle.slot_keeper.specs.inner.Keys.{is_taken}
-use Rattle.slot_keeper.specs.inner.KeeperKept.{keeper_of}
-use Rattle.slot_keeper.proofs.SlabLaws.{freed_one, counted_freed, still_taken}
-use Rattle.slot_keeper.proofs.KeeperLaws.{keeper_with, gives, OutKey, out_key, out_is_frame}
+use Rattle.std.proofs.Common.{◌≡◌, ◌∙◌, ◌<◌, ◌+◌, ℕ, subst, sym, refl, List, length, set, false, true, arith, get_or, Some}
+use Rattle.std.specs.List.{All, find}
+use Rattle.std.proofs.lemmas.List.{length-set}
+use Rattle.slot_keeper.specs.inner.Keeper.{ArrayView, Gives, is_free_at, is_in, is_of, is_out, IsArray, va_slot}
+use Rattle.slot_keeper.specs.inner.KeeperKept.{AreApart, keeper_of}
+use Rattle.slot_keeper.proofs.ArrayLaws.{gives_array}
+use Rattle.slot_keeper.proofs.KeeperLaws.{gives}
+use Rattle.slot_keeper.proofs.WriteLaws.{apart_still, arrays_still, fits_there, found_is, in_from, in_low, IsFound, IsPlace}
+use Rattle.slot_keeper.proofs.WriteLaws.{mark_out, out_parts, out_there, with_arrays, written_is}
 use Rattle.slot_keeper.proofs.keeper.SlotKeeper.give.Goals as goal
 
-pub page_in-page-requires : goal.page_in-page-requires
-page_in-page-requires c =
-    let out : is_out (keeper_of c.self.inside) c.args.at ≡ true = ap (λ (k : Keeper). is_out k c.args.at) c.self.view_is ∙ c.requires in
-    rw c.deref.ensures.value (out_is_frame (keeper_of c.self.inside) c.args.at out)
+found : (c : goal.After-self-1) → IsFound c.index_mut.result.now c.args.at.va c.args.at.index
+found c =
+    let out : is_out (keeper_of c.self.inside) c.args.at ≡ true = rw (← c.self.view_is) at c.requires in
+    let parts = out_parts (find (is_of c.args.at.va) c.self.inside.arrays.items) c.args.at.index out in
+    found_is c.self.inside.arrays.items c.args.at.va c.args.at.index c.place_of-place.result c.index_mut.result.now
+    (subst (λ xs. (d : ArrayView) → find (is_of c.args.at.va) xs ≡ Some (get_or xs c.place_of-place.result d)) c.deref.ensures.value
+    c.place_of-place.ensures.there) c.index_mut.ensures.value parts
 
-pub remove-requires : goal.remove-requires
-remove-requires c =
-    let frames : List Frame = c.self.inside.frames.items in
-    let taken : ℕ → Bool = is_taken c.self.inside.slots in
-    let room : ℕ = vec_capacity c.self.inside.frames in
-    let page : ℕ = c.page_in-page.result in
-    let is = c.self.invariant in
-    let out : is_out (keeper_of c.self.inside) c.args.at ≡ true = ap (λ (k : Keeper). is_out k c.args.at) c.self.view_is ∙ c.requires in
-    let within : page < length frames = rw c.deref.ensures.value at c.page_in-page.ensures.within in
-    let there : get_or frames page c.args.at.frame ≡ c.args.at.frame = rw c.deref.ensures.value at c.page_in-page.ensures.there in
-    let key : ℕ = c.from.result * page + c.from-2.result in
-    let is_key : key ≡ 512 * page + c.args.at.index = ap (λ n. n * page + c.from-2.result) c.from.ensures
-    ∙ ap (λ n. 512 * page + n) c.from-2.ensures in
-    let at : OutKey frames taken c.args.at key = subst (OutKey frames taken c.args.at) (sym is_key)
-    (out_key frames taken room page c.args.at is.distinct out within there) in
-    at.out
+mark : (c : goal.After-self-1) → is_free_at c.index_mut.result.now c.args.at.index ≡ false
+mark c =
+    let out : is_out (keeper_of c.self.inside) c.args.at ≡ true = rw (← c.self.view_is) at c.requires in
+    mark_out (is_in c.index_mut.result.now c.args.at.index) (is_free_at c.index_mut.result.now c.args.at.index)
+    (sym (out_there c.self.inside.arrays.items c.args.at.va c.args.at.index c.place_of-place.result c.index_mut.result.now
+    (subst (λ xs. (d : ArrayView) → find (is_of c.args.at.va) xs ≡ Some (get_or xs c.place_of-place.result d)) c.deref.ensures.value
+    c.place_of-place.ensures.there) c.index_mut.ensures.value) ∙ out)
+
+-- the page of the slot
+there : (c : goal.After-self-1) → IsPlace c.self.inside.arrays.items c.place_of-place.result c.index_mut.result.now
+there c = record {
+  apart = c.self.invariant.apart;
+  arrays = c.self.invariant.arrays;
+  low = subst (λ xs. c.place_of-place.result < length xs) c.deref.ensures.value c.place_of-place.ensures.within;
+  is = c.index_mut.ensures.value;
+}
+
+abbrev page : (c : goal.After-self-1) → ArrayView
+page c = c.index_mut.result.now
+
+abbrev behind : (c : goal.After-self-1) → ArrayView
+behind c = record (page c) { free = set (page c).free c.args.at.index true }
+
+fits : (c : goal.After-self-1) → IsArray (behind c)
+fits c = gives_array (page c) c.args.at.index (fits_there c.self.inside.arrays.items c.place_of-place.result (page c) (there c))
+    (in_low (page c) c.args.at.index (found c).within) (in_from (page c) c.args.at.index (found c).within)
 
 pub invariant_of-self : goal.invariant_of-self
-invariant_of-self c =
-    let frames : List Frame = c.self.inside.frames.items in
-    let taken : ℕ → Bool = is_taken c.self.inside.slots in
-    let room : ℕ = vec_capacity c.self.inside.frames in
-    let page : ℕ = c.page_in-page.result in
-    let is = c.self.invariant in
-    let out : is_out (keeper_of c.self.inside) c.args.at ≡ true = ap (λ (k : Keeper). is_out k c.args.at) c.self.view_is ∙ c.requires in
-    let within : page < length frames = rw c.deref.ensures.value at c.page_in-page.ensures.within in
-    let there : get_or frames page c.args.at.frame ≡ c.args.at.frame = rw c.deref.ensures.value at c.page_in-page.ensures.there in
-    let key : ℕ = c.from.result * page + c.from-2.result in
-    let is_key : key ≡ 512 * page + c.args.at.index = ap (λ n. n * page + c.from-2.result) c.from.ensures
-    ∙ ap (λ n. 512 * page + n) c.from-2.ensures in
-    let at : OutKey frames taken c.args.at key = subst (OutKey frames taken c.args.at) (sym is_key)
-    (out_key frames taken room page c.args.at is.distinct out within there) in
-    let e = c.remove.ensures in
-    let one = freed_one c.self.inside.slots c.remove.new.self key at.out e.updates in
-    record {
-      distinct = is.distinct;
-      few = is.few;
-      fits = is.fits;
-      room = rw e.capacity is.room;
-      counted = counted_freed c.self.inside.slots c.remove.new.self key is.counted
-          (omega (arith, at.low, is.fits, is.room)) one e.len e.capacity;
-      later = λ k from below. still_taken c.self.inside.slots c.remove.new.self key k one (λ same. omega (arith, same, at.low, from))
-          (is.later k from (rw e.capacity at below));
-    }
+invariant_of-self c = record {
+  apart = subst (λ y. AreApart (set c.self.inside.arrays.items c.place_of-place.result y)) (sym c.give.ensures)
+      (apart_still c.self.inside.arrays.items c.place_of-place.result (page c) (behind c) (there c) refl);
+  arrays = subst (λ y. All IsArray (set c.self.inside.arrays.items c.place_of-place.result y)) (sym c.give.ensures)
+      (arrays_still c.self.inside.arrays.items c.place_of-place.result (page c) (behind c) (there c) refl refl (fits c));
+  maps = c.self.invariant.maps;
+  fits = omega (arith, length-set c.self.inside.arrays.items c.place_of-place.result c.give.new.self, c.self.invariant.fits);
+}
 
 pub returns : goal.returns
 returns c =
-    let frames : List Frame = c.self.inside.frames.items in
-    let taken : ℕ → Bool = is_taken c.self.inside.slots in
-    let room : ℕ = vec_capacity c.self.inside.frames in
-    let page : ℕ = c.page_in-page.result in
-    let is = c.self.invariant in
-    let out : is_out (keeper_of c.self.inside) c.args.at ≡ true = ap (λ (k : Keeper). is_out k c.args.at) c.self.view_is ∙ c.requires in
-    let within : page < length frames = rw c.deref.ensures.value at c.page_in-page.ensures.within in
-    let there : get_or frames page c.args.at.frame ≡ c.args.at.frame = rw c.deref.ensures.value at c.page_in-page.ensures.there in
-    let key : ℕ = c.from.result * page + c.from-2.result in
-    let is_key : key ≡ 512 * page + c.args.at.index = ap (λ n. n * page + c.from-2.result) c.from.ensures
-    ∙ ap (λ n. 512 * page + n) c.from-2.ensures in
-    let at : OutKey frames taken c.args.at key = subst (OutKey frames taken c.args.at) (sym is_key)
-    (out_key frames taken room page c.args.at is.distinct out within there) in
-    let e = c.remove.ensures in
-    let one = freed_one c.self.inside.slots c.remove.new.self key at.out e.updates in
+    let xs : List ArrayView = c.self.inside.arrays.items in
+    let k : ℕ = c.place_of-place.result in
+    let maps : ℕ = length c.self.inside.maps.items in
+    let written = gives (with_arrays xs (length xs + maps)) (with_arrays (set xs k (behind c)) (length (set xs k (behind c)) + maps)) k
+    c.args.at.index (page c)
+    (fits_there xs k (page c) (there c)) (found c).within (mark c)
+    (written_is xs maps k (page c) (behind c) (there c) refl refl (fits c)) in
     rw (← c.self.view_is)
-    (subst (λ (s : SlotAt). Gives (keeper_with frames taken room) s (keeper_with frames (is_taken c.remove.new.self) room)) at.is
-    (gives frames taken (is_taken c.remove.new.self) room key is.distinct at.low one))
+    (subst (λ (y : ArrayView). Gives (keeper_of c.self.inside) c.args.at
+    (with_arrays (set xs k y) (length (set xs k y) + maps))) (sym c.give.ensures)
+    (subst (λ n. Gives (keeper_of c.self.inside) (va_slot n c.args.at.index)
+    (with_arrays (set xs k (behind c)) (length (set xs k (behind c)) + maps))) (found c).number written))

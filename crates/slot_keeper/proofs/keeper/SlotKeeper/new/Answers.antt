@@ -1,18 +1,17 @@
-use Rattle.std.proofs.Common.{◌≡◌, ◌*◌, ◌≤◌, [], length, ap, arith}
-use Rattle.slot_keeper.proofs.SlabLaws.{full_taken}
-use Rattle.slot_keeper.proofs.KeeperLaws.{no_frames_distinct}
+use Rattle.std.proofs.Common.{◌∙◌, ◌+◌, ap, subst, sym, true, replicate, length}
+use Rattle.std.proofs.lemmas.List.{length_push}
+use Rattle.std.specs.List.{All}
+use Rattle.std.proofs.lemmas.List.Elements.{All-push}
+use Rattle.slot_keeper.specs.inner.KeeperKept.{IsAllFree}
+use Rattle.slot_keeper.proofs.ArrayLaws.{all_is}
 use Rattle.slot_keeper.proofs.keeper.SlotKeeper.new.Goals as goal
 
-pub invariant_of-result : goal.invariant_of-result
-invariant_of-result c =
-    let none : c.in_ok-frames.frames.items ≡ [] = c.in_ok-frames.ensures.items in
-    let low : 512 * c.args.pages ≤ c.in_ok-slots.slots.capacity = rw c.from.ensures at c.in_ok-slots.ensures.capacity in
-    let filled = c.take_all.ensures in
+pub loop-preserved : goal.loop-preserved
+loop-preserved c =
+    let p = c.push_reserved.ensures in
+    let all : IsAllFree c.in_ok-full.field-0 = c.in_ok-full.ensures ∙ ap (λ n. replicate n true) c.from.ensures ∙ all_is in
     record {
-      distinct = no_frames_distinct c.in_ok-frames.frames.items none;
-      few = omega (arith, c.in_ok-frames.ensures.exact);
-      fits = omega (arith, ap length none);
-      room = omega (arith, c.in_ok-frames.ensures.exact, filled.capacity, low);
-      counted = filled.counted;
-      later = λ k from low. full_taken c.take_all.new.slots filled.counted filled.full k low;
+      maps = subst (All IsAllFree) (sym p.items) (All-push IsAllFree c.loop.maps.items c.in_ok-full.field-0 c.loop.invariant.maps all);
+      count = ap length p.items ∙ length_push c.loop.maps.items c.in_ok-full.field-0 ∙ ap (λ n. n + 1) c.loop.invariant.count;
+      room = p.capacity ∙ c.loop.invariant.room;
     }

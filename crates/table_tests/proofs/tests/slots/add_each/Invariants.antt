@@ -4,7 +4,7 @@ use Rattle.table_tests.proofs.tests.slots.add_each.Given as goal
 
 abbrev pub invariant-loop-number : goal.invariant-loop-number
 invariant-loop-number l = record {
-  counted : length l.keeper.frames ≡ l.number;
-  room : l.keeper.room ≡ 64;
-  fresh : (frame : ℕ) → l.number ≤ frame → is_added l.keeper frame ≡ false;
+  counted : length l.keeper.arrays ≡ l.number;
+  room : l.keeper.room ≡ 9;
+  fresh : (va : ℕ) → l.number ≤ va → is_added l.keeper va ≡ false;
 }

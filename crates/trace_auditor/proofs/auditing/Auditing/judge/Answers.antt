@@ -1,6 +1,6 @@
 use Rattle.std.proofs.Common.{◌∙◌, sym}
 use Rattle.trace_auditor.proofs.JudgeLaws.{age_broken, among, answered_by, asked_by, broken_judged, can_ask, can_follow, judged}
-use Rattle.trace_auditor.proofs.JudgeLaws.{kick_broken, ready, script_broken, script_kept}
+use Rattle.trace_auditor.proofs.JudgeLaws.{can_be, kick_broken, ready, script_broken, script_kept, seen, still_ended}
 use Rattle.trace_auditor.proofs.auditing.Auditing.judge.Goals as goal
 
 pub keeps_script-requires : goal.keeps_script-requires
@@ -21,7 +21,7 @@ pub ask-requires : goal.ask-requires
 ask-requires c =
     can_ask c.args.job.now c.args.self.now c.args.entry.now c.requires
     (script_kept c.args.job.now c.args.self.now c.args.entry.now c.requires c.keeps_script.result c.keeps_script.ensures
-    c.if-not-keeps_script.false) c.note.new.self
+    c.if-not-keeps_script.false) c.note_pass.new.pass
 
 pub returns-then-is_some : goal.returns-then-is_some
 returns-then-is_some c = λ at.
@@ -29,8 +29,8 @@ returns-then-is_some c = λ at.
     let a = c.args.self.now in
     let e = c.args.entry.now in
     let script = script_kept j a e at c.keeps_script.result c.keeps_script.ensures c.if-not-keeps_script.false in
-    broken_judged j a e at script c.note.new.self c.ask.new.self c.in_ok-broken.broken (sym c.is_some.ensures ∙ c.if-is_some.true)
-    (answered_by j a e at script c.note.new.self c.ask.new.self c.in_ok-broken.broken c.in_ok-broken.ensures.answer))
+    broken_judged j a e at script c.note_pass.new.pass c.ask.new.self c.in_ok-broken.broken (sym c.is_some.ensures ∙ c.if-is_some.true)
+    (answered_by j a e at script c.note_pass.new.pass c.ask.new.self c.in_ok-broken.broken c.in_ok-broken.ensures.answer))
 
 pub returns-then-not-keeps_age : goal.returns-then-not-keeps_age
 returns-then-not-keeps_age c = λ at.
@@ -38,9 +38,10 @@ returns-then-not-keeps_age c = λ at.
     let a = c.args.self.now in
     let e = c.args.entry.now in
     let script = script_kept j a e at c.keeps_script.result c.keeps_script.ensures c.if-not-keeps_script.false in
-    let asked = asked_by j a e at script c.note.new.self c.ask.new.self c.in_ok-broken.broken (sym c.is_some.ensures ∙ c.if-is_some.false)
-    (answered_by j a e at script c.note.new.self c.ask.new.self c.in_ok-broken.broken c.in_ok-broken.ensures.answer) in
-    age_broken j a e at script c.note.new.self c.ask.new.self asked c.keeps_age-keeps_age.result c.keeps_age-keeps_age.ensures
+    let asked = asked_by j a e at script c.note_pass.new.pass c.ask.new.self c.in_ok-broken.broken
+    (sym c.is_some.ensures ∙ c.if-is_some.false)
+    (answered_by j a e at script c.note_pass.new.pass c.ask.new.self c.in_ok-broken.broken c.in_ok-broken.ensures.answer) in
+    age_broken j a e at script c.note_pass.new.pass c.ask.new.self asked c.keeps_age-keeps_age.result c.keeps_age-keeps_age.ensures
     c.if-not-keeps_age.true)
 
 pub returns-then-not-keeps_kick : goal.returns-then-not-keeps_kick
@@ -49,9 +50,10 @@ returns-then-not-keeps_kick c = λ at.
     let a = c.args.self.now in
     let e = c.args.entry.now in
     let script = script_kept j a e at c.keeps_script.result c.keeps_script.ensures c.if-not-keeps_script.false in
-    let asked = asked_by j a e at script c.note.new.self c.ask.new.self c.in_ok-broken.broken (sym c.is_some.ensures ∙ c.if-is_some.false)
-    (answered_by j a e at script c.note.new.self c.ask.new.self c.in_ok-broken.broken c.in_ok-broken.ensures.answer) in
-    kick_broken j a e at script c.note.new.self c.ask.new.self asked c.keeps_age-keeps_age.result c.keeps_age-keeps_age.ensures
+    let asked = asked_by j a e at script c.note_pass.new.pass c.ask.new.self c.in_ok-broken.broken
+    (sym c.is_some.ensures ∙ c.if-is_some.false)
+    (answered_by j a e at script c.note_pass.new.pass c.ask.new.self c.in_ok-broken.broken c.in_ok-broken.ensures.answer) in
+    kick_broken j a e at script c.note_pass.new.pass c.ask.new.self asked c.keeps_age-keeps_age.result c.keeps_age-keeps_age.ensures
     c.if-not-keeps_age.false c.keeps_kick-keeps_kick.result c.keeps_kick-keeps_kick.ensures c.if-not-keeps_kick.true)
 
 pub follow-requires : goal.follow-requires
@@ -61,12 +63,15 @@ follow-requires c =
     let e = c.args.entry.now in
     let at = c.requires in
     let script = script_kept j a e at c.keeps_script.result c.keeps_script.ensures c.if-not-keeps_script.false in
-    let asked = asked_by j a e at script c.note.new.self c.ask.new.self c.in_ok-broken.broken (sym c.is_some.ensures ∙ c.if-is_some.false)
-    (answered_by j a e at script c.note.new.self c.ask.new.self c.in_ok-broken.broken c.in_ok-broken.ensures.answer) in
-    can_follow j a e at script c.note.new.self c.ask.new.self asked c.keeps_age-keeps_age.result c.keeps_age-keeps_age.ensures
+    let asked = asked_by j a e at script c.note_pass.new.pass c.ask.new.self c.in_ok-broken.broken
+    (sym c.is_some.ensures ∙ c.if-is_some.false)
+    (answered_by j a e at script c.note_pass.new.pass c.ask.new.self c.in_ok-broken.broken c.in_ok-broken.ensures.answer) in
+    can_follow j a e at script c.note_pass.new.pass c.ask.new.self asked c.keeps_age-keeps_age.result c.keeps_age-keeps_age.ensures
     c.if-not-keeps_age.false c.keeps_kick-keeps_kick.result c.keeps_kick-keeps_kick.ensures c.if-not-keeps_kick.false
-    c.mode_of-before.result
-    c.start_ended-start.result c.mode_of-before.ensures c.start_ended-start.ensures c.note.ensures c.in_ok-broken.ensures.others
+    c.mode_of-before.result c.start_begun-start.result c.mode_of-before.ensures
+    (still_ended e.event c.start_ended-ended.result c.start_begun-start.result a.machine c.start_ended-ended.ensures
+    c.start_begun-start.ensures.others)
+    c.start_begun-start.ensures.begun c.note_pass.ensures c.in_ok-broken.ensures.others
 
 pub returns : goal.returns
 returns c = λ at.
@@ -74,10 +79,27 @@ returns c = λ at.
     let a = c.args.self.now in
     let e = c.args.entry.now in
     let script = script_kept j a e at c.keeps_script.result c.keeps_script.ensures c.if-not-keeps_script.false in
-    let asked = asked_by j a e at script c.note.new.self c.ask.new.self c.in_ok-broken.broken (sym c.is_some.ensures ∙ c.if-is_some.false)
-    (answered_by j a e at script c.note.new.self c.ask.new.self c.in_ok-broken.broken c.in_ok-broken.ensures.answer) in
-    judged j a e at script c.note.new.self c.ask.new.self asked c.keeps_age-keeps_age.result c.keeps_age-keeps_age.ensures
+    let asked = asked_by j a e at script c.note_pass.new.pass c.ask.new.self c.in_ok-broken.broken
+    (sym c.is_some.ensures ∙ c.if-is_some.false)
+    (answered_by j a e at script c.note_pass.new.pass c.ask.new.self c.in_ok-broken.broken c.in_ok-broken.ensures.answer) in
+    judged j a e at script c.note_pass.new.pass c.ask.new.self asked c.keeps_age-keeps_age.result c.keeps_age-keeps_age.ensures
     c.if-not-keeps_age.false c.keeps_kick-keeps_kick.result c.keeps_kick-keeps_kick.ensures c.if-not-keeps_kick.false
-    c.mode_of-before.result
-    c.start_ended-start.result c.mode_of-before.ensures c.start_ended-start.ensures c.note.ensures c.in_ok-broken.ensures.others
+    c.mode_of-before.result c.start_begun-start.result c.mode_of-before.ensures
+    (still_ended e.event c.start_ended-ended.result c.start_begun-start.result a.machine c.start_ended-ended.ensures
+    c.start_begun-start.ensures.others)
+    c.start_begun-start.ensures.begun c.note_pass.ensures c.in_ok-broken.ensures.others
     c.follow.new.self c.follow.ensures)
+
+pub keeps_age-keeps_age-requires : goal.keeps_age-keeps_age-requires
+keeps_age-keeps_age-requires c = record {
+  can =
+      can_be c.args.job.now c.args.self.now c.args.entry.now c.requires
+      (script_kept c.args.job.now c.args.self.now c.args.entry.now c.requires c.keeps_script.result c.keeps_script.ensures
+      c.if-not-keeps_script.false);
+}
+
+pub note_pass-requires : goal.note_pass-requires
+note_pass-requires c =
+    seen c.args.job.now c.args.self.now c.args.entry.now c.requires
+    (script_kept c.args.job.now c.args.self.now c.args.entry.now c.requires c.keeps_script.result c.keeps_script.ensures
+    c.if-not-keeps_script.false) c.keeps_age-keeps_age.result c.keeps_age-keeps_age.ensures

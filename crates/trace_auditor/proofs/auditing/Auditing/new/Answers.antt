@@ -1,5 +1,7 @@
-use Rattle.std.proofs.Common.{length, sym, ap, ◌∙◌}
+use Rattle.std.proofs.Common.{length, sym, ap, subst, ◌∙◌, []}
 use Rattle.std.proofs.lemmas.List.{length-map}
+use Rattle.reclaim_pass.specs.inner.Standing.{StandsAt}
+use Rattle.reclaim_pass.proofs.GoLaws.{first_stands}
 use Rattle.run_steps.proofs.FreshLaws.{made_same}
 use Rattle.trace_auditor.proofs.NewLaws.{keeps_first}
 use Rattle.trace_auditor.proofs.auditing.Auditing.new.Goals as goal
@@ -15,4 +17,5 @@ returns c =
       shape = c.in_ok-machine.ensures.shape;
       history = c.in_ok-machine.ensures.history;
     })
-    c.in_ok-driver.ensures c.in_ok-turns.ensures (c.in_ok-pass.ensures c.args.job.now.start_epoch c.args.job.now)
+    c.in_ok-driver.ensures c.in_ok-turns.ensures (subst (StandsAt c.args.job.now.start_epoch c.args.job.now []) (sym c.in_ok-pass.ensures)
+    (first_stands c.args.job.now.start_epoch c.args.job.now))

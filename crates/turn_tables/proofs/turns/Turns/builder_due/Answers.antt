@@ -9,10 +9,10 @@ builder_due_by-requires-clause-cursor c = c.requires.shows.within
 
 pub builder_due_by-requires-clause-places : goal.builder_due_by-requires-clause-places
 builder_due_by-requires-clause-places c =
-    let r = c.requires in places_same r.made c.args.job.now r.past c.args.driver.now c.args.machine.now c.args.self.now r.agrees r.shows
+    let r = c.requires in places_same r.keeping c.args.job.now r.past c.args.driver.now c.args.machine.now c.args.self.now r.shown r.shows
 
 pub returns : goal.returns
-returns c = λ made past a o s.
+returns c = λ k past a o s.
     ap building_in c.builder_due_by.ensures.answer
-    ∙ builder_is made c.args.job.now past c.args.driver.now c.args.machine.now c.args.self.now c.builder_due_by.ensures.free
+    ∙ builder_is k c.args.job.now past c.args.driver.now c.args.machine.now c.args.self.now c.builder_due_by.ensures.free
     c.builder_due_by.ensures.least a o s

@@ -10,9 +10,9 @@ cpu_due_by-requires-clause-cursor c = c.requires.ready.shows.within
 pub cpu_due_by-requires-clause-can : goal.cpu_due_by-requires-clause-can
 cpu_due_by-requires-clause-can c =
     let r = c.requires.ready in
-    can_ask r.made c.args.job.now r.past c.args.driver.now c.args.machine.now c.args.self.now r.agrees r.shows c.args.cpu.0 c.requires.cpu
+    can_ask r.keeping c.args.job.now r.past c.args.driver.now c.args.machine.now c.args.self.now r.shown r.shows c.args.cpu.0 c.requires.cpu
 
 pub returns : goal.returns
-returns c = λ made past a o s.
+returns c = λ k past a o s.
     ap (due_in c.args.job.now past) c.cpu_due_by.ensures
-    ∙ cpu_is made c.args.job.now past c.args.driver.now c.args.machine.now c.args.self.now c.args.cpu.0 c.requires.cpu a o s
+    ∙ cpu_is k c.args.job.now past c.args.driver.now c.args.machine.now c.args.self.now c.args.cpu.0 c.requires.cpu a o s

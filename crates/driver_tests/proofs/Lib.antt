@@ -1,3 +1,0 @@
-pub mod StayLaws
-pub mod TurnLaws
-pub mod LoadLaws

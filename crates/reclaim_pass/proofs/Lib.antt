@@ -1,0 +1,9 @@
+pub mod DueLaws
+pub mod FrameLaws
+pub mod GoLaws
+pub mod KeeperLaws
+pub mod KeptLaws
+pub mod LeastLaws
+pub mod ListLaws
+pub mod LookLaws
+pub mod NoteLaws
