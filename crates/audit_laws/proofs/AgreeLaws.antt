@@ -6,8 +6,8 @@ use Rattle.sgx_types.specs.declared.names.Page.{Page}
 use Rattle.sgx_types.specs.declared.names.VaSlot.{VaSlot}
 use Rattle.sgx_types.specs.Making.{Making}
 use Rattle.sgx_rules.specs.inner.Rules.{KeepsRules}
-use Rattle.sgx_rules.specs.Starts.{Start, is_load_of, open_start}
-use Rattle.sgx_rules.specs.inner.Starts.{LoadsAreApart}
+use Rattle.sgx_rules.specs.Starts.{Start, open_start}
+use Rattle.sgx_rules.specs.inner.Starts.{LoadsAreApart, is_load_of}
 use Rattle.job_grammar.specs.Jobs.{JobView}
 use Rattle.job_grammar.specs.inner.Valid.{AreValidMarks}
 use Rattle.turn_rules.specs.Machines.{machine_of}

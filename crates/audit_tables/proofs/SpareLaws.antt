@@ -24,7 +24,7 @@ use Rattle.turn_rules.specs.Script.{is_initialised}
 use Rattle.slot_keeper.specs.inner.Keeper.{Keeper, is_ours, is_out}
 use Rattle.driver_rules.specs.Ages.{AgeRule, IsAhead, ahead_by}
 use Rattle.driver_rules.specs.Holds.{is_held_below}
-use Rattle.driver_rules.specs.inner.Stops.{last_event}
+use Rattle.driver_rules.specs.Stops.{last_event}
 use Rattle.driver_rules.specs.Passes.{Aside, IsGoing, IsToGo, NoneAside, aside}
 use Rattle.driver_rules.specs.Places.{active, is_here, place}
 use Rattle.driver_rules.specs.Spares.{Outs, array_at, due_behind, due_by, due_with, is_alone, is_full, is_spare, least_from, outs, spare}

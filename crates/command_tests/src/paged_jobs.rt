@@ -1,5 +1,6 @@
-//! Jobs whose pages do not fit into the EPC: 42 pages for 12 frames.
+//! Jobs whose pages do not fit into the EPC: 42 pages for 12 frames, and less.
 
+use crate::audited_traces::RELOAD_JOB;
 use page_commands::status::Status;
 
 /// The first line.
@@ -157,3 +158,31 @@ pub const ENDS: &[(&[u8], Status, &str, &[&str])] = &[
 pub const MANY_ADDS: &[u8] =
     b"epc 16\nenclave A 0x40000 0x40000\ntcs 0 4 1 plain\ntcs 1 5 1 plain\ntcs 2 6 1 plain\ntcs 3 7 1 plain\n\
     reg 4 4 rw 0 plain\nreg 8 40 rw 0 plain\n";
+
+/// Jobs for seven frames, with a page that comes back, a processor that is kicked, a page that the store lost, and versions that are used
+/// up: how each run ends, and the replies.
+pub const SMALL: &[(&[u8], Status, &str)] = &[
+    (
+        RELOAD_JOB,
+        Status::Done,
+        "A init\ncpu 0\ncssa 0\nok\n7\n9\nexit\n",
+    ),
+    (
+        b"epc 7\nmarks 2 3 2\nenclave A 0x10000 0x10000\ntcs 0 1 1 plain\nreg 1 1 rw 0 plain\nreg 2 5 rw 7 plain\ncpu 0\n\
+        eenter A 0\nload 0x2000\nload 0x3000\nload 0x4000\nload 0x5000\nload 0x6000\nload 0x2000\neexit\n",
+        Status::Done,
+        "A init\ncpu 0\ncssa 0\n7\n7\n7\n7\n7\n7\nexit\n",
+    ),
+    (
+        b"epc 7\nenclave A 0x10000 0x10000\ntcs 0 1 1 plain\nreg 1 1 rw 0 plain\nreg 2 6 rw 7 plain\nstore drop A 2 1\n\
+        cpu 0\neenter A 0\nstore 0x2000 9\neexit\n",
+        Status::Bus,
+        "A init\ncpu 0\ncssa 0\nbus\n",
+    ),
+    (
+        b"epc 7\nstart 1 18446744073709551615\nenclave A 0x10000 0x10000\ntcs 0 1 1 plain\nreg 1 1 rw 0 plain\n\
+        reg 2 6 rw 7 plain\ncpu 0\neenter A 0\nload 0x2000\neexit\n",
+        Status::Spent,
+        "cpu 0\n",
+    ),
+];

@@ -3,7 +3,7 @@
 ghost use Rattle.std.specs.Prelude.{◌≤◌};
 
 use crate::calls::{Given, RUN, given_by};
-use crate::paged_jobs::{ENCLAVE, ENDS, EPC, MANY_ADDS, SCRIPT, STARTS, STORES};
+use crate::paged_jobs::{ENCLAVE, ENDS, EPC, MANY_ADDS, SCRIPT, SMALL, STARTS, STORES};
 use crate::worked_runs::{
     FAULTS, FROM_OUTSIDE, MANY_PAGES, MEASURED_APART, OTHER_DIGEST, Run, SAVED_STATE, TIMER,
 };
@@ -188,6 +188,16 @@ fn a_run_is_stopped_where_a_number_is_used_up(rt: HostRuntime) -> Result<(), Fai
 fn nothing_is_seen_from_outside_and_swapped_records_end_both(rt: HostRuntime) -> Result<(), Fail> {
     for (behind, status, replies, told) in ENDS {
         pages(&rt, &[EPC, ENCLAVE, behind], *status, &[*replies], told, 0)?;
+    }
+    Ok(())
+}
+
+#[test]
+fn small_jobs_end_as_told(rt: HostRuntime) -> Result<(), Fail> {
+    for (job, status, replies) in SMALL {
+        let given = of_parts(&rt, &[*job])?;
+        assert_eq!(rt; given.status, *status);
+        assert_eq!(rt; str::from_utf8(&given.out).ok(), Some(*replies));
     }
     Ok(())
 }

@@ -41,7 +41,8 @@ use Rattle.sgx_rules.specs.Rules.{Along, FitsRule, RefusalRule}
 use Rattle.sgx_rules.specs.Sights.{drain_sight_at, row_at, secs_seen, secs_sight_at, sight_at, slot_sight_at, use_sight_at}
 use Rattle.sgx_rules.specs.Slots.{is_busy_at, is_busy_of, next_version, slot_of as slot_of_start, version_at, version_in, version_of}
 use Rattle.sgx_rules.specs.inner.Slots.{IsIdle}
-use Rattle.sgx_rules.specs.Starts.{is_load_of, open_start, slot_found, slot_in, Start}
+use Rattle.sgx_rules.specs.Starts.{open_start, slot_found, slot_in, Start}
+use Rattle.sgx_rules.specs.inner.Starts.{is_load_of}
 use Rattle.sgx_rules.specs.Table.{add_row, ewbstart_row, FrameSight, init_row, is_busy, is_va, SecsSight}
 use Rattle.job_grammar.specs.Jobs.{JobView}
 use Rattle.turn_rules.specs.Script.{frame_at, is_init_of, is_initialised}
@@ -51,7 +52,7 @@ use Rattle.driver_rules.specs.Places.{Absent, Away, frame_here, Here, is_here, L
 use Rattle.driver_rules.specs.Scripts.{ScriptRule}
 use Rattle.driver_rules.specs.Spares.{due_with, outs}
 use Rattle.driver_rules.specs.Targets.{at_frame, slot_here}
-use Rattle.driver_rules.specs.inner.Stops.{last_event}
+use Rattle.driver_rules.specs.Stops.{last_event}
 use Rattle.driver_laws.specs.inner.Driven.{IsDriven}
 use Rattle.driver_laws.specs.inner.Kinds.{CanLeave, CanLook, CanMove}
 use Rattle.driver_laws.specs.inner.Sound.{is_absent, is_write_start, IsSound, load_slot, slot_at, slot_if, slot_of, stands_in, version_out}

@@ -7,7 +7,8 @@ use Rattle.sgx_types.specs.declared.names.Page.{Page}
 use Rattle.sgx_types.specs.declared.names.VaSlot.{VaSlot}
 use Rattle.sgx_rules.specs.Frames.{Content, Free, Holds, is_this, IsLoading, IsVa, page_there, SecsOf, stands}
 use Rattle.sgx_types.specs.Pages.{same_page}
-use Rattle.sgx_rules.specs.Starts.{is_load_of, Start}
+use Rattle.sgx_rules.specs.Starts.{Start}
+use Rattle.sgx_rules.specs.inner.Starts.{is_load_of}
 use Rattle.driver_rules.specs.Places.{Absent, after_look, Away, back_from, comes_into, frame_here, gone_to, Here, leaves, Leaving}
 use Rattle.driver_rules.specs.Places.{Loading, Place}
 use Rattle.sgx_rules.specs.Slots.{slot_of}

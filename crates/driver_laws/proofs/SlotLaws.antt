@@ -11,7 +11,8 @@ use Rattle.sgx_rules.specs.Frames.{Content, Free, stands}
 use Rattle.sgx_types.specs.Pages.{same_page, same_slot}
 use Rattle.sgx_types.specs.declared.names.SlotAt.{SlotAt}
 use Rattle.sgx_rules.specs.Slots.{names_slot, slot_of as slot_of_start}
-use Rattle.sgx_rules.specs.Starts.{is_load_of, Start}
+use Rattle.sgx_rules.specs.Starts.{Start}
+use Rattle.sgx_rules.specs.inner.Starts.{is_load_of}
 use Rattle.driver_rules.specs.Places.{Absent, Away, back_from, comes_into, gone_to, Here, leaves, Leaving, Loading, Place}
 use Rattle.sgx_types.specs.declared.names.Actor.{Actor}
 use Rattle.sgx_rules.proofs.Contents.{one_there}

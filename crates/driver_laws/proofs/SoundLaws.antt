@@ -28,7 +28,8 @@ use Rattle.sgx_rules.specs.Table.{is_lawful_access, is_own}
 use Rattle.sgx_rules.specs.Frames.{added, Content, content, Free, Holds, is_child, is_this, IsLoading, IsVa, reloaded, SecsOf}
 use Rattle.sgx_rules.specs.Frames.{vas_made}
 use Rattle.sgx_types.specs.Pages.{is_own_page, is_secs_page, is_va_page, page_at, same_page, secs_page, va_page}
-use Rattle.sgx_rules.specs.Starts.{is_load_of, open_start, Start, started, version_told}
+use Rattle.sgx_rules.specs.Starts.{open_start, Start, started, version_told}
+use Rattle.sgx_rules.specs.inner.Starts.{is_load_of}
 use Rattle.sgx_types.proofs.Pages.{same_page-refl, same_pages}
 use Rattle.sgx_rules.specs.declared.entries.AccessOp.{AccessOp}
 use Rattle.driver_rules.specs.Ages.{head_of}

@@ -33,7 +33,7 @@ use Rattle.driver_rules.specs.Passes.{Form, free_count, is_aside, IsToGo, keeper
 use Rattle.driver_rules.specs.Passes.{pass_after, pass_by, Scan, scan_on, scanned, Sealing, Second, taken_by, Third, ToKick, ToTrack}
 use Rattle.driver_rules.specs.Passes.{Tries}
 use Rattle.driver_rules.specs.Spares.{array_at, due_by, due_with, is_alone, is_spare, least_from, Outs, spare}
-use Rattle.driver_rules.specs.inner.Stops.{last_event}
+use Rattle.driver_rules.specs.Stops.{last_event}
 use Rattle.driver_rules.specs.Places.{Absent, active, active_after, Away, back_from, comes_into, gone_to, Here, is_here, leaves, Leaving}
 use Rattle.driver_rules.specs.Places.{Loading, looked_at, Place, place, to_tail}
 use Rattle.driver_laws.specs.inner.Sound.{is_load_start, is_write_start, IsSound}

@@ -15,7 +15,8 @@ use Rattle.sgx_rules.specs.Rules.{Along}
 use Rattle.sgx_rules.specs.Starts.{open_start, Start}
 use Rattle.job_grammar.specs.Jobs.{JobView}
 use Rattle.driver_rules.specs.Scripts.{ScriptRule}
-use Rattle.driver_rules.specs.inner.Stops.{frame_started, last_event}
+use Rattle.driver_rules.specs.inner.Stops.{frame_started}
+use Rattle.driver_rules.specs.Stops.{last_event}
 use Rattle.driver_rules.specs.Turns.{fails_with, last_by, last_of, load_of, start_fails}
 use Rattle.driver_laws.specs.inner.Tracks.{is_reclaimers}
 use Rattle.driver_laws.specs.inner.Started.{frame_loaded}

@@ -28,7 +28,7 @@ use Rattle.driver_rules.specs.Places.{Absent, active, Away, frame_leaving, Here,
 use Rattle.driver_rules.specs.inner.Reclaims.{ahead_gives, are_held, form_due, going_due, in_frame, is_refused, leaving_due, look_at}
 use Rattle.driver_rules.specs.inner.Reclaims.{look_due, pass_due, third_due, tries_out}
 use Rattle.driver_rules.specs.Spares.{array_at, due_behind, due_by, due_with, is_alone, is_spare, least_from, Outs, spare}
-use Rattle.driver_rules.specs.inner.Stops.{last_event}
+use Rattle.driver_rules.specs.Stops.{last_event}
 use Rattle.sgx_rules.specs.declared.entries.Action.TheVariants as actions
 use Rattle.sgx_types.specs.declared.names.Actor.TheVariants as actors
 use Rattle.sgx_rules.specs.declared.entries.Look.TheVariants as looks

@@ -18,8 +18,8 @@ use Rattle.driver_rules.specs.inner.Decided.{keeps_age, keeps_kick, keeps_script
 use Rattle.driver_rules.specs.Dues.{Asks, Fetches, LooksAt, TriesOut}
 use Rattle.driver_rules.specs.Places.{place}
 use Rattle.driver_rules.specs.inner.Reclaims.{reclaimer_due}
-use Rattle.driver_rules.specs.Spares.{due, due_with, is_full, Outs}
-use Rattle.driver_rules.specs.Targets.{target}
+use Rattle.driver_rules.specs.Spares.{due_with, is_full, Outs, outs}
+use Rattle.driver_rules.specs.inner.Targets.{target}
 use Rattle.driver_rules.specs.Turns.{cpu_due}
 use Rattle.sgx_rules.specs.declared.entries.Action.TheVariants as actions
 use Rattle.sgx_types.specs.declared.names.Actor.TheVariants as actors
@@ -109,11 +109,14 @@ secs_back =
 
 -- ---- the SECS is due directly behind the last page, and not before
 
-not_before : due job last_going ≡ None
+abbrev due : List Entry → Option Page
+due past = due_with job past (outs job past)
+
+not_before : due last_going ≡ None
 unfolding any_below count_below
 not_before = refl
 
-behind_the_last : due job last_gone ≡ Some (secs_page 1)
+behind_the_last : due last_gone ≡ Some (secs_page 1)
 unfolding any_below count_below
 behind_the_last = refl
 
@@ -131,7 +134,7 @@ unfolding any_below count_below
 no_other_entry = refl
 
 -- without room for its record it stays, and nothing else is due
-stays_without_room : due job (record { actor = actors.Reclaimer; event = Age (secs_page 1) looks.NoRoom } ∷ last_gone) ≡ None
+stays_without_room : due (record { actor = actors.Reclaimer; event = Age (secs_page 1) looks.NoRoom } ∷ last_gone) ≡ None
 unfolding any_below count_below
 stays_without_room = refl
 

@@ -18,7 +18,7 @@ use Rattle.job_grammar.specs.Jobs.{JobView}
 use Rattle.turn_rules.specs.Script.{is_initialised}
 use Rattle.driver_rules.specs.Holds.{is_held_below}
 use Rattle.driver_rules.specs.Places.{is_here, place}
-use Rattle.driver_rules.specs.inner.Stops.{last_event}
+use Rattle.driver_rules.specs.Stops.{last_event}
 use Rattle.sgx_rules.specs.declared.entries.Look.TheVariants as looks
 use Rattle.sgx_types.specs.declared.names.Actor.TheVariants as actors
 use Rattle.sgx_rules.specs.declared.refusals.Refusal.TheVariants as why
@@ -93,7 +93,3 @@ due_by j past out _ = None
 -- by the reclaimer's last entry
 abbrev pub due_with : JobView → List Entry → Outs → Option Page
 due_with j past out = due_by j past out (last_event past actors.Reclaimer)
-
--- the page that is due
-abbrev pub due : JobView → List Entry → Option Page
-due j past = due_with j past (outs j past)

@@ -1,11 +1,26 @@
--- What ends a run or a script early, and which actors have an open start. Entries stand newest first.
-use Rattle.std.specs.Prelude.{ℕ, Bool, true, false, if◌then◌else◌, List, [], ◌∷◌}
+-- The last event of an actor, and what ends a run or a script early. Entries stand newest first.
+use Rattle.std.specs.Prelude.{ℕ, Bool, true, false, if◌then◌else◌, List, [], ◌∷◌, Option, Some, None}
 use Rattle.sgx_rules.specs.declared.entries.Entry.{Entry}
 use Rattle.sgx_rules.specs.declared.entries.Event.{Event}
 use Rattle.sgx_rules.specs.declared.entries.Event.TheVariants.{Refused, Bus}
 use Rattle.sgx_rules.specs.declared.refusals.Refusal.{Refusal}
+use Rattle.sgx_types.specs.declared.names.Actor.{Actor}
 use Rattle.sgx_rules.specs.declared.refusals.Refusal.TheVariants as why
 use Rattle.sgx_rules.specs.Processors.{is_by}
+use Rattle.sgx_types.specs.declared.names.Actor.TheVariants as actors
+
+-- ---- the last event
+
+abbrev pub same_actor : Actor → Actor → Bool
+same_actor actors.Builder actors.Builder = true
+same_actor (actors.Cpu p) actor = is_by p.0 actor
+same_actor actors.Reclaimer actors.Reclaimer = true
+same_actor _ _ = false
+
+-- an actor's last event
+abbrev pub last_event : List Entry → Actor → Option Event
+last_event [] actor = None
+last_event (e ∷ past) actor = if same_actor actor e.actor then Some e.event else last_event past actor
 
 -- ---- a run that was stopped
 

@@ -19,10 +19,6 @@ abbrev pub target_by : List Entry → Page → Place → Page
 target_by past g (Away slot) = if is_own_page g then target_from past g slot else g
 target_by past g _ = g
 
--- the page that is brought back first
-abbrev pub target : List Entry → Page → Page
-target past g = target_by past g (place past g)
-
 -- ---- the slot as an instruction names it
 
 abbrev pub at_frame : ℕ → Option ℕ → Option SlotAt

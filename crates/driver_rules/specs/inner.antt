@@ -1,5 +1,6 @@
 pub mod Passes
 pub mod Stops
+pub mod Targets
 pub mod Slotted
 pub mod Reclaims
 pub mod Same

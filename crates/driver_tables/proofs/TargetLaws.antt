@@ -18,7 +18,8 @@ use Rattle.active_list.proofs.PlaceLaws.{own_low, secs_placed}
 use Rattle.slot_keeper.specs.inner.Keeper.{is_ours}
 use Rattle.driver_rules.specs.inner.Slotted.{fixed_count, fixed_slot}
 use Rattle.driver_rules.specs.Places.{Away, frame_here, is_here, place}
-use Rattle.driver_rules.specs.Targets.{at_frame, slot_here, target, target_by, target_from}
+use Rattle.driver_rules.specs.Targets.{at_frame, slot_here, target_by, target_from}
+use Rattle.driver_rules.specs.inner.Targets.{target}
 use Rattle.driver_laws.specs.inner.Agrees.{drivers, first_kept, Keeping}
 use Rattle.driver_laws.specs.inner.Fixed.{IsInJob}
 use Rattle.driver_laws.specs.inner.Sound.{is_absent, IsSound, slot_at}

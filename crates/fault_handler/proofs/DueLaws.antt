@@ -22,7 +22,8 @@ use Rattle.sgx_rules.specs.Frames.{content, least_free, stands}
 use Rattle.sgx_types.specs.Making.{Making}
 use Rattle.sgx_rules.specs.inner.Rules.{LoadsAwayRule}
 use Rattle.sgx_types.specs.Sealed.{Sealed}
-use Rattle.sgx_rules.specs.Starts.{Start, is_load_of, open_start}
+use Rattle.sgx_rules.specs.Starts.{Start, open_start}
+use Rattle.sgx_rules.specs.inner.Starts.{is_load_of}
 use Rattle.sgx_rules.specs.Table.{first_of_row}
 use Rattle.turn_rules.specs.Script.{frame_at}
 use Rattle.job_grammar.specs.Jobs.{JobView}

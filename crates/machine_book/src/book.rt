@@ -4,7 +4,8 @@ ghost use Rattle.std.specs.Prelude.{◌≡◌, ◌≤◌, ◌<◌, [], false, tr
 ghost use Rattle.std.specs.Prelude.{reverse};
 ghost use Rattle.driver_laws.specs.inner.Agrees.{loaded_by};
 ghost use Rattle.driver_rules.specs.Turns.{last_of};
-ghost use Rattle.driver_rules.specs.inner.Stops.{frame_started, last_event};
+ghost use Rattle.driver_rules.specs.inner.Stops.{frame_started};
+ghost use Rattle.driver_rules.specs.Stops.{last_event};
 ghost use Rattle.sgx_types.specs.declared.names.Actor.TheVariants as actors;
 ghost use Rattle.epoch_words.specs.inner.Known.{enclaves};
 ghost use Rattle.epoch_words.specs.inner.Seen.{starting_at};

@@ -3,7 +3,8 @@ use Rattle.std.proofs.Common.{◌≡◌, ℕ, ◌==◌, Bool, true, false, cond,
 use Rattle.std.proofs.lemmas.Bool.{cond_both, false≢true, eqb-true, eq-eqb}
 use Rattle.sgx_types.specs.declared.names.Page.{Page}
 use Rattle.sgx_rules.specs.Frames.{Content, stands}
-use Rattle.sgx_rules.specs.Starts.{Start, is_load_of}
+use Rattle.sgx_rules.specs.Starts.{Start}
+use Rattle.sgx_rules.specs.inner.Starts.{is_load_of}
 
 -- a test that cannot succeed fails
 pub never : (b : Bool) → (b ≡ true → ⊥) → b ≡ false

@@ -31,8 +31,8 @@ use Rattle.sgx_rules.specs.Rules.{Along, Fits, FitsRule, NamesFrames, RefusalRul
 use Rattle.sgx_rules.specs.inner.Rules.{LoadsAwayRule}
 use Rattle.sgx_rules.specs.Sights.{enclave_of_stay, is_known, row_at, secs_sight_at, sight_at, stay_of}
 use Rattle.sgx_rules.specs.Slots.{is_busy_at}
-use Rattle.sgx_rules.specs.Starts.{Start, is_load_of, open_start, slot_found, started}
-use Rattle.sgx_rules.specs.inner.Starts.{LoadsAreApart}
+use Rattle.sgx_rules.specs.Starts.{Start, open_start, slot_found, started}
+use Rattle.sgx_rules.specs.inner.Starts.{LoadsAreApart, is_load_of}
 use Rattle.sgx_types.specs.Lawful.{is_enclave, is_lawful}
 use Rattle.sgx_rules.specs.Table.{EnclaveSight, SecsSight, add_row, fill_row, is_busy}
 use Rattle.sgx_rules.proofs.Contents.{free_there}

@@ -23,8 +23,8 @@ use Rattle.sgx_rules.specs.Frames.{Content, Free, IsVa, SecsOf, Holds, IsLoading
 use Rattle.sgx_rules.specs.Frames.{content, is_this, page_there, reloaded, reloaded_as}
 use Rattle.sgx_rules.specs.Frames.{stands, vas_made}
 use Rattle.sgx_rules.specs.Starts as opening
-use Rattle.sgx_rules.specs.Starts.{Start, open_start, is_load_of, slot_found}
-use Rattle.sgx_rules.specs.inner.Starts.{BareStart, bare_start}
+use Rattle.sgx_rules.specs.Starts.{Start, open_start, slot_found}
+use Rattle.sgx_rules.specs.inner.Starts.{BareStart, bare_start, is_load_of}
 use Rattle.sgx_rules.specs.Rules.{FitsRule, NoPageTwice}
 use Rattle.sgx_rules.specs.inner.Rules.{LoadsAwayRule}
 use Rattle.sgx_rules.specs.Table.{is_loading, is_made, first_of_row}

@@ -48,7 +48,7 @@ use Rattle.driver_rules.specs.Needs.{listed}
 use Rattle.driver_rules.specs.Places.{Absent, Here, is_here, Place, place}
 use Rattle.driver_rules.specs.Spares as spares
 use Rattle.driver_rules.specs.Spares.{due_by, due_with, is_alone, is_full, is_spare, least_from, Outs, spare}
-use Rattle.driver_rules.specs.inner.Stops.{last_event}
+use Rattle.driver_rules.specs.Stops.{last_event}
 use Rattle.driver_laws.specs.inner.Agrees.{Keeping}
 use Rattle.driver_laws.specs.inner.Sound.{is_absent}
 use Rattle.driver_laws.proofs.AloneLaws.{started}

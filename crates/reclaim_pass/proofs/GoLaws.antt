@@ -32,7 +32,7 @@ use Rattle.driver_rules.specs.Passes.{Between, Pass, is_aside, pass, pass_after}
 use Rattle.driver_rules.specs.Places.{Absent, after_look, Away, back_from, comes_into, gone_to, Here, is_here, Leaving, Loading, Place}
 use Rattle.driver_rules.specs.Places.{place}
 use Rattle.driver_rules.specs.Spares.{due_with, Outs}
-use Rattle.driver_rules.specs.inner.Stops.{last_event}
+use Rattle.driver_rules.specs.Stops.{last_event}
 use Rattle.driver_laws.proofs.MarkLaws.{head_own}
 use Rattle.driver_laws.proofs.MoveLaws.{place-quiet}
 use Rattle.driver_laws.proofs.SoundLaws.{entry_of}

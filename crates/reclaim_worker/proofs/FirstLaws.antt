@@ -19,7 +19,7 @@ use Rattle.sgx_rules.specs.Frames.{vas_after, vas_made}
 use Rattle.job_grammar.specs.Jobs.{JobView, va_pages}
 use Rattle.paging_machine.specs.inner.Parts.{Parts}
 use Rattle.driver_rules.specs.Ages.{ahead_by, IsAhead, KeptAgeRule}
-use Rattle.driver_rules.specs.inner.Stops.{last_event}
+use Rattle.driver_rules.specs.Stops.{last_event}
 use Rattle.driver_rules.specs.Passes as passes
 use Rattle.driver_rules.specs.Passes.{Aside, aside, IsGoing, IsToGo, NoneAside}
 use Rattle.driver_rules.specs.Places.{place}

@@ -21,7 +21,7 @@ use Rattle.job_grammar.specs.Jobs.{JobView}
 use Rattle.paging_machine.specs.inner.Parts.{Parts}
 use Rattle.driver_rules.specs.Ages.{ahead_by, FormOf, FormUnless, InForm, InPass, IsAhead, IsInTries, IsLookAhead, KeptAgeRule, KickRule}
 use Rattle.driver_rules.specs.inner.Reclaims.{all_finished, going_due, reclaimer_due_by, reclaims_by}
-use Rattle.driver_rules.specs.inner.Stops.{frame_started, is_frame, last_event}
+use Rattle.driver_rules.specs.inner.Stops.{frame_started, is_frame}
 use Rattle.driver_rules.specs.Passes as passes
 use Rattle.driver_rules.specs.Passes.{Aside, aside, Between, block_on, Blocking, decided, First, Form, free_count, is_aside, IsGoing}
 use Rattle.driver_rules.specs.Passes.{IsToGo}
@@ -29,7 +29,7 @@ use Rattle.driver_rules.specs.Passes.{keepers, kicked, Kicks, kicks_on, next_tri
 use Rattle.driver_rules.specs.Passes.{scan_on}
 use Rattle.driver_rules.specs.Passes.{Sealing, Second, Third, ToKick, ToTrack, Tries}
 use Rattle.driver_rules.specs.Spares.{due_by, due_with, Outs, outs_kept}
-use Rattle.driver_rules.specs.Stops.{is_spent}
+use Rattle.driver_rules.specs.Stops.{is_spent, last_event}
 use Rattle.driver_laws.proofs.StageLaws.{due_other}
 use Rattle.driver_tables.specs.declared.driver.Driver.{Driver}
 use Rattle.reclaim_pass.specs.declared.stages.Aside.{Aside as Beside}

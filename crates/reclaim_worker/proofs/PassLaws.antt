@@ -11,7 +11,7 @@ use Rattle.sgx_rules.specs.Frames.{vas_made}
 use Rattle.job_grammar.specs.Jobs.{JobView}
 use Rattle.slot_keeper.specs.inner.Keeper.{is_ours, is_out}
 use Rattle.paging_machine.specs.inner.Parts.{Parts, state_of}
-use Rattle.driver_rules.specs.inner.Stops.{last_event}
+use Rattle.driver_rules.specs.Stops.{last_event}
 use Rattle.driver_rules.specs.Passes.{keepers, pass, pass_after}
 use Rattle.driver_rules.specs.Spares.{due_with, outs_kept}
 use Rattle.driver_laws.proofs.DueLaws.{due_leaves}

@@ -37,7 +37,7 @@ use Rattle.driver_rules.specs.Ages as ages
 use Rattle.driver_rules.specs.Holds.{is_held, is_held_below}
 use Rattle.driver_rules.specs.declared.waits.Why.TheVariants as reasons
 use Rattle.driver_rules.specs.inner.Slotted.{fixed_slot}
-use Rattle.driver_rules.specs.inner.Stops.{last_event}
+use Rattle.driver_rules.specs.Stops.{last_event}
 use Rattle.driver_rules.specs.Places.{active, Here, Leaving, place}
 use Rattle.driver_rules.specs.Spares.{array_at, due_by, due_with, is_alone, is_full, is_spare, least_from, Outs, outs_kept, spare}
 use Rattle.driver_laws.proofs.KeepLaws.{stays_shown}

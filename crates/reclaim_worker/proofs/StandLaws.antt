@@ -17,7 +17,7 @@ use Rattle.driver_rules.specs.Ages.{ahead_by}
 use Rattle.driver_rules.specs.Dues.{Due, KicksAll}
 use Rattle.driver_rules.specs.declared.waits.Why.{Why}
 use Rattle.driver_rules.specs.inner.Reclaims.{ahead_gives, going_due, pass_due}
-use Rattle.driver_rules.specs.inner.Stops.{last_event}
+use Rattle.driver_rules.specs.Stops.{last_event}
 use Rattle.driver_rules.specs.Passes as passes
 use Rattle.driver_rules.specs.Passes.{aside, decided, free_count, is_aside, keepers, kicks_on, Pass, pass, pass_by, Third, ToKick, Tries}
 use Rattle.driver_rules.specs.Spares.{due_with, outs_kept}

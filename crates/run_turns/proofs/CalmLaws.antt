@@ -23,7 +23,7 @@ use Rattle.driver_rules.specs.Passes.{IsGoing, IsToGo, next_tries, NoneAside, Pa
 use Rattle.driver_rules.specs.Passes.{taken_by, Tries}
 use Rattle.driver_rules.specs.Places.{active}
 use Rattle.driver_rules.specs.Spares.{due_by, due_with, Outs, outs_kept}
-use Rattle.driver_rules.specs.inner.Stops.{last_event}
+use Rattle.driver_rules.specs.Stops.{last_event}
 use Rattle.driver_tables.specs.declared.driver.Driver.{Driver}
 use Rattle.reclaim_pass.specs.declared.stages.Aside.TheVariants as asides
 use Rattle.reclaim_pass.specs.declared.stages.Form.TheVariants as forms

@@ -21,7 +21,8 @@ use Rattle.paging_laws.proofs.ColumnLaws.{content_is}
 use Rattle.paging_laws.proofs.SlotLaws.{started_as}
 use Rattle.paging_machine.specs.inner.Parts.{state_of}
 use Rattle.turn_rules.specs.Machines.{machine_of}
-use Rattle.driver_rules.specs.inner.Stops.{frame_started, last_event}
+use Rattle.driver_rules.specs.inner.Stops.{frame_started}
+use Rattle.driver_rules.specs.Stops.{last_event}
 use Rattle.run_history.specs.Given.{UnforgedRun}
 use Rattle.run_book.specs.inner.Books.{KeepsBytes}
 use Rattle.run_records.proofs.PassRecords.{header_held}

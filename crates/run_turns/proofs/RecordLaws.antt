@@ -12,7 +12,8 @@ use Rattle.sgx_rules.specs.declared.entries.Event.TheVariants.{Age, Bus, Did, Ki
 use Rattle.sgx_types.specs.declared.names.Cpu.{Cpu}
 use Rattle.sgx_rules.specs.Processors.{is_by}
 use Rattle.turn_rules.specs.Script.{action_of}
-use Rattle.driver_rules.specs.inner.Stops.{frame_started, is_frame, last_event, started}
+use Rattle.driver_rules.specs.inner.Stops.{frame_started, is_frame, started}
+use Rattle.driver_rules.specs.Stops.{last_event}
 use Rattle.table_notes.specs.inner.Plain.{is_plain}
 
 -- the newest entry stands first

@@ -9,8 +9,8 @@ use Rattle.driver_rules.specs.Passes.{aside, pass}
 use Rattle.driver_rules.specs.Dues.{Finished}
 use Rattle.driver_rules.specs.Spares.{outs_kept}
 use Rattle.driver_rules.specs.inner.Reclaims.{all_finished, reclaimer_due_by, reclaims_by}
-use Rattle.driver_rules.specs.Stops.{is_spent}
-use Rattle.driver_rules.specs.inner.Stops.{frame_started, last_event}
+use Rattle.driver_rules.specs.Stops.{is_spent, last_event}
+use Rattle.driver_rules.specs.inner.Stops.{frame_started}
 use Rattle.reclaim_pass.specs.inner.Standing.{StandsAt}
 use Rattle.reclaim_pass.specs.inner.Viewed.{aside_by, is_sealing, pass_by, PassView}
 use Rattle.reclaim_worker.proofs.NextLaws.{IsOut, IsOutAside, none_out, started_out}

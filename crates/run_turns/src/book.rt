@@ -3,7 +3,8 @@
 ghost use Rattle.std.specs.Prelude.{◌≡◌, ◌<◌, [], false, true, IfOk, IfSome, OnErr, is_some, length, reverse};
 ghost use Rattle.driver_laws.specs.inner.Agrees.{loaded_by};
 ghost use Rattle.driver_rules.specs.Turns.{last_of};
-ghost use Rattle.driver_rules.specs.inner.Stops.{frame_started, last_event};
+ghost use Rattle.driver_rules.specs.inner.Stops.{frame_started};
+ghost use Rattle.driver_rules.specs.Stops.{last_event};
 ghost use Rattle.job_grammar.specs.inner.Valid.{IsValid};
 ghost use Rattle.sgx_types.specs.declared.names.Actor.TheVariants as actors;
 ghost use Rattle.run_turns.specs.inner.Views.{Holds, IsBuild, IsLoadEnd, IsOutEnd, IsReclaim, IsRun, is_stopped, tells_stop};

@@ -1,5 +1,5 @@
 -- The starts of EWB and ELDU that have not ended, by the entries before a place.
-use Rattle.std.specs.Prelude.{ℕ, ◌==◌, Bool, false, if◌then◌else◌, List, [], ◌∷◌, length, Option, Some}
+use Rattle.std.specs.Prelude.{ℕ, ◌==◌, if◌then◌else◌, List, [], ◌∷◌, length, Option, Some}
 use Rattle.std.specs.Prelude.{None}
 use Rattle.sgx_types.specs.declared.names.Actor.{Actor}
 use Rattle.sgx_rules.specs.declared.entries.Answer.{Answer}
@@ -11,7 +11,7 @@ use Rattle.sgx_rules.specs.declared.entries.Action.TheVariants.{EwbStart, Ewb, E
 use Rattle.sgx_types.specs.declared.names.Page.{Page}
 use Rattle.sgx_types.specs.declared.names.SlotAt.{SlotAt}
 use Rattle.sgx_types.specs.declared.names.VaSlot.{VaSlot}
-use Rattle.sgx_rules.specs.Frames.{Content, IsVa, content, is_this}
+use Rattle.sgx_rules.specs.Frames.{Content, IsVa, content}
 
 -- where a start found its slot, and which slot this was; the version that an EWB drew or an ELDU found in the slot, the page that an
 -- ELDU loads (an EWB takes the page in its frame), the place of the entry that started it, which is the number of entries before
@@ -60,8 +60,3 @@ opened_by actor place held _ n before = before
 abbrev pub open_start : List Entry → ℕ → Option Start
 open_start [] n = None
 open_start (e ∷ past) n = opened_by e.actor (length past) (content past) e.event n (open_start past n)
-
--- a start loads this page
-abbrev pub is_load_of : Option Start → Page → Bool
-is_load_of None g = false
-is_load_of (Some start) g = is_this start.loads g

@@ -52,8 +52,7 @@ use Rattle.driver_rules.specs.Passes.{Second, Third, ToKick, ToTrack, Tries, asi
 use Rattle.driver_rules.specs.Places.{Leaving, active, place}
 use Rattle.driver_rules.specs.Scripts.{ScriptRule}
 use Rattle.driver_rules.specs.Spares.{Outs, due_with, outs}
-use Rattle.driver_rules.specs.inner.Stops.{last_event}
-use Rattle.driver_rules.specs.Stops.{is_spent}
+use Rattle.driver_rules.specs.Stops.{is_spent, last_event}
 use Rattle.driver_rules.specs.Turns.{builder_due, step_turn}
 use Rattle.driver_rules.specs.declared.waits.Why.TheVariants as waits
 use Rattle.driver_laws.specs.inner.Agrees.{Keeping, ShowsSlots, has_pages, is_add}

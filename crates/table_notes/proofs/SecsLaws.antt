@@ -50,7 +50,7 @@ use Rattle.driver_rules.specs.Passes.{Aside, IsGoing, IsToGo, NoneAside, aside}
 use Rattle.driver_rules.specs.Places.{Absent, Away, Here, Leaving, Loading, Place, active, active_after, is_here, looked_at, place}
 use Rattle.driver_rules.specs.Scripts.{ScriptRule}
 use Rattle.driver_rules.specs.Spares.{due_with, outs_kept}
-use Rattle.driver_rules.specs.inner.Stops.{last_event}
+use Rattle.driver_rules.specs.Stops.{last_event}
 use Rattle.driver_laws.specs.inner.Sound.{IsSound, stands_in}
 use Rattle.driver_laws.proofs.DueLaws.{due_inits}
 use Rattle.driver_laws.proofs.OwnLaws.{script_own}

@@ -11,7 +11,8 @@ use Rattle.sgx_rules.specs.Frames.{added, Content, content, Holds, is_child, IsL
 use Rattle.sgx_types.specs.Pages.{is_own_page, same_page, secs_page, va_page}
 use Rattle.sgx_rules.specs.inner.Enclaves.{is_there}
 use Rattle.sgx_rules.specs.Slots.{slot_of as slot_of_start, version_in}
-use Rattle.sgx_rules.specs.Starts.{is_load_of, open_start, Start}
+use Rattle.sgx_rules.specs.Starts.{open_start, Start}
+use Rattle.sgx_rules.specs.inner.Starts.{is_load_of}
 use Rattle.sgx_rules.specs.Fresh.{last_out, Out}
 use Rattle.sgx_rules.specs.Table.{is_loading}
 use Rattle.driver_rules.specs.Turns.{load_of}

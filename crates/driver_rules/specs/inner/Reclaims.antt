@@ -15,8 +15,8 @@ use Rattle.driver_rules.specs.Passes.{Between, Blocking, First, Form, free_count
 use Rattle.driver_rules.specs.Passes.{Third, ToKick, ToTrack, Tries}
 use Rattle.driver_rules.specs.Places.{active, frame_leaving, is_young, place}
 use Rattle.driver_rules.specs.Spares.{Outs, outs}
-use Rattle.driver_rules.specs.inner.Stops.{frame_started, last_event}
-use Rattle.driver_rules.specs.Stops.{is_spent}
+use Rattle.driver_rules.specs.inner.Stops.{frame_started}
+use Rattle.driver_rules.specs.Stops.{is_spent, last_event}
 use Rattle.driver_rules.specs.Turns.{cpu_due, is_built}
 use Rattle.sgx_types.specs.declared.names.Actor.TheVariants as actors
 use Rattle.sgx_rules.specs.declared.entries.Action.TheVariants as actions

@@ -1,25 +1,13 @@
 -- Which actors have an open start. Entries stand newest first.
-use Rattle.std.specs.Prelude.{ℕ, Bool, true, false, if◌then◌else◌, List, [], ◌∷◌, Option, Some, None}
+use Rattle.std.specs.Prelude.{ℕ, Bool, true, false, List, Option, Some, None}
 use Rattle.sgx_rules.specs.declared.entries.Entry.{Entry}
 use Rattle.sgx_rules.specs.declared.entries.Event.{Event}
 use Rattle.sgx_rules.specs.declared.entries.Event.TheVariants.{Did}
 use Rattle.sgx_types.specs.declared.names.Actor.{Actor}
-use Rattle.sgx_types.specs.declared.names.Actor.TheVariants as actors
 use Rattle.sgx_rules.specs.declared.entries.Action.TheVariants.{EwbStart, EldStart}
-use Rattle.sgx_rules.specs.Processors.{is_by}
+use Rattle.driver_rules.specs.Stops.{last_event}
 
 -- ---- open starts
-
-abbrev pub same_actor : Actor → Actor → Bool
-same_actor actors.Builder actors.Builder = true
-same_actor (actors.Cpu p) actor = is_by p.0 actor
-same_actor actors.Reclaimer actors.Reclaimer = true
-same_actor _ _ = false
-
--- an actor's last event
-abbrev pub last_event : List Entry → Actor → Option Event
-last_event [] actor = None
-last_event (e ∷ past) actor = if same_actor actor e.actor then Some e.event else last_event past actor
 
 -- the frame of a write-out or a load that has started
 abbrev pub frame_started : Option Event → Option ℕ

@@ -10,7 +10,7 @@ use Rattle.sgx_rules.specs.Epochs.{epoch, epoch_in}
 use Rattle.job_grammar.specs.Jobs.{JobView}
 use Rattle.driver_rules.specs.Passes.{aside, Pass, pass}
 use Rattle.driver_rules.specs.Places.{Leaving, place}
-use Rattle.driver_rules.specs.inner.Stops.{last_event}
+use Rattle.driver_rules.specs.Stops.{last_event}
 use Rattle.driver_laws.specs.inner.Sound.{is_absent}
 use Rattle.reclaim_pass.specs.declared.stages.Aside.{Aside}
 use Rattle.reclaim_pass.specs.declared.stages.Aside.TheVariants as asides

@@ -21,8 +21,8 @@ use Rattle.driver_rules.specs.Dues.{Due, Finished}
 use Rattle.driver_rules.specs.inner.Reclaims.{reclaimer_due_by}
 use Rattle.driver_rules.specs.Spares.{outs_kept}
 use Rattle.driver_rules.specs.Scripts.{IsEnded, ScriptRule}
-use Rattle.driver_rules.specs.Stops.{is_spent}
-use Rattle.driver_rules.specs.inner.Stops.{frame_started, last_event, started}
+use Rattle.driver_rules.specs.Stops.{is_spent, last_event}
+use Rattle.driver_rules.specs.inner.Stops.{frame_started, started}
 use Rattle.driver_rules.specs.Turns.{Loads, builder_due, cpu_due, last_of}
 use Rattle.driver_laws.specs.inner.Agrees.{loaded_by}
 use Rattle.driver_laws.specs.inner.Tracking.{TrackingRule}

@@ -1,6 +1,7 @@
 use Rattle.std.proofs.Common.{◌≡◌, true, false, is_some, sym, ap, subst, ◌∙◌}
 use Rattle.sgx_types.specs.declared.names.Actor.TheVariants as actors
-use Rattle.driver_rules.specs.inner.Stops.{frame_started, last_event}
+use Rattle.driver_rules.specs.inner.Stops.{frame_started}
+use Rattle.driver_rules.specs.Stops.{last_event}
 use Rattle.run_turns.specs.inner.Views.{BookView, is_stopped}
 use Rattle.run_turns.proofs.OpenViewLaws.{again_seen}
 use Rattle.run_turns.proofs.ReclaimViewLaws.{open_seals, reclaim_turn_kept, reclaim_turn_seen}
