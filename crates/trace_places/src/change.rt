@@ -10,7 +10,7 @@ use sgx_types::names::{Frame, Page};
 
 /// The page that a frame has, or the page that it awaits.
 #[derive(Clone, Copy, Debug, PartialEq, Eq)]
-pub(crate) enum Tenant {
+pub enum Tenant {
     Has(Page),
     Awaits(Page),
 }
