@@ -114,11 +114,11 @@ head_text =
 abbrev pub tail_text : ℕ → List ℕ
 tail_text entries = codes "{\"ph\":\"I\",\"pid\":4,\"tid\":1,\"ts\":" ++ decimal entries ++ codes ",\"s\":\"g\",\"name\":\"end\"}\n]}\n"
 
--- the lines of events of entries that stand oldest first: the names of their lanes, and then the events
-abbrev pub lines_of : List Entry → List PictureEvent → List ℕ
-lines_of entries drawn =
-    flat_map (lane_text (lanes_of drawn)) (reverse (lanes_of drawn)) ++ flat_map (event_text entries (lanes_of drawn)) drawn
+-- the text of events of entries, which stand oldest first, on lanes, which stand newest first: the names of the lanes before the events
+unfoldable pub text_of : List Entry → List Lane → List PictureEvent → List ℕ
+text_of entries known drawn =
+    head_text ++ flat_map (lane_text known) (reverse known) ++ flat_map (event_text entries known) drawn ++ tail_text (length entries)
 
 -- the picture of a trace, whose entries stand newest first
 abbrev pub picture_of : List Entry → List ℕ
-picture_of past = head_text ++ lines_of (reverse past) (events_of past) ++ tail_text (length past)
+picture_of past = text_of (reverse past) (lanes_of (events_of past)) (events_of past)

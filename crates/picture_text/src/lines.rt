@@ -35,6 +35,7 @@ const LANE_ROOM: usize = 200;
 const CAUSE_ROOM: usize = 1200;
 
 // Writes parts one behind the other, into room for them.
+#[tactic(auto, using(crate::proofs::PartLaws::parts_room_more))]
 fn write_parts(parts: &[Word], onto: &mut Vec<u8>)
     requires { HasRoom (parts_room parts.now) onto.old }
     ensures text { onto.new.items ≡ onto.old.items ++ parts_text parts.now }
