@@ -15,7 +15,7 @@ use Rattle.picture_text.specs.declared.events.Mark.TheVariants as marks
 use Rattle.picture_text.specs.Events.{marked, pages_by, steps_on, events_after}
 use Rattle.picture_text.specs.Open.{inside}
 use Rattle.picture_text.specs.inner.Following.{leaving_in, leaving_after, leaving_of, seat_in, Follows, open_if}
-use Rattle.picture_text.specs.inner.Steps.{steps_if, touched, seen, drawn}
+use Rattle.picture_text.specs.inner.Steps.{steps_if, touched_by, seen_on, drawn}
 use Rattle.picture_text.proofs.FrameLaws.{leaving_more}
 
 -- one entry more
@@ -41,7 +41,7 @@ pub pages_known : (known : Places) (past : List Entry) (e : Entry) → Stands kn
     → may_move known e ≡ pages_by past (change_after past e)
 pages_known known past e stands =
     pages_alike known past (change_by e.event known.next_va) stands
-    ∙ ap (λ va. pages_by past (change_by e.event va)) stands.next_va
+    ∙ ap (λ (va : Option ℕ). pages_by past (change_by e.event va)) stands.next_va
 
 -- what is drawn by what was seen is what the entry begins and ends
 steps_alike : (past : List Entry) (e : Entry) (lane : Option Lane)
@@ -50,9 +50,9 @@ steps_alike past e None = refl
 steps_alike past e (Some lane) = refl
 
 pub drawn_after : (past : List Entry) (e : Entry)
-    → drawn (length past) (touched past e) (seen past (touched past e)) (seen (e ∷ past) (touched past e)) ≡ events_after past e
+    → drawn (length past) (touched_by past e) (seen_on past (touched_by past e)) (seen_on (e ∷ past) (touched_by past e)) ≡ events_after past e
 drawn_after past e =
-    let lanes = touched past e in
+    let lanes = touched_by past e in
     λ i. marked (length past) lanes.actor marks.Does
     ∷ (steps_on past e (Some lanes.actor)
     ++ steps_alike past e lanes.frame i

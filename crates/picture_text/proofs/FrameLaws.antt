@@ -15,12 +15,7 @@ use Rattle.trace_places.specs.declared.change.Tenant.{Tenant}
 use Rattle.trace_places.specs.Places.{change_by, tenant_after, va_change}
 use Rattle.picture_text.specs.Events.{frame_in}
 use Rattle.picture_text.specs.declared.leaving.Leaving.{Leaving}
-use Rattle.picture_text.specs.inner.Following.{leaving_after, leaving_of}
-
--- an event is on this frame
-abbrev pub is_on : Option Frame → ℕ → Bool
-is_on None n = false
-is_on (Some f) n = f.0 == n
+use Rattle.picture_text.specs.inner.Following.{is_on, leaving_after, leaving_of}
 
 -- ---- whose a frame is
 

@@ -1,5 +1,6 @@
 pub mod StepLaws
 pub mod FrameLaws
+pub mod LeavingLaws
 pub mod StayLaws
 pub mod TouchLaws
 pub mod ReadLaws

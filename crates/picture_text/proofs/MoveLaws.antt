@@ -23,14 +23,16 @@ use Rattle.picture_text.specs.Events.{ends, begins, steps, lane_of, frame_in, fr
 use Rattle.picture_text.specs.Events.{events_after, events_of}
 use Rattle.picture_text.specs.Lanes.{same_lane}
 use Rattle.picture_text.specs.Open.{same_spans, stands, only, open_on}
-use Rattle.picture_text.specs.Reading.{Begun, begun_on, begun_if, begun_to, begun_by_moves}
+use Rattle.picture_text.specs.Reading.{Begun, begun_by, begun_on, begun_if, begun_to, begun_by_moves}
 use Rattle.picture_text.proofs.StayLaws.{place_stays}
 use Rattle.picture_text.proofs.TouchLaws.{same_lanes}
 use Rattle.picture_text.proofs.ReadLaws.{named_once, named_other}
 
 begun_append : (l : Lane) (xs ys : List PictureEvent) → begun_on l (xs ++ ys) ≡ begun_on l xs ++ begun_on l ys
 begun_append l [] ys = refl
-begun_append l (x ∷ xs) ys = ap (λ bs. _ ++ bs) (begun_append l xs ys) ∙ sym (append_assoc _ (begun_on l xs) (begun_on l ys))
+begun_append l (x ∷ xs) ys =
+    let first = if same_lane x.lane l then begun_by x.place x.mark else [] in
+    ap (λ (bs : List Begun). first ++ bs) (begun_append l xs ys) ∙ sym (append_assoc first (begun_on l xs) (begun_on l ys))
 
 abbrev no_begun : List Begun
 no_begun = []
@@ -62,9 +64,9 @@ module _ (place : ℕ) (m l : Lane) where
       ≡ ((((begun_on l a ++ begun_on l b) ++ begun_on l c) ++ begun_on l d) ++ begun_on l e) ++ begun_on l f
   begun_six a b c d e f =
       begun_append l ((((a ++ b) ++ c) ++ d) ++ e) f
-      ∙ ap (λ xs. xs ++ begun_on l f) (begun_append l (((a ++ b) ++ c) ++ d) e
-      ∙ ap (λ xs. xs ++ begun_on l e) (begun_append l ((a ++ b) ++ c) d
-      ∙ ap (λ xs. xs ++ begun_on l d) (begun_append l (a ++ b) c ∙ ap (λ xs. xs ++ begun_on l c) (begun_append l a b))))
+      ∙ ap (λ (xs : List Begun). xs ++ begun_on l f) (begun_append l (((a ++ b) ++ c) ++ d) e
+      ∙ ap (λ (xs : List Begun). xs ++ begun_on l e) (begun_append l ((a ++ b) ++ c) d
+      ∙ ap (λ (xs : List Begun). xs ++ begun_on l d) (begun_append l (a ++ b) c ∙ ap (λ (xs : List Begun). xs ++ begun_on l c) (begun_append l a b))))
 
   steps_miss : (a b : Open) → same_lane m l ≡ false → begun_on l (steps place m a b) ≡ []
   steps_miss a b h =
@@ -73,8 +75,8 @@ module _ (place : ℕ) (m l : Lane) where
       let inner = middle || not (same_spans a.inner b.inner) in
       begun_six (ends place m inner a.inner) (ends place m middle a.middle) (ends place m outer a.outer) (begins place m outer b.outer)
       (begins place m middle b.middle) (begins place m inner b.inner)
-      ∙ rw (begun_ends inner a.inner, begun_ends middle a.middle, begun_ends outer a.outer, begun_miss outer b.outer h,
-      begun_miss middle b.middle h, begun_miss inner b.inner h) refl
+      ∙ (λ i. ((((begun_ends inner a.inner i ++ begun_ends middle a.middle i) ++ begun_ends outer a.outer i) ++ begun_miss outer b.outer h i)
+      ++ begun_miss middle b.middle h i) ++ begun_miss inner b.inner h i)
 
   -- of a lane with an outer span alone
   steps_hit : (a b : Option Span) → same_lane m l ≡ true
@@ -82,7 +84,9 @@ module _ (place : ℕ) (m l : Lane) where
   steps_hit a b h =
       let c = not (same_spans a b) in
       begun_six [] [] (ends place m c a) (begins place m c b) [] []
-      ∙ rw (begun_ends c a, begun_hit c b h) (append-nil _ ∙ append-nil _)
+      ∙ (λ i. ((begun_ends c a i ++ begun_hit c b h i) ++ []) ++ [])
+      ∙ append-nil ((if c then begun_if (place + 1) b else []) ++ [])
+      ∙ append-nil (if c then begun_if (place + 1) b else [])
 
 -- ---- moves
 
@@ -95,7 +99,7 @@ same_stands a b = refl
 
 begun_moved : (place : ℕ) (a b : Where)
     → (if not (same_spans (stands a) (stands b)) then begun_if place (stands b) else []) ≡ begun_to place (moved a b)
-begun_moved place a b = ap (λ s. if not s then begun_if place (stands b) else []) (same_stands a b) ∙ by_test (same_where a b)
+begun_moved place a b = ap (λ (s : Bool). if not s then begun_if place (stands b) else []) (same_stands a b) ∙ by_test (same_where a b)
   where
     by_test : (s : Bool) → (if not s then begun_if place (stands b) else []) ≡ begun_to place (if s then None else Some b)
     by_test true = refl
@@ -106,7 +110,7 @@ module _ (past : List Entry) (e : Entry) (g : Page) where
       → begun_on (lanes.Page g) (steps_on past e (page_lane o)) ≡ begun_to (length past + 1) (moved_by past e g)
   page_hit None h = absurd (false≢true h)
   page_hit (Some k) h =
-      ap (λ m. begun_on (lanes.Page g) (steps (length past) m (open_on past m) (open_on (e ∷ past) m)))
+      ap (λ (m : Lane). begun_on (lanes.Page g) (steps (length past) m (open_on past m) (open_on (e ∷ past) m)))
       (same_lanes (lanes.Page k) (lanes.Page g) h)
       ∙ steps_hit (length past) (lanes.Page g) (lanes.Page g) (stands (place_of past g)) (stands (place_of (e ∷ past) g)) (own g)
       ∙ begun_moved (length past + 1) (place_of past g) (place_of (e ∷ past) g)
@@ -136,14 +140,14 @@ module _ (past : List Entry) (e : Entry) (g : Page) where
       let pages = pages_by past (change_after past e) in
       elim (tested (is_page pages.former g)) [
         | inl a ↦
-            rw (page_hit pages.former a, page_miss pages.named (named_once past e (change_after past e) g a))
-            (append-nil (begun_to (length past + 1) (moved_by past e g)))
+            (λ i. page_hit pages.former a i ++ page_miss pages.named (named_once past e (change_after past e) g a) i)
+            ∙ append-nil (begun_to (length past + 1) (moved_by past e g))
         | inr a ↦ elim (tested (is_page pages.named g)) [
-          | inl b ↦ rw (page_miss pages.former a) (page_hit pages.named b)
+          | inl b ↦ λ i. page_miss pages.former a i ++ page_hit pages.named b i
           | inr b ↦
-              rw (page_miss pages.former a, page_miss pages.named b)
-              (sym (ap (begun_to (length past + 1)) (stayed (place_of past g) (place_of (e ∷ past) g)
-              (place_stays past e (change_after past e) g refl a (sym (named_other past e (change_after past e) g a) ∙ b)))))
+              (λ i. page_miss pages.former a i ++ page_miss pages.named b i)
+              ∙ sym (ap (begun_to (length past + 1)) (stayed (place_of past g) (place_of (e ∷ past) g)
+              (place_stays past e (change_after past e) g refl a (sym (named_other past e (change_after past e) g a) ∙ b))))
         ]
       ]
 
@@ -155,10 +159,11 @@ module _ (past : List Entry) (e : Entry) (g : Page) where
       let G = steps_on past e (page_lane pages.former) in
       let N = steps_on past e (page_lane pages.named) in
       let l = lanes.Page g in
-      ap (λ bs. bs ++ begun_on l (((A ++ F) ++ G) ++ N)) (nothing (same_lane (lane_of e.actor) l))
+      ap (λ (bs : List Begun). bs ++ begun_on l (((A ++ F) ++ G) ++ N)) (nothing (same_lane (lane_of e.actor) l))
       ∙ begun_append l ((A ++ F) ++ G) N
-      ∙ ap (λ bs. bs ++ begun_on l N) (begun_append l (A ++ F) G ∙ ap (λ bs. bs ++ begun_on l G) (begun_append l A F))
-      ∙ rw (actor_miss e.actor, frame_miss (frame_in e.event)) both_pages
+      ∙ ap (λ (bs : List Begun). bs ++ begun_on l N) (begun_append l (A ++ F) G ∙ ap (λ (bs : List Begun). bs ++ begun_on l G) (begun_append l A F))
+      ∙ (λ i. ((actor_miss e.actor i ++ frame_miss (frame_in e.event) i) ++ begun_on l G) ++ begun_on l N)
+      ∙ both_pages
     where
       nothing : (b : Bool) → (if b then no_begun else []) ≡ []
       nothing true = refl

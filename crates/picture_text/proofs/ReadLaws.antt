@@ -3,7 +3,7 @@ use Rattle.std.proofs.Common.{◌≡◌, ℕ, ◌==◌, Bool, true, false, if◌
 use Rattle.std.proofs.Common.{refl, sym, ap, ◌∙◌, inl, inr}
 use Rattle.std.proofs.lemmas.Bool.{false≢true}
 use Rattle.sgx_rules.specs.declared.entries.Entry.{Entry}
-use Rattle.sgx_rules.specs.Processors.{move_by, is_by, stay_after, stay}
+use Rattle.sgx_rules.specs.Processors.{Stay, move_by, is_by, stay_after, stay}
 use Rattle.sgx_types.specs.declared.names.Actor.{Actor}
 use Rattle.sgx_types.specs.declared.names.Actor.TheVariants as actors
 use Rattle.sgx_types.specs.declared.names.Cpu.{Cpu}
@@ -13,6 +13,7 @@ use Rattle.sgx_types.proofs.Truths.{tested}
 use Rattle.trace_places.specs.Places.{change_after, tenant, place_of}
 use Rattle.trace_places.specs.inner.Tables.{is_page, page_named, other_than}
 use Rattle.trace_places.specs.declared.change.Change.{Change}
+use Rattle.trace_places.specs.declared.moves.Where.{Where}
 use Rattle.trace_places.proofs.MoveLaws.{other_true, other_false}
 use Rattle.picture_text.specs.declared.events.Lane.{Lane}
 use Rattle.picture_text.specs.declared.events.Lane.TheVariants as lanes
@@ -23,8 +24,8 @@ use Rattle.picture_text.specs.Events.{marked, lane_of, frame_in, frame_lane, pag
 use Rattle.picture_text.specs.Lanes.{same_lane}
 use Rattle.picture_text.specs.Open.{inside, sits, stands, when_so, only, open_on, stack_of}
 use Rattle.picture_text.specs.Reading.{read_events}
-use Rattle.picture_text.specs.inner.Following.{leaving_of}
-use Rattle.picture_text.proofs.FrameLaws.{is_on, tenant_stays, leaving_stays, leaving_more, stay_stays}
+use Rattle.picture_text.specs.inner.Following.{is_on, leaving_of}
+use Rattle.picture_text.proofs.FrameLaws.{tenant_stays, leaving_stays, leaving_more, stay_stays}
 use Rattle.picture_text.proofs.StayLaws.{named_by, place_stays}
 use Rattle.picture_text.proofs.StepLaws.{read_append}
 use Rattle.picture_text.proofs.TouchLaws.{hit, miss, miss_frame, miss_page, read_four}
@@ -49,9 +50,9 @@ module _ (past : List Entry) (e : Entry) where
         | inr other ↦
             let away = actor_stays e.actor p refl other in
             let still : stay past p.0 ≡ stay (e ∷ past) p.0
-            = sym (ap (λ b. stay_after (move_by e.event) b past (stay past p.0)) away ∙ stay_stays (move_by e.event) past (stay past p.0)) in
+            = sym (ap (λ (b : Bool). stay_after (move_by e.event) b past (stay past p.0)) away ∙ stay_stays (move_by e.event) past (stay past p.0)) in
             miss past e (lane_of e.actor) (lanes.Processor p) (stack_of (open_on past (lanes.Processor p))) other
-            ∙ ap (λ s. Some (stack_of (only (inside s)))) still
+            ∙ ap (λ (s : Option Stay). Some (stack_of (only (inside s)))) still
       ]
 
   -- ---- a frame
@@ -69,13 +70,13 @@ module _ (past : List Entry) (e : Entry) where
   on_frame : (o : Option Frame) (f : Frame) → frame_in e.event ≡ o
       → read_events (lanes.Frame f) (steps_on past e (frame_lane o)) (Some (stack_of (open_on past (lanes.Frame f))))
       ≡ Some (stack_of (open_on (e ∷ past) (lanes.Frame f)))
-  on_frame None f is = ap (λ (o : Open). Some (stack_of o)) (frame_kept f (ap (λ o. is_on o f.0) is))
+  on_frame None f is = ap (λ (o : Open). Some (stack_of o)) (frame_kept f (ap (λ (o : Option Frame). is_on o f.0) is))
   on_frame (Some k) f is =
       elim (tested (same_lane (lanes.Frame k) (lanes.Frame f))) [
         | inl own ↦ hit past e (lanes.Frame k) (lanes.Frame f) own
         | inr other ↦
             miss past e (lanes.Frame k) (lanes.Frame f) (stack_of (open_on past (lanes.Frame f))) other
-            ∙ ap (λ (o : Open). Some (stack_of o)) (frame_kept f (ap (λ o. is_on o f.0) is ∙ other))
+            ∙ ap (λ (o : Open). Some (stack_of o)) (frame_kept f (ap (λ (o : Option Frame). is_on o f.0) is ∙ other))
       ]
 
   -- ---- a page
@@ -103,27 +104,39 @@ module _ (past : List Entry) (e : Entry) where
   named_once None g h = absurd (false≢true h)
   named_once (Some change) g h = other_true (pages_by past (Some change)).former (page_named change) g h
 
+  abbrev before : Page → List Span
+  before g = stack_of (open_on past (lanes.Page g))
+
+  abbrev behind : Page → List Span
+  behind g = stack_of (open_on (e ∷ past) (lanes.Page g))
+
+  -- a page that the frame did not have is named, and then its lane changes there, or stays where it is
+  on_named : (g : Page) → is_page (pages_by past (change_after past e)).former g ≡ false
+      → read_events (lanes.Page g) (steps_on past e (page_lane (pages_by past (change_after past e)).named)) (Some (before g))
+      ≡ Some (behind g)
+  on_named g a =
+      let named = (pages_by past (change_after past e)).named in
+      elim (tested (is_page named g)) [
+        | inl b ↦ hit_page named g b
+        | inr b ↦
+            pass_page named g (before g) b
+            ∙ ap (λ (w : Where). Some (stack_of (only (stands w))))
+            (sym (place_stays past e (change_after past e) g refl a (sym (named_other (change_after past e) g a) ∙ b)))
+      ]
+
   on_page : (g : Page)
       → read_events (lanes.Page g) (steps_on past e (page_lane (pages_by past (change_after past e)).named))
-      (read_events (lanes.Page g) (steps_on past e (page_lane (pages_by past (change_after past e)).former))
-      (Some (stack_of (open_on past (lanes.Page g)))))
-      ≡ Some (stack_of (open_on (e ∷ past) (lanes.Page g)))
+      (read_events (lanes.Page g) (steps_on past e (page_lane (pages_by past (change_after past e)).former)) (Some (before g)))
+      ≡ Some (behind g)
   on_page g =
       let pages = pages_by past (change_after past e) in
-      let before = stack_of (open_on past (lanes.Page g)) in
       elim (tested (is_page pages.former g)) [
         | inl a ↦
             ap (read_events (lanes.Page g) (steps_on past e (page_lane pages.named))) (hit_page pages.former g a)
-            ∙ pass_page pages.named g (stack_of (open_on (e ∷ past) (lanes.Page g))) (named_once (change_after past e) g a)
+            ∙ pass_page pages.named g (behind g) (named_once (change_after past e) g a)
         | inr a ↦
-            ap (read_events (lanes.Page g) (steps_on past e (page_lane pages.named))) (pass_page pages.former g before a)
-            ∙ elim (tested (is_page pages.named g)) [
-              | inl b ↦ hit_page pages.named g b
-              | inr b ↦
-                  pass_page pages.named g before b
-                  ∙ ap (λ w. Some (stack_of (only (stands w))))
-                  (sym (place_stays past e (change_after past e) g refl a (sym (named_other (change_after past e) g a) ∙ b)))
-            ]
+            ap (read_events (lanes.Page g) (steps_on past e (page_lane pages.named))) (pass_page pages.former g (before g) a)
+            ∙ on_named g a
       ]
 
   -- ---- all lanes
@@ -137,70 +150,67 @@ module _ (past : List Entry) (e : Entry) where
       same_if true o = refl
       same_if false o = refl
 
+  actor_other : (actor : Actor) (f : Frame) → same_lane (lane_of actor) (lanes.Frame f) ≡ false
+  actor_other actors.Builder f = refl
+  actor_other (actors.Cpu p) f = refl
+  actor_other actors.Reclaimer f = refl
+
+  actor_else : (actor : Actor) (g : Page) → same_lane (lane_of actor) (lanes.Page g) ≡ false
+  actor_else actors.Builder g = refl
+  actor_else (actors.Cpu p) g = refl
+  actor_else actors.Reclaimer g = refl
+
+  -- on a lane of the driver nothing is open before and behind
+  on_driver : (l : Lane) → open_on past l ≡ open_on (e ∷ past) l
+      → read_events l (steps_on past e (Some (lane_of e.actor))) (Some (stack_of (open_on past l)))
+      ≡ Some (stack_of (open_on (e ∷ past) l))
+  on_driver l still =
+      elim (tested (same_lane (lane_of e.actor) l)) [
+        | inl own ↦ hit past e (lane_of e.actor) l own
+        | inr other ↦
+            miss past e (lane_of e.actor) l (stack_of (open_on past l)) other
+            ∙ ap (λ (o : Open). Some (stack_of o)) still
+      ]
+
   -- the steps on the four lanes that the entry may change
   after_steps : (l : Lane)
       → read_events l (((steps_on past e (Some (lane_of e.actor)) ++ steps_on past e (frame_lane (frame_in e.event)))
       ++ steps_on past e (page_lane (pages_by past (change_after past e)).former))
       ++ steps_on past e (page_lane (pages_by past (change_after past e)).named)) (Some (stack_of (open_on past l)))
       ≡ Some (stack_of (open_on (e ∷ past) l))
-  after_steps l = read_four l _ _ _ _ _ ∙ by_lane l
-    where
-      actor_other : (actor : Actor) (f : Frame) → same_lane (lane_of actor) (lanes.Frame f) ≡ false
-      actor_other actors.Builder f = refl
-      actor_other (actors.Cpu p) f = refl
-      actor_other actors.Reclaimer f = refl
-
-      actor_else : (actor : Actor) (g : Page) → same_lane (lane_of actor) (lanes.Page g) ≡ false
-      actor_else actors.Builder g = refl
-      actor_else (actors.Cpu p) g = refl
-      actor_else actors.Reclaimer g = refl
-
-      driver : (l : Lane) → open_on past l ≡ open_on (e ∷ past) l
-          → read_events l (steps_on past e (Some (lane_of e.actor))) (Some (stack_of (open_on past l)))
-          ≡ Some (stack_of (open_on (e ∷ past) l))
-      driver l still =
-          elim (tested (same_lane (lane_of e.actor) l)) [
-            | inl own ↦ hit past e (lane_of e.actor) l own
-            | inr other ↦ miss past e (lane_of e.actor) l _ other ∙ ap (λ (o : Open). Some (stack_of o)) still
-          ]
-
-      by_lane : (l : Lane)
-          → read_events l (steps_on past e (page_lane (pages_by past (change_after past e)).named))
-          (read_events l (steps_on past e (page_lane (pages_by past (change_after past e)).former))
-          (read_events l (steps_on past e (frame_lane (frame_in e.event)))
-          (read_events l (steps_on past e (Some (lane_of e.actor))) (Some (stack_of (open_on past l))))))
-          ≡ Some (stack_of (open_on (e ∷ past) l))
-      by_lane (lanes.Processor p) =
-          let l = lanes.Processor p in
-          let after = stack_of (open_on (e ∷ past) l) in
-          let pages = pages_by past (change_after past e) in
-          rw (on_processor p, miss_frame past e (frame_in e.event) l after (λ f. refl), miss_page past e pages.former l after (λ g. refl))
-          (miss_page past e pages.named l after (λ g. refl))
-      by_lane (lanes.Frame f) =
-          let l = lanes.Frame f in
-          let after = stack_of (open_on (e ∷ past) l) in
-          let pages = pages_by past (change_after past e) in
-          rw (miss past e (lane_of e.actor) l (stack_of (open_on past l)) (actor_other e.actor f), on_frame (frame_in e.event) f refl,
-          miss_page past e pages.former l after (λ g. refl)) (miss_page past e pages.named l after (λ g. refl))
-      by_lane (lanes.Page g) =
-          let l = lanes.Page g in
-          let before = stack_of (open_on past l) in
-          rw (miss past e (lane_of e.actor) l before (actor_else e.actor g), miss_frame past e (frame_in e.event) l before (λ f. refl))
-          (on_page g)
-      by_lane lanes.Builder =
-          let pages = pages_by past (change_after past e) in
-          rw (driver lanes.Builder refl, miss_frame past e (frame_in e.event) lanes.Builder [] (λ f. refl),
-          miss_page past e pages.former lanes.Builder [] (λ g. refl)) (miss_page past e pages.named lanes.Builder [] (λ g. refl))
-      by_lane lanes.Reclaimer =
-          let pages = pages_by past (change_after past e) in
-          rw (driver lanes.Reclaimer refl, miss_frame past e (frame_in e.event) lanes.Reclaimer [] (λ f. refl),
-          miss_page past e pages.former lanes.Reclaimer [] (λ g. refl)) (miss_page past e pages.named lanes.Reclaimer [] (λ g. refl))
+  after_steps (lanes.Processor p) =
+      let l = lanes.Processor p in
+      let after = stack_of (open_on (e ∷ past) l) in
+      let pages = pages_by past (change_after past e) in
+      read_four l _ _ _ _ _ _ _ _ _ (on_processor p) (miss_frame past e (frame_in e.event) l after (λ f. refl))
+      (miss_page past e pages.former l after (λ g. refl)) (miss_page past e pages.named l after (λ g. refl))
+  after_steps (lanes.Frame f) =
+      let l = lanes.Frame f in
+      let after = stack_of (open_on (e ∷ past) l) in
+      let pages = pages_by past (change_after past e) in
+      read_four l _ _ _ _ _ _ _ _ _ (miss past e (lane_of e.actor) l (stack_of (open_on past l)) (actor_other e.actor f))
+      (on_frame (frame_in e.event) f refl) (miss_page past e pages.former l after (λ g. refl))
+      (miss_page past e pages.named l after (λ g. refl))
+  after_steps (lanes.Page g) =
+      let l = lanes.Page g in
+      read_four l _ _ _ _ _ _ _ _ _ (miss past e (lane_of e.actor) l (before g) (actor_else e.actor g))
+      (miss_frame past e (frame_in e.event) l (before g) (λ f. refl)) refl (on_page g)
+  after_steps lanes.Builder =
+      let pages = pages_by past (change_after past e) in
+      read_four lanes.Builder _ _ _ _ _ _ _ _ _ (on_driver lanes.Builder refl)
+      (miss_frame past e (frame_in e.event) lanes.Builder [] (λ f. refl)) (miss_page past e pages.former lanes.Builder [] (λ g. refl))
+      (miss_page past e pages.named lanes.Builder [] (λ g. refl))
+  after_steps lanes.Reclaimer =
+      let pages = pages_by past (change_after past e) in
+      read_four lanes.Reclaimer _ _ _ _ _ _ _ _ _ (on_driver lanes.Reclaimer refl)
+      (miss_frame past e (frame_in e.event) lanes.Reclaimer [] (λ f. refl)) (miss_page past e pages.former lanes.Reclaimer [] (λ g. refl))
+      (miss_page past e pages.named lanes.Reclaimer [] (λ g. refl))
 
   -- the events of an entry lead from what was open on a lane to what is
   pub read_after : (l : Lane)
       → read_events l (events_after past e) (Some (stack_of (open_on past l))) ≡ Some (stack_of (open_on (e ∷ past) l))
   read_after l =
-      ap (λ o. read_events l (((steps_on past e (Some (lane_of e.actor)) ++ steps_on past e (frame_lane (frame_in e.event)))
+      ap (λ (o : Option (List Span)). read_events l (((steps_on past e (Some (lane_of e.actor)) ++ steps_on past e (frame_lane (frame_in e.event)))
       ++ steps_on past e (page_lane (pages_by past (change_after past e)).former))
       ++ steps_on past e (page_lane (pages_by past (change_after past e)).named)) o)
       (read_does (lane_of e.actor) l (stack_of (open_on past l)))

@@ -18,13 +18,13 @@ place_kept : (past : List Entry) (e : Entry) (change : Change) (g : Page) → ch
 place_kept past e change g is a b =
     let former = tenant past (frame_changed change) in
     let has : frames (e ∷ past) (Has g) ≡ frames past (Has g)
-    = ap (λ o. frames_after o (Has g) (frames past (Has g))) is ∙ sym (frames_made past change (Has g))
+    = ap (λ (o : Option Change). frames_after o (Has g) (frames past (Has g))) is ∙ sym (frames_made past change (Has g))
     ∙ frames_stay change former (Has g) (frames past (Has g)) a b in
     let awaits : frames (e ∷ past) (Awaits g) ≡ frames past (Awaits g)
-    = ap (λ o. frames_after o (Awaits g) (frames past (Awaits g))) is ∙ sym (frames_made past change (Awaits g))
+    = ap (λ (o : Option Change). frames_after o (Awaits g) (frames past (Awaits g))) is ∙ sym (frames_made past change (Awaits g))
     ∙ frames_stay change former (Awaits g) (frames past (Awaits g)) a b in
     let gone : gone_last (e ∷ past) g ≡ gone_last past g
-    = ap (λ o. gone_after o g (gone_last past g)) is ∙ not_gone change g (gone_last past g) b in
+    = ap (λ (o : Option Change). gone_after o g (gone_last past g)) is ∙ not_gone change g (gone_last past g) b in
     λ i. where_by (least (has i)) (least (awaits i)) (gone i)
 
 -- .. and where nothing changes, none

@@ -1,6 +1,6 @@
 -- What is read from the steps of one lane.
 use Rattle.std.proofs.Common.{◌≡◌, ℕ, ◌||◌, not, Bool, true, false, List, [], ◌∷◌, ◌++◌, Option, Some, None, option_to_list}
-use Rattle.std.proofs.Common.{refl, sym, ap, ◌∙◌, cc, append-nil}
+use Rattle.std.proofs.Common.{refl, sym, ap, ◌∙◌, append-nil}
 use Rattle.std.proofs.lemmas.Bool.{false≢true, eqb-true}
 use Rattle.sgx_types.proofs.Pages.{same_pages}
 use Rattle.sgx_types.proofs.Truths.{both_true, neither, not_false}
@@ -79,14 +79,16 @@ module _ (place : ℕ) (m l : Lane) where
   hit_begins None st h = refl
   hit_begins (Some s) st h = rw h refl
 
-  read_six : (a b c d e f : List PictureEvent) (o : Option (List Span))
-      → read_events l (((((a ++ b) ++ c) ++ d) ++ e) ++ f) o
-      ≡ read_events l f (read_events l e (read_events l d (read_events l c (read_events l b (read_events l a o)))))
-  read_six a b c d e f o =
+  -- six parts one behind the other
+  read_six : (a b c d e f : List PictureEvent) (o oa ob oc od oe z : Option (List Span)) → read_events l a o ≡ oa → read_events l b oa ≡ ob
+      → read_events l c ob ≡ oc → read_events l d oc ≡ od → read_events l e od ≡ oe → read_events l f oe ≡ z
+      → read_events l (((((a ++ b) ++ c) ++ d) ++ e) ++ f) o ≡ z
+  read_six a b c d e f o oa ob oc od oe z ha hb hc hd he hf =
       read_append l ((((a ++ b) ++ c) ++ d) ++ e) f o
       ∙ ap (read_events l f) (read_append l (((a ++ b) ++ c) ++ d) e o
       ∙ ap (read_events l e) (read_append l ((a ++ b) ++ c) d o
-      ∙ ap (read_events l d) (read_append l (a ++ b) c o ∙ ap (read_events l c) (read_append l a b o))))
+      ∙ ap (read_events l d) (read_append l (a ++ b) c o ∙ ap (read_events l c) (read_append l a b o ∙ ap (read_events l b) ha ∙ hb) ∙ hc)
+      ∙ hd) ∙ he) ∙ hf
 
   -- the six parts of the steps of this lane
   hit_by : (O M I : Bool) (ao am ai bo bm bi : Option Span) → same_lane m l ≡ true → (O ≡ false → ao ≡ bo)
@@ -96,38 +98,38 @@ module _ (place : ℕ) (m l : Lane) where
       (Some (option_to_list ai ++ (option_to_list am ++ option_to_list ao)))
       ≡ Some (option_to_list bi ++ (option_to_list bm ++ option_to_list bo))
   hit_by true true true ao am ai bo bm bi h fo fm fi =
-      let last : read_events l (ends place m true ao) (Some (option_to_list ao)) ≡ Some []
-      = ap (λ st. read_events l (ends place m true ao) (Some st)) (sym (append-nil (option_to_list ao))) ∙ hit_ends ao [] h in
-      let first : read_events l (begins place m true bo) (Some []) ≡ Some (option_to_list bo)
-      = hit_begins bo [] h ∙ ap (λ (st : List Span). Some st) (append-nil (option_to_list bo)) in
       read_six (ends place m true ai) (ends place m true am) (ends place m true ao) (begins place m true bo) (begins place m true bm)
-      (begins place m true bi) _
-      ∙ rw (hit_ends ai (option_to_list am ++ option_to_list ao) h, hit_ends am (option_to_list ao) h, last, first,
-      hit_begins bm (option_to_list bo) h) (hit_begins bi (option_to_list bm ++ option_to_list bo) h)
+      (begins place m true bi) _ (Some (option_to_list am ++ option_to_list ao)) (Some (option_to_list ao)) (Some [])
+      (Some (option_to_list bo)) (Some (option_to_list bm ++ option_to_list bo)) _
+      (hit_ends ai (option_to_list am ++ option_to_list ao) h) (hit_ends am (option_to_list ao) h)
+      (ap (λ (st : List Span). read_events l (ends place m true ao) (Some st)) (sym (append-nil (option_to_list ao))) ∙ hit_ends ao [] h)
+      (hit_begins bo [] h ∙ ap (λ (st : List Span). Some st) (append-nil (option_to_list bo)))
+      (hit_begins bm (option_to_list bo) h) (hit_begins bi (option_to_list bm ++ option_to_list bo) h)
   hit_by false true true ao am ai bo bm bi h fo fm fi =
+      let st = option_to_list ao in
       read_six (ends place m true ai) (ends place m true am) (ends place m false ao) (begins place m false bo) (begins place m true bm)
-      (begins place m true bi) _
-      ∙ rw (hit_ends ai (option_to_list am ++ option_to_list ao) h, hit_ends am (option_to_list ao) h,
-      still_ends ao (Some (option_to_list ao)), still_begins bo (Some (option_to_list ao)), hit_begins bm (option_to_list ao) h)
-      (hit_begins bi (option_to_list bm ++ option_to_list ao) h
+      (begins place m true bi) _ (Some (option_to_list am ++ st)) (Some st) (Some st) (Some st) (Some (option_to_list bm ++ st)) _
+      (hit_ends ai (option_to_list am ++ st) h) (hit_ends am st h) (still_ends ao (Some st)) (still_begins bo (Some st))
+      (hit_begins bm st h)
+      (hit_begins bi (option_to_list bm ++ st) h
       ∙ ap (λ (s : Option Span). Some (option_to_list bi ++ (option_to_list bm ++ option_to_list s))) (fo refl))
   hit_by false false true ao am ai bo bm bi h fo fm fi =
       let st = option_to_list am ++ option_to_list ao in
       read_six (ends place m true ai) (ends place m false am) (ends place m false ao) (begins place m false bo) (begins place m false bm)
-      (begins place m true bi) _
-      ∙ rw (hit_ends ai st h, still_ends am (Some st), still_ends ao (Some st), still_begins bo (Some st), still_begins bm (Some st))
-      (hit_begins bi st h
-      ∙ (λ i. Some (option_to_list bi ++ (option_to_list ((fm refl).0 i) ++ option_to_list (fo refl i)))))
+      (begins place m true bi) _ (Some st) (Some st) (Some st) (Some st) (Some st) _ (hit_ends ai st h) (still_ends am (Some st))
+      (still_ends ao (Some st)) (still_begins bo (Some st)) (still_begins bm (Some st))
+      (hit_begins bi st h ∙ (λ i. Some (option_to_list bi ++ (option_to_list ((fm refl).0 i) ++ option_to_list (fo refl i)))))
   hit_by false false false ao am ai bo bm bi h fo fm fi =
       let o = Some (option_to_list ai ++ (option_to_list am ++ option_to_list ao)) in
       read_six (ends place m false ai) (ends place m false am) (ends place m false ao) (begins place m false bo)
-      (begins place m false bm) (begins place m false bi) o
-      ∙ rw (still_ends ai o, still_ends am o, still_ends ao o, still_begins bo o, still_begins bm o, still_begins bi o)
-      (λ i. Some (option_to_list ((fi refl).0 i) ++ (option_to_list ((fm refl).0 i) ++ option_to_list (fo refl i))))
-  hit_by true true false ao am ai bo bm bi h fo fm fi = absurd (false≢true (sym (fi refl).1))
-  hit_by true false true ao am ai bo bm bi h fo fm fi = absurd (false≢true (sym (fm refl).1))
-  hit_by true false false ao am ai bo bm bi h fo fm fi = absurd (false≢true (sym (fm refl).1))
-  hit_by false true false ao am ai bo bm bi h fo fm fi = absurd (false≢true (sym (fi refl).1))
+      (begins place m false bm) (begins place m false bi) o o o o o o _ (still_ends ai o) (still_ends am o) (still_ends ao o)
+      (still_begins bo o) (still_begins bm o)
+      (still_begins bi o
+      ∙ (λ i. Some (option_to_list ((fi refl).0 i) ++ (option_to_list ((fm refl).0 i) ++ option_to_list (fo refl i)))))
+  hit_by true true false ao am ai bo bm bi h fo fm fi = absurd (false≢true (sym ((fi refl).1)))
+  hit_by true false true ao am ai bo bm bi h fo fm fi = absurd (false≢true (sym ((fm refl).1)))
+  hit_by true false false ao am ai bo bm bi h fo fm fi = absurd (false≢true (sym ((fm refl).1)))
+  hit_by false true false ao am ai bo bm bi h fo fm fi = absurd (false≢true (sym ((fi refl).1)))
 
   -- the steps of this lane lead from what was open to what is
   pub hit_steps : (a b : Open) → same_lane m l ≡ true → read_events l (steps place m a b) (Some (stack_of a)) ≡ Some (stack_of b)
@@ -147,6 +149,6 @@ module _ (place : ℕ) (m l : Lane) where
       let middle = outer || not (same_spans a.middle b.middle) in
       let inner = middle || not (same_spans a.inner b.inner) in
       read_six (ends place m inner a.inner) (ends place m middle a.middle) (ends place m outer a.outer) (begins place m outer b.outer)
-      (begins place m middle b.middle) (begins place m inner b.inner) (Some st)
-      ∙ rw (miss_ends inner a.inner st h, miss_ends middle a.middle st h, miss_ends outer a.outer st h, miss_begins outer b.outer st h,
-      miss_begins middle b.middle st h) (miss_begins inner b.inner st h)
+      (begins place m middle b.middle) (begins place m inner b.inner) (Some st) (Some st) (Some st) (Some st) (Some st) (Some st) (Some st)
+      (miss_ends inner a.inner st h) (miss_ends middle a.middle st h) (miss_ends outer a.outer st h) (miss_begins outer b.outer st h)
+      (miss_begins middle b.middle st h) (miss_begins inner b.inner st h)

@@ -37,9 +37,9 @@ module _ (past : List Entry) (e : Entry) where
       → read_events l (steps_on past e (Some m)) (Some (stack_of (open_on past l))) ≡ Some (stack_of (open_on (e ∷ past) l))
   hit m l h =
       let is = same_lanes m l h in
-      ap (λ k. read_events l (steps_on past e (Some m)) (Some (stack_of (open_on past k)))) (sym is)
+      ap (λ (k : Lane). read_events l (steps_on past e (Some m)) (Some (stack_of (open_on past k)))) (sym is)
       ∙ hit_steps (length past) m l (open_on past m) (open_on (e ∷ past) m) h
-      ∙ ap (λ k. Some (stack_of (open_on (e ∷ past) k))) is
+      ∙ ap (λ (k : Lane). Some (stack_of (open_on (e ∷ past) k))) is
 
   pub miss : (m l : Lane) (st : List Span) → same_lane m l ≡ false → read_events l (steps_on past e (Some m)) (Some st) ≡ Some st
   miss m l st h = miss_steps (length past) m l (open_on past m) (open_on (e ∷ past) m) st h
@@ -56,8 +56,10 @@ module _ (past : List Entry) (e : Entry) where
   miss_page None l st h = refl
   miss_page (Some g) l st h = miss (lanes.Page g) l st (h g)
 
-pub read_four : (l : Lane) (a b c d : List PictureEvent) (o : Option (List Span))
-    → read_events l (((a ++ b) ++ c) ++ d) o ≡ read_events l d (read_events l c (read_events l b (read_events l a o)))
-read_four l a b c d o =
+-- four parts one behind the other
+pub read_four : (l : Lane) (a b c d : List PictureEvent) (o oa ob oc z : Option (List Span)) → read_events l a o ≡ oa → read_events l b oa ≡ ob
+    → read_events l c ob ≡ oc → read_events l d oc ≡ z → read_events l (((a ++ b) ++ c) ++ d) o ≡ z
+read_four l a b c d o oa ob oc z ha hb hc hd =
     read_append l ((a ++ b) ++ c) d o
-    ∙ ap (read_events l d) (read_append l (a ++ b) c o ∙ ap (read_events l c) (read_append l a b o))
+    ∙ ap (read_events l d) (read_append l (a ++ b) c o ∙ ap (read_events l c) (read_append l a b o ∙ ap (read_events l b) ha ∙ hb) ∙ hc)
+    ∙ hd

@@ -14,7 +14,7 @@ process lanes.Builder = 4
 process lanes.Reclaimer = 4
 
 abbrev pub key : ℕ → ℕ → ℕ → LaneKey
-key process enclave number = record { process = process; enclave = enclave; number = number }
+key group enclave number = record { group = group; enclave = enclave; number = number }
 
 abbrev pub lane_key : Lane → LaneKey
 lane_key (lanes.Processor p) = key 1 0 p.0
@@ -24,7 +24,7 @@ lane_key lanes.Builder = key 4 0 0
 lane_key lanes.Reclaimer = key 4 0 1
 
 abbrev pub same_key : LaneKey → LaneKey → Bool
-same_key a b = (a.process == b.process) && ((a.enclave == b.enclave) && (a.number == b.number))
+same_key a b = (a.group == b.group) && ((a.enclave == b.enclave) && (a.number == b.number))
 
 abbrev pub same_lane : Lane → Lane → Bool
 same_lane a b = same_key (lane_key a) (lane_key b)

@@ -52,8 +52,8 @@ lane_words lanes.Builder = codes "builder" ∷ []
 lane_words lanes.Reclaimer = codes "reclaimer" ∷ []
 
 -- one space between two words
-abbrev pub name : Words → List ℕ
-name words = join_with_byte 32 words
+abbrev pub shown : Words → List ℕ
+shown words = join_with_byte 32 words
 
 -- ---- lines
 
@@ -80,12 +80,12 @@ cause e place = codes ",\"args\":{\"line\":\"" ++ spelling editions.Two e ++ cod
 abbrev pub mark_text : List Lane → Entry → ℕ → Lane → Mark → List ℕ
 mark_text known e place lane (marks.Begins span) =
     codes "{\"ph\":\"B\"," ++ on_lane known lane ++ codes ",\"ts\":" ++ decimal (place + 1)
-    ++ codes ",\"name\":\"" ++ name (span_words span) ++ codes "\"" ++ cause e place
+    ++ codes ",\"name\":\"" ++ shown (span_words span) ++ codes "\"" ++ cause e place
 mark_text known e place lane marks.Ends =
     codes "{\"ph\":\"E\"," ++ on_lane known lane ++ codes ",\"ts\":" ++ decimal (place + 1) ++ codes "},\n"
 mark_text known e place lane marks.Does =
     codes "{\"ph\":\"X\"," ++ on_lane known lane ++ codes ",\"ts\":" ++ decimal place
-    ++ codes ",\"dur\":1,\"name\":\"" ++ name (event_words e.event) ++ codes "\"" ++ cause e place
+    ++ codes ",\"dur\":1,\"name\":\"" ++ shown (event_words e.event) ++ codes "\"" ++ cause e place
 
 abbrev pub text_by : List Lane → PictureEvent → Option Entry → List ℕ
 text_by known event None = []
@@ -98,7 +98,7 @@ event_text entries known event = text_by known event (slice_get entries event.pl
 -- the name of a lane
 unfoldable pub lane_text : List Lane → Lane → List ℕ
 lane_text known lane =
-    codes "{\"ph\":\"M\"," ++ on_lane known lane ++ codes ",\"name\":\"thread_name\",\"args\":{\"name\":\"" ++ name (lane_words lane)
+    codes "{\"ph\":\"M\"," ++ on_lane known lane ++ codes ",\"name\":\"thread_name\",\"args\":{\"name\":\"" ++ shown (lane_words lane)
     ++ codes "\"}},\n"
 
 -- what stands before all events

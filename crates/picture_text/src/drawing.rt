@@ -4,7 +4,7 @@ ghost use Rattle.std.specs.Prelude.{◌≡◌, ◌∷◌, ◌++◌, length, reve
 ghost use Rattle.sgx_rules.specs.declared.entries.Entry.{Entry};
 ghost use Rattle.picture_text.specs.Events.{events_after, events_of};
 ghost use Rattle.picture_text.specs.inner.Following.{Follows};
-ghost use Rattle.picture_text.specs.inner.Steps.{drawn, seen, touched};
+ghost use Rattle.picture_text.specs.inner.Steps.{drawn, seen_on, touched_by};
 
 use crate::events::{Lane, Mark, Open, PictureEvent};
 use crate::leaving::frame_in;
@@ -56,15 +56,15 @@ fn push_entry(
     ensures events { OnOk result ((past : List Entry) → Follows spans.old past → place ≡ length past
         → events.new.items ≡ events.old.items ++ events_after past entry.now) }
 {
-    let lanes = touched(entry, spans);
+    let lanes = lanes_of(entry, spans);
     let before = see(&lanes, spans);
     spans.push(alloc, entry)?;
     let after = see(&lanes, spans);
     push_events(place, &lanes, &before, &after, events)
 }
 
-fn touched(entry: &Entry, spans: &OpenSpans) -> Touched
-    ensures { (past : List Entry) → Follows spans.now past → result ≡ touched past entry.now }
+fn lanes_of(entry: &Entry, spans: &OpenSpans) -> Touched
+    ensures { (past : List Entry) → Follows spans.now past → result ≡ touched_by past entry.now }
 {
     let pages = spans.pages(entry);
     Touched {
@@ -76,7 +76,7 @@ fn touched(entry: &Entry, spans: &OpenSpans) -> Touched
 }
 
 fn see(lanes: &Touched, spans: &OpenSpans) -> Seen
-    ensures { (past : List Entry) → Follows spans.now past → result ≡ seen past lanes.now }
+    ensures { (past : List Entry) → Follows spans.now past → result ≡ seen_on past lanes.now }
 {
     Seen {
         actor: spans.open_on(lanes.actor),

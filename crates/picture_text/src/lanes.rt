@@ -14,7 +14,7 @@ use std::collections::HashMap;
 // A lane, as the key of a map.
 #[derive(Clone, Copy, Debug, PartialEq, Eq, Hash)]
 struct LaneKey {
-    process: u8,
+    group: u8,
     enclave: u16,
     number: u32,
 }
@@ -30,7 +30,7 @@ fn lane_key(lane: Lane) -> LaneKey
         Lane::Reclaimer => (0, 1),
     };
     LaneKey {
-        process: process(lane),
+        group: process(lane),
         enclave,
         number,
     }

@@ -1,9 +1,9 @@
 //! Of each frame whether what is in it was blocked, and whether it is on its way out.
 
-ghost use Rattle.std.specs.Prelude.{◌≡◌, ℕ, false, Some, OnOk};
+ghost use Rattle.std.specs.Prelude.{◌≡◌, ◌==◌, ℕ, false, true, OnOk};
 ghost use Rattle.sgx_types.specs.declared.names.Frame.{Frame};
 ghost use Rattle.picture_text.specs.Events.{frame_in, frame_of};
-ghost use Rattle.picture_text.specs.inner.Following.{leaving_in, leaving_after, staying};
+ghost use Rattle.picture_text.specs.inner.Following.{is_on, leaving_in, leaving_after, staying};
 
 use sgx_rules::entries::{Action, Answer, Event};
 use sgx_types::names::{Frame, Memory};
@@ -49,7 +49,7 @@ fn frame_of(action: &Action) -> Option<Frame>
 
 // How far what is in the frame of an event is on its way out from now on.
 fn leaving_after(event: &Event, before: Leaving) -> Leaving
-    ensures { (f : Frame) → frame_in event.now ≡ Some f → result ≡ leaving_after event.now f.0 before }
+    ensures { (n : ℕ) → is_on (frame_in event.now) n ≡ true → result ≡ leaving_after event.now n before }
 {
     match event {
         Event::Did { action, answer } => done_after(action, answer, before),
@@ -59,7 +59,7 @@ fn leaving_after(event: &Event, before: Leaving) -> Leaving
 
 // .. and of an instruction that was done.
 fn done_after(action: &Action, answer: &Answer, before: Leaving) -> Leaving
-    ensures { (f : Frame) → frame_of action.now ≡ Some f → result ≡ leaving_after (Event.Did action.now answer.now) f.0 before }
+    ensures { (n : ℕ) → is_on (frame_of action.now) n ≡ true → result ≡ leaving_after (Event.Did action.now answer.now) n before }
 {
     match action {
         Action::Block { .. } => Leaving {
@@ -80,7 +80,7 @@ fn done_after(action: &Action, answer: &Answer, before: Leaving) -> Leaving
 }
 
 fn loaded_after(answer: &Answer, before: Leaving) -> Leaving
-    ensures { (f : Frame) → result ≡ leaving_after (Event.Did (Action.Eld f) answer.now) f.0 before }
+    ensures { (f : Frame) (n : ℕ) → (f.0 == n) ≡ true → result ≡ leaving_after (Event.Did (Action.Eld f) answer.now) n before }
 {
     match answer {
         Answer::Moved { .. } => put(before),

@@ -15,7 +15,7 @@ use std::collections::HashMap;
 /// The spans that say how processors are inside. One that is outside has none.
 #[derive(Drop)]
 pub(crate) struct Seats {
-    inside: HashMap<u8, Span>,
+    spans: HashMap<u8, Span>,
 }
 
 impl Seats {
@@ -24,7 +24,7 @@ impl Seats {
         ensures { (p : ℕ) → seat_in result p ≡ None }
     {
         Seats {
-            inside: HashMap::new(alloc),
+            spans: HashMap::new(alloc),
         }
     }
 
@@ -32,7 +32,7 @@ impl Seats {
     pub(crate) fn of(&self, cpu: Cpu) -> Option<Span>
         ensures { result ≡ seat_in self.now cpu.0 }
     {
-        self.inside.get(&cpu.0).copied()
+        self.spans.get(&cpu.0).copied()
     }
 
     /// Takes an entry more.
@@ -74,14 +74,14 @@ impl Seats {
     fn enter(&mut self, cpu: Cpu, span: Span) -> Result<(), Memory>
         ensures { OnOk result ((p : ℕ) → seat_in self.new p ≡ (if cpu.0 == p then Some span else seat_in self.old p)) }
     {
-        self.inside.insert(cpu.0, span)?;
+        self.spans.insert(cpu.0, span)?;
         Ok(())
     }
 
     fn leave(&mut self, cpu: Cpu) -> Result<(), Memory>
         ensures { (p : ℕ) → seat_in self.new p ≡ (if cpu.0 == p then None else seat_in self.old p) }
     {
-        self.inside.remove(&cpu.0);
+        self.spans.remove(&cpu.0);
         Ok(())
     }
 }

@@ -1,11 +1,12 @@
 -- What is kept along the entries that were pushed, and what it stands for.
-use Rattle.std.specs.Prelude.{◌≡◌, ℕ, ◌&&◌, ◌||◌, not, Bool, true, false, nat_eq, List, [], length, reverse, Option, Some, None}
+use Rattle.std.specs.Prelude.{◌≡◌, ℕ, ◌&&◌, ◌||◌, ◌==◌, not, Bool, true, false, nat_eq, List, [], length, reverse, Option, Some, None}
 use Rattle.std.specs.HashMap.{get}
 use Rattle.sgx_rules.specs.declared.entries.Entry.{Entry}
 use Rattle.sgx_rules.specs.declared.entries.Event.{Event}
 use Rattle.sgx_rules.specs.Frames.{put_by, made_before, is_put, is_block, is_blocked, sealing_after, is_sealing}
 use Rattle.sgx_rules.specs.Processors.{stay}
-use Rattle.trace_places.specs.inner.Tables as places
+use Rattle.sgx_types.specs.declared.names.Frame.{Frame}
+use Rattle.trace_places.specs.inner.Tables as tables
 use Rattle.picture_text.specs.declared.events.Lane.{Lane}
 use Rattle.picture_text.specs.declared.events.Open.{Open}
 use Rattle.picture_text.specs.declared.events.Span.{Span}
@@ -18,6 +19,11 @@ use Rattle.picture_text.specs.Lanes.{lane_key, same_key, number_in}
 use Rattle.picture_text.specs.Open.{inside, only, open_on}
 
 -- ---- frames
+
+-- an event is on this frame
+abbrev pub is_on : Option Frame → ℕ → Bool
+is_on None n = false
+is_on (Some f) n = f.0 == n
 
 -- neither blocked nor on its way out
 abbrev pub staying : Leaving
@@ -44,13 +50,13 @@ leaving_of past n = record { blocked = is_blocked past n; sealing = is_sealing p
 -- ---- processors
 
 abbrev pub seat_in : Seats → ℕ → Option Span
-seat_in known p = get nat_eq known.inside p
+seat_in known p = get nat_eq known.spans p
 
 -- ---- all of it
 
 -- what is kept stands for these entries
 pub record Follows (known : OpenSpans) (past : List Entry) : Type 0 where
-  pub places : places.Stands known.places past
+  pub places : tables.Stands known.places past
   pub leavings : (n : ℕ) → leaving_in known.leavings n ≡ leaving_of past n
   pub seats : (p : ℕ) → seat_in known.seats p ≡ inside (stay past p)
 

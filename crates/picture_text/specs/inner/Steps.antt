@@ -17,8 +17,8 @@ steps_if place None before after = []
 steps_if place (Some lane) before after = steps place lane before after
 
 -- the lanes on which an entry may begin or end something, and what is open on them
-abbrev pub touched : List Entry → Entry → Touched
-touched past e =
+abbrev pub touched_by : List Entry → Entry → Touched
+touched_by past e =
     let pages = pages_by past (change_after past e) in
     record {
       actor = lane_of e.actor;
@@ -27,8 +27,8 @@ touched past e =
       named = page_lane pages.named;
     }
 
-abbrev pub seen : List Entry → Touched → Seen
-seen past lanes = record {
+abbrev pub seen_on : List Entry → Touched → Seen
+seen_on past lanes = record {
   actor = open_on past lanes.actor;
   frame = open_if past lanes.frame;
   former = open_if past lanes.former;
