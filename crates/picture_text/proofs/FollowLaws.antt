@@ -1,5 +1,8 @@
 -- What is kept along the entries goes on to stand for them.
-use Rattle.std.proofs.Common.{◌≡◌, ℕ, ◌∷◌, ◌++◌, List, Option, Some, None, length, refl, sym, ap, ◌∙◌}
+use Rattle.std.proofs.Common.{◌≡◌, ℕ, ◌+◌, ◌<◌, ◌∷◌, ◌++◌, List, Option, Some, None, length, refl, sym, ap, ◌∙◌, subst, arith, take, get_or, reverse, length-take}
+use Rattle.std.proofs.lemmas.List.{length-reverse}
+use Rattle.trace_text.proofs.EntryLaws.{newest_more}
+use Rattle.picture_text.specs.declared.events.PictureEvent.{PictureEvent}
 use Rattle.sgx_rules.specs.declared.entries.Entry.{Entry}
 use Rattle.sgx_rules.specs.Processors.{Stay, move_by, is_by, stay_after, stay}
 use Rattle.trace_places.specs.declared.change.Change.{Change}
@@ -12,7 +15,7 @@ use Rattle.picture_text.specs.declared.leaving.Leavings.{Leavings}
 use Rattle.picture_text.specs.declared.open_spans.OpenSpans.{OpenSpans}
 use Rattle.picture_text.specs.declared.seats.Seats.{Seats}
 use Rattle.picture_text.specs.declared.events.Mark.TheVariants as marks
-use Rattle.picture_text.specs.Events.{marked, pages_by, steps_on, events_after}
+use Rattle.picture_text.specs.Events.{marked, pages_by, steps_on, events_after, events_of}
 use Rattle.picture_text.specs.Open.{inside}
 use Rattle.picture_text.specs.inner.Following.{leaving_in, leaving_after, leaving_of, seat_in, Follows, open_if}
 use Rattle.picture_text.specs.inner.Steps.{steps_if, touched_by, seen_on, drawn}
@@ -58,3 +61,20 @@ drawn_after past e =
     ++ steps_alike past e lanes.frame i
     ++ steps_alike past e lanes.former i
     ++ steps_alike past e lanes.named i)
+
+-- the next of entries that stand oldest first
+pub follows_next : (known : OpenSpans) (entries : List Entry) (i : ℕ) (d : Entry) → i < length entries
+    → Follows known (get_or entries i d ∷ reverse (take i entries)) → Follows known (reverse (take (i + 1) entries))
+follows_next known entries i d within follows =
+    let Are : List Entry → Type 0 = λ past. Follows known past in subst Are (sym (newest_more entries i d within)) follows
+
+pub events_next : (events before : List PictureEvent) (entries : List Entry) (i : ℕ) (d : Entry) → i < length entries
+    → before ≡ events_of (reverse (take i entries)) → events ≡ before ++ events_after (reverse (take i entries)) (get_or entries i d)
+    → events ≡ events_of (reverse (take (i + 1) entries))
+events_next events before entries i d within was more =
+    more ∙ ap (λ (xs : List PictureEvent). xs ++ events_after (reverse (take i entries)) (get_or entries i d)) was
+    ∙ ap events_of (sym (newest_more entries i d within))
+
+-- so many entries stand before it
+pub place_next : (entries : List Entry) (i : ℕ) → i < length entries → i ≡ length (reverse (take i entries))
+place_next entries i within = omega (arith, length-reverse (take i entries), length-take i entries)

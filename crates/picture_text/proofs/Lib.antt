@@ -1,3 +1,5 @@
+pub mod AppendLaws
+pub mod TextLaws
 pub mod StepLaws
 pub mod FrameLaws
 pub mod LeavingLaws

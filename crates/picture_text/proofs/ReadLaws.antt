@@ -172,6 +172,21 @@ module _ (past : List Entry) (e : Entry) where
             ∙ ap (λ (o : Open). Some (stack_of o)) still
       ]
 
+  -- .. nor by the frame and the pages
+  on_the_driver : (l : Lane) → open_on past l ≡ open_on (e ∷ past) l → ((f : Frame) → same_lane (lanes.Frame f) l ≡ false)
+      → ((g : Page) → same_lane (lanes.Page g) l ≡ false)
+      → read_events l (((steps_on past e (Some (lane_of e.actor)) ++ steps_on past e (frame_lane (frame_in e.event)))
+      ++ steps_on past e (page_lane (pages_by past (change_after past e)).former))
+      ++ steps_on past e (page_lane (pages_by past (change_after past e)).named)) (Some (stack_of (open_on past l)))
+      ≡ Some (stack_of (open_on (e ∷ past) l))
+  on_the_driver l still frames pages =
+      let after = stack_of (open_on (e ∷ past) l) in
+      let two = pages_by past (change_after past e) in
+      read_four l (steps_on past e (Some (lane_of e.actor))) (steps_on past e (frame_lane (frame_in e.event)))
+      (steps_on past e (page_lane two.former)) (steps_on past e (page_lane two.named)) (Some (stack_of (open_on past l))) (Some after)
+      (Some after) (Some after) (Some after) (on_driver l still) (miss_frame past e (frame_in e.event) l after frames)
+      (miss_page past e two.former l after pages) (miss_page past e two.named l after pages)
+
   -- the steps on the four lanes that the entry may change
   after_steps : (l : Lane)
       → read_events l (((steps_on past e (Some (lane_of e.actor)) ++ steps_on past e (frame_lane (frame_in e.event)))
@@ -182,29 +197,30 @@ module _ (past : List Entry) (e : Entry) where
       let l = lanes.Processor p in
       let after = stack_of (open_on (e ∷ past) l) in
       let pages = pages_by past (change_after past e) in
-      read_four l _ _ _ _ _ _ _ _ _ (on_processor p) (miss_frame past e (frame_in e.event) l after (λ f. refl))
+      read_four l (steps_on past e (Some (lane_of e.actor))) (steps_on past e (frame_lane (frame_in e.event)))
+      (steps_on past e (page_lane pages.former)) (steps_on past e (page_lane pages.named)) (Some (stack_of (open_on past l)))
+      (Some after) (Some after) (Some after) (Some after) (on_processor p) (miss_frame past e (frame_in e.event) l after (λ f. refl))
       (miss_page past e pages.former l after (λ g. refl)) (miss_page past e pages.named l after (λ g. refl))
   after_steps (lanes.Frame f) =
       let l = lanes.Frame f in
+      let first = stack_of (open_on past l) in
       let after = stack_of (open_on (e ∷ past) l) in
       let pages = pages_by past (change_after past e) in
-      read_four l _ _ _ _ _ _ _ _ _ (miss past e (lane_of e.actor) l (stack_of (open_on past l)) (actor_other e.actor f))
+      read_four l (steps_on past e (Some (lane_of e.actor))) (steps_on past e (frame_lane (frame_in e.event)))
+      (steps_on past e (page_lane pages.former)) (steps_on past e (page_lane pages.named)) (Some first) (Some first) (Some after)
+      (Some after) (Some after) (miss past e (lane_of e.actor) l first (actor_other e.actor f))
       (on_frame (frame_in e.event) f refl) (miss_page past e pages.former l after (λ g. refl))
       (miss_page past e pages.named l after (λ g. refl))
   after_steps (lanes.Page g) =
       let l = lanes.Page g in
-      read_four l _ _ _ _ _ _ _ _ _ (miss past e (lane_of e.actor) l (before g) (actor_else e.actor g))
+      let pages = pages_by past (change_after past e) in
+      read_four l (steps_on past e (Some (lane_of e.actor))) (steps_on past e (frame_lane (frame_in e.event)))
+      (steps_on past e (page_lane pages.former)) (steps_on past e (page_lane pages.named)) (Some (before g)) (Some (before g))
+      (Some (before g)) (read_events l (steps_on past e (page_lane pages.former)) (Some (before g))) (Some (behind g))
+      (miss past e (lane_of e.actor) l (before g) (actor_else e.actor g))
       (miss_frame past e (frame_in e.event) l (before g) (λ f. refl)) refl (on_page g)
-  after_steps lanes.Builder =
-      let pages = pages_by past (change_after past e) in
-      read_four lanes.Builder _ _ _ _ _ _ _ _ _ (on_driver lanes.Builder refl)
-      (miss_frame past e (frame_in e.event) lanes.Builder [] (λ f. refl)) (miss_page past e pages.former lanes.Builder [] (λ g. refl))
-      (miss_page past e pages.named lanes.Builder [] (λ g. refl))
-  after_steps lanes.Reclaimer =
-      let pages = pages_by past (change_after past e) in
-      read_four lanes.Reclaimer _ _ _ _ _ _ _ _ _ (on_driver lanes.Reclaimer refl)
-      (miss_frame past e (frame_in e.event) lanes.Reclaimer [] (λ f. refl)) (miss_page past e pages.former lanes.Reclaimer [] (λ g. refl))
-      (miss_page past e pages.named lanes.Reclaimer [] (λ g. refl))
+  after_steps lanes.Builder = on_the_driver lanes.Builder refl (λ f. refl) (λ g. refl)
+  after_steps lanes.Reclaimer = on_the_driver lanes.Reclaimer refl (λ f. refl) (λ g. refl)
 
   -- the events of an entry lead from what was open on a lane to what is
   pub read_after : (l : Lane)

@@ -28,7 +28,7 @@ read_event lane event spans = if same_lane event.lane lane then read_mark event.
 -- .. and behind events that stand oldest first
 abbrev pub read_events : Lane → List PictureEvent → Option (List Span) → Option (List Span)
 read_events lane [] spans = spans
-read_events lane (event ∷ events) spans = read_events lane events (option_and_then spans (read_event lane event))
+read_events lane (event ∷ events) spans = read_events lane events (option_and_then (read_event lane event) spans)
 
 -- ---- when it began
 

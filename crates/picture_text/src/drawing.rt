@@ -96,7 +96,13 @@ fn push_events(
     ensures { OnOk result (events.new.items ≡ events.old.items ++ drawn place lanes.now before.now after.now) }
 {
     push_mark(place, lanes.actor, Mark::Does, events)?;
-    push_steps(place, Some(lanes.actor), &before.actor, &after.actor, events)?;
+    push_steps(
+        place,
+        Some(lanes.actor),
+        &before.actor,
+        &after.actor,
+        events,
+    )?;
     push_steps(place, lanes.frame, &before.frame, &after.frame, events)?;
     push_steps(place, lanes.former, &before.former, &after.former, events)?;
     push_steps(place, lanes.named, &before.named, &after.named, events)

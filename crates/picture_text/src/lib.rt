@@ -4,9 +4,9 @@
 
 pub mod drawing;
 pub mod events;
-mod leaving;
 pub mod lanes;
 pub mod laws;
+mod leaving;
 pub mod lines;
 mod names;
 mod open_spans;

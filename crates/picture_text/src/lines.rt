@@ -55,10 +55,18 @@ pub fn print_head(onto: &mut Vec<u8>)
     write_parts(
         &[
             Name("{\"traceEvents\":[\n"),
-            Name("{\"ph\":\"M\",\"pid\":1,\"tid\":0,\"name\":\"process_name\",\"args\":{\"name\":\"processors\"}},\n"),
-            Name("{\"ph\":\"M\",\"pid\":2,\"tid\":0,\"name\":\"process_name\",\"args\":{\"name\":\"frames\"}},\n"),
-            Name("{\"ph\":\"M\",\"pid\":3,\"tid\":0,\"name\":\"process_name\",\"args\":{\"name\":\"pages\"}},\n"),
-            Name("{\"ph\":\"M\",\"pid\":4,\"tid\":0,\"name\":\"process_name\",\"args\":{\"name\":\"driver\"}},\n"),
+            Name(
+                "{\"ph\":\"M\",\"pid\":1,\"tid\":0,\"name\":\"process_name\",\"args\":{\"name\":\"processors\"}},\n",
+            ),
+            Name(
+                "{\"ph\":\"M\",\"pid\":2,\"tid\":0,\"name\":\"process_name\",\"args\":{\"name\":\"frames\"}},\n",
+            ),
+            Name(
+                "{\"ph\":\"M\",\"pid\":3,\"tid\":0,\"name\":\"process_name\",\"args\":{\"name\":\"pages\"}},\n",
+            ),
+            Name(
+                "{\"ph\":\"M\",\"pid\":4,\"tid\":0,\"name\":\"process_name\",\"args\":{\"name\":\"driver\"}},\n",
+            ),
         ],
         onto,
     );
@@ -89,7 +97,10 @@ pub fn print_lane(known: &Lanes, lane: Lane, onto: &mut Vec<u8>)
 {
     write_parts(&[Name("{\"ph\":\"M\",")], onto);
     write_lane(known, lane, onto);
-    write_parts(&[Name(",\"name\":\"thread_name\",\"args\":{\"name\":\"")], onto);
+    write_parts(
+        &[Name(",\"name\":\"thread_name\",\"args\":{\"name\":\"")],
+        onto,
+    );
     write_lane_name(lane, onto);
     write_parts(&[Name("\"}},\n")], onto);
 }
@@ -119,7 +130,10 @@ fn write_event(entry: &Entry, known: &Lanes, event: &PictureEvent, onto: &mut Ve
         Mark::Begins(span) => {
             write_parts(&[Name("{\"ph\":\"B\",")], onto);
             write_lane(known, event.lane, onto);
-            write_parts(&[Name(",\"ts\":"), Decimal(behind), Name(",\"name\":\"")], onto);
+            write_parts(
+                &[Name(",\"ts\":"), Decimal(behind), Name(",\"name\":\"")],
+                onto,
+            );
             write_span_name(span, onto);
             write_parts(&[Name("\"")], onto);
             write_cause(entry, event.place, onto);
@@ -170,7 +184,10 @@ fn write_cause(entry: &Entry, place: usize, onto: &mut Vec<u8>)
 {
     write_parts(&[Name(",\"args\":{\"line\":\"")], onto);
     print_spelling(Edition::Two, entry, onto);
-    write_parts(&[Name("\",\"place\":"), Decimal(place as u64), Name("}},\n")], onto);
+    write_parts(
+        &[Name("\",\"place\":"), Decimal(place as u64), Name("}},\n")],
+        onto,
+    );
 }
 
 // Writes words with a space between two, into room for them.
@@ -277,9 +294,7 @@ fn write_lane_name(lane: Lane, onto: &mut Vec<u8>)
     ensures room { UsesRoom NAME_ROOM onto.old onto.new }
 {
     match lane {
-        Lane::Processor(cpu) => {
-            write_name(Name("processor"), &[Decimal(cpu.0.into())], onto)
-        }
+        Lane::Processor(cpu) => { write_name(Name("processor"), &[Decimal(cpu.0.into())], onto) }
         Lane::Frame(frame) => write_name(Name("frame"), &[frame.into()], onto),
         Lane::Page(page) => write_page(page, onto),
         Lane::Builder => write_name(Name("builder"), &[], onto),

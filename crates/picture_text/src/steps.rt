@@ -1,6 +1,6 @@
 //! What begins and ends where the open spans of a lane change.
 
-ghost use Rattle.std.specs.Prelude.{◌≡◌, ◌++◌, ◌∷◌, [], OnOk};
+ghost use Rattle.std.specs.Prelude.{◌≡◌, ◌||◌, ◌++◌, ◌∷◌, [], not, OnOk};
 ghost use Rattle.picture_text.specs.Events.{begins, ends, marked, steps};
 ghost use Rattle.picture_text.specs.Open.{same_span, same_spans};
 ghost use Rattle.picture_text.specs.inner.Steps.{steps_if};
@@ -22,6 +22,13 @@ fn same_spans(here: Option<Span>, there: Option<Span>) -> bool
         (Some(here), Some(there)) => same_span(here, there),
         _ => false,
     }
+}
+
+// Whether a span ends or begins: where it is another one, or where the span around it does.
+fn changes(around: bool, before: Option<Span>, after: Option<Span>) -> bool
+    ensures { result ≡ (around || not (same_spans before after)) }
+{
+    around || !same_spans(before, after)
 }
 
 /// Adds what ends and begins on a lane by an entry at a place, where the spans that are open on it change: the innermost one that ends
@@ -50,9 +57,9 @@ fn push_changes(
 ) -> Result<(), Memory>
     ensures { OnOk result (events.new.items ≡ events.old.items ++ steps place lane before.now after.now) }
 {
-    let outer = !same_spans(before.outer, after.outer);
-    let middle = outer || !same_spans(before.middle, after.middle);
-    let inner = middle || !same_spans(before.inner, after.inner);
+    let outer = changes(false, before.outer, after.outer);
+    let middle = changes(outer, before.middle, after.middle);
+    let inner = changes(middle, before.inner, after.inner);
     push_end(place, lane, inner, before.inner, events)?;
     push_end(place, lane, middle, before.middle, events)?;
     push_end(place, lane, outer, before.outer, events)?;

@@ -68,6 +68,6 @@ open_if past (Some lane) = open_on past lane
 -- ---- lanes
 
 -- these are the lanes, the newest first, and each one's number
-pub record AreNumbered (known : Lanes) (lanes : List Lane) : Type 0 where
-  pub lanes : known.lanes.items ≡ reverse lanes
-  pub numbers : (lane : Lane) → get same_key known.numbers (lane_key lane) ≡ number_in lanes lane
+pub record AreNumbered (known : Lanes) (order : List Lane) : Type 0 where
+  pub lanes : known.lanes.items ≡ reverse order
+  pub numbers : (lane : Lane) → get same_key known.numbers (lane_key lane) ≡ number_in order lane
