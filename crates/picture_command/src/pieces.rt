@@ -44,7 +44,12 @@ pub(crate) fn give_lines<K: Sink>(
     give_all(sink, piece)
 }
 
-fn give_lanes<K: Sink>(sink: &mut K, known: &Lanes, order: &[Lane], piece: &mut Vec<u8>) -> Result<(), Failed>
+fn give_lanes<K: Sink>(
+    sink: &mut K,
+    known: &Lanes,
+    order: &[Lane],
+    piece: &mut Vec<u8>,
+) -> Result<(), Failed>
     requires { PIECE ≤ vec_capacity piece.old }
 
     ensures held { OnOk result ((lanes : List Lane) → AreNumbered known.now lanes

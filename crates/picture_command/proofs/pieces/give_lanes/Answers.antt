@@ -17,3 +17,8 @@ loop-lane-preserved g c =
       capacity = omega (arith, c.loop-lane.invariant.capacity, c.in_ok-make_room.ensures.capacity, c.hold_lane.ensures.capacity);
       not_fallen = omega (arith, c.loop-lane.invariant.not_fallen, c.in_ok-make_room.ensures.cause.not_fallen);
     }
+
+pub returns-in_err-make_room-clause-broke : goal.returns-in_err-make_room-clause-broke
+returns-in_err-make_room-clause-broke g c =
+    told_at_err c.from_residual.result (λ lanes numbered. broke_off _ _ _ _ _ _ _ (c.loop-lane.invariant.held lanes numbered)
+    c.in_err-make_room.ensures.broke (lines_parted (lane_text lanes) c.args.piece.now.items c.args.order.now c.loop-lane.lane-index))
