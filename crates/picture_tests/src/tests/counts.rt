@@ -47,7 +47,7 @@ const ROWS: [(&[u8], Counts); 3] = [
     ),
 ];
 
-fn counts(alloc: Global, trace: &[u8]) -> Result<Counts, Fail> {
+fn count(alloc: Global, trace: &[u8]) -> Result<Counts, Fail> {
     let entries = read_trace(alloc, trace)?;
     let events = events_of(alloc, &entries)?;
     let mut counts = Counts {
@@ -69,7 +69,7 @@ fn counts(alloc: Global, trace: &[u8]) -> Result<Counts, Fail> {
 #[test]
 fn a_picture_has_so_many_events(rt: HostRuntime) -> Result<(), Fail> {
     for (trace, wanted) in ROWS {
-        assert_eq!(rt; counts(rt.alloc(), trace)?, wanted);
+        assert_eq!(rt; count(rt.alloc(), trace)?, wanted);
     }
     Ok(())
 }

@@ -121,8 +121,7 @@ pub(super) const ODD_PICTURE: &[&str] = &[
 ];
 
 /// No entry.
-pub(super) const EMPTY: &[u8] =
-    b"trace 2\nend 0\n";
+pub(super) const EMPTY: &[u8] = b"trace 2\nend 0\n";
 
 /// Its picture.
 pub(super) const EMPTY_PICTURE: &[&str] = &[
