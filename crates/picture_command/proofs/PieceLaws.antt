@@ -1,5 +1,6 @@
 -- How what was given and what is held go on over the parts of a picture.
-use Rattle.std.proofs.Common.{◌≡◌, ◌<◌, ◌≤◌, ℕ, ◌+◌, List, [], ◌∷◌, ◌++◌, length, take, drop, get_or, Option, Some, None, refl, sym, ap, ◌∙◌}
+use Rattle.std.proofs.Common.{◌≡◌, ◌<◌, ◌≤◌, ℕ, ◌+◌, List, [], ◌∷◌, ◌++◌, length, take, drop, get_or, Option, Some}
+use Rattle.std.proofs.Common.{None, refl, sym, ap, ◌∙◌}
 use Rattle.std.proofs.Common.{append_assoc, reverse}
 use Rattle.std.specs.List.{flat_map}
 use Rattle.std.proofs.lemmas.List.{append-nil, flat_map_more, reverse-reverse, take_more, take-append-drop}
@@ -70,7 +71,8 @@ pub first_is : (head : List ℕ) (order names : List Lane) → head ≡ head_tex
     → head ++ flat_map (lane_text order) names ≡ first_text order
 first_is head order names is all = λ i. is i ++ flat_map (lane_text order) (all i)
 
-pub held_as : (first now : Option (List ℕ)) (held text other : List ℕ) → text ≡ other → IsHeld first now held text → IsHeld first now held other
+pub held_as : (first now : Option (List ℕ)) (held text other : List ℕ) → text ≡ other → IsHeld first now held text
+    → IsHeld first now held other
 held_as first now held text other is old = record { front = old.front; given = old.given; whole = old.whole ∙ is }
 
 -- what was drawn of all entries is their picture

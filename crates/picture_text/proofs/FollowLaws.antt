@@ -1,5 +1,6 @@
 -- What is kept along the entries goes on to stand for them.
-use Rattle.std.proofs.Common.{◌≡◌, ℕ, ◌+◌, ◌<◌, ◌∷◌, ◌++◌, List, Option, Some, None, length, refl, sym, ap, ◌∙◌, subst, arith, take, get_or, reverse, length-take}
+use Rattle.std.proofs.Common.{◌≡◌, ℕ, ◌+◌, ◌<◌, ◌∷◌, ◌++◌, List, Option, Some, None, length, refl, sym, ap, ◌∙◌}
+use Rattle.std.proofs.Common.{subst, arith, take, get_or, reverse, length-take}
 use Rattle.std.proofs.lemmas.List.{length-reverse}
 use Rattle.trace_text.proofs.EntryLaws.{newest_more}
 use Rattle.picture_text.specs.declared.events.PictureEvent.{PictureEvent}
@@ -34,7 +35,8 @@ follows_more old new past e follows stands leavings seats = record {
 }
 
 -- the pages that the next entry may move, by the tables and by the entries
-pages_alike : (known : Places) (past : List Entry) (change : Option Change) → Stands known past → pages_if known change ≡ pages_by past change
+pages_alike : (known : Places) (past : List Entry) (change : Option Change) → Stands known past → pages_if known change
+    ≡ pages_by past change
 pages_alike known past None stands = refl
 pages_alike known past (Some change) stands =
     λ i. let former = page_at_frame (stands.tenants (frame_changed change) i) in
@@ -53,7 +55,8 @@ steps_alike past e None = refl
 steps_alike past e (Some lane) = refl
 
 pub drawn_after : (past : List Entry) (e : Entry)
-    → drawn (length past) (touched_by past e) (seen_on past (touched_by past e)) (seen_on (e ∷ past) (touched_by past e)) ≡ events_after past e
+    → drawn (length past) (touched_by past e) (seen_on past (touched_by past e)) (seen_on (e ∷ past) (touched_by past e))
+    ≡ events_after past e
 drawn_after past e =
     let lanes = touched_by past e in
     λ i. marked (length past) lanes.actor marks.Does

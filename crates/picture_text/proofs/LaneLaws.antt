@@ -1,5 +1,6 @@
 -- The lanes of one event more.
-use Rattle.std.proofs.Common.{◌≡◌, ℕ, ◌+◌, ◌<◌, Bool, false, cond, if◌then◌else◌, List, [], ◌∷◌, ◌++◌, length, take, get_or, reverse, refl, sym}
+use Rattle.std.proofs.Common.{◌≡◌, ℕ, ◌+◌, ◌<◌, Bool, false, cond, if◌then◌else◌, List, [], ◌∷◌, ◌++◌, length, take}
+use Rattle.std.proofs.Common.{get_or, reverse, refl, sym}
 use Rattle.std.proofs.Common.{ap, ◌∙◌, subst, Option, Some, is_some, arith, length-append}
 use Rattle.std.proofs.lemmas.List.{take_more, reverse-append, length-reverse}
 use Rattle.std.specs.HashMap.{get}

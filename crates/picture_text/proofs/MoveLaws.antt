@@ -66,7 +66,8 @@ module _ (place : ℕ) (m l : Lane) where
       begun_append l ((((a ++ b) ++ c) ++ d) ++ e) f
       ∙ ap (λ (xs : List Begun). xs ++ begun_on l f) (begun_append l (((a ++ b) ++ c) ++ d) e
       ∙ ap (λ (xs : List Begun). xs ++ begun_on l e) (begun_append l ((a ++ b) ++ c) d
-      ∙ ap (λ (xs : List Begun). xs ++ begun_on l d) (begun_append l (a ++ b) c ∙ ap (λ (xs : List Begun). xs ++ begun_on l c) (begun_append l a b))))
+      ∙ ap (λ (xs : List Begun). xs ++ begun_on l d)
+      (begun_append l (a ++ b) c ∙ ap (λ (xs : List Begun). xs ++ begun_on l c) (begun_append l a b))))
 
   steps_miss : (a b : Open) → same_lane m l ≡ false → begun_on l (steps place m a b) ≡ []
   steps_miss a b h =
@@ -75,7 +76,8 @@ module _ (place : ℕ) (m l : Lane) where
       let inner = middle || not (same_spans a.inner b.inner) in
       begun_six (ends place m inner a.inner) (ends place m middle a.middle) (ends place m outer a.outer) (begins place m outer b.outer)
       (begins place m middle b.middle) (begins place m inner b.inner)
-      ∙ (λ i. ((((begun_ends inner a.inner i ++ begun_ends middle a.middle i) ++ begun_ends outer a.outer i) ++ begun_miss outer b.outer h i)
+      ∙ (λ i. ((((begun_ends inner a.inner i ++ begun_ends middle a.middle i) ++ begun_ends outer a.outer i) ++ begun_miss outer
+      b.outer h i)
       ++ begun_miss middle b.middle h i) ++ begun_miss inner b.inner h i)
 
   -- of a lane with an outer span alone
@@ -120,7 +122,8 @@ module _ (past : List Entry) (e : Entry) (g : Page) where
 
   page_miss : (o : Option Page) → is_page o g ≡ false → begun_on (lanes.Page g) (steps_on past e (page_lane o)) ≡ []
   page_miss None h = refl
-  page_miss (Some k) h = steps_miss (length past) (lanes.Page k) (lanes.Page g) (open_on past (lanes.Page k)) (open_on (e ∷ past) (lanes.Page k)) h
+  page_miss (Some k) h =
+      steps_miss (length past) (lanes.Page k) (lanes.Page g) (open_on past (lanes.Page k)) (open_on (e ∷ past) (lanes.Page k)) h
 
   frame_miss : (o : Option Frame) → begun_on (lanes.Page g) (steps_on past e (frame_lane o)) ≡ []
   frame_miss None = refl
@@ -130,7 +133,8 @@ module _ (past : List Entry) (e : Entry) (g : Page) where
   actor_miss : (actor : Actor) → begun_on (lanes.Page g) (steps_on past e (Some (lane_of actor))) ≡ []
   actor_miss actors.Builder = steps_miss (length past) lanes.Builder (lanes.Page g) (only None) (only None) refl
   actor_miss (actors.Cpu p) =
-      steps_miss (length past) (lanes.Processor p) (lanes.Page g) (open_on past (lanes.Processor p)) (open_on (e ∷ past) (lanes.Processor p)) refl
+      steps_miss (length past) (lanes.Processor p) (lanes.Page g) (open_on past (lanes.Processor p))
+      (open_on (e ∷ past) (lanes.Processor p)) refl
   actor_miss actors.Reclaimer = steps_miss (length past) lanes.Reclaimer (lanes.Page g) (only None) (only None) refl
 
   both_pages : (begun_on (lanes.Page g) (steps_on past e (page_lane (pages_by past (change_after past e)).former))
@@ -161,7 +165,8 @@ module _ (past : List Entry) (e : Entry) (g : Page) where
       let l = lanes.Page g in
       ap (λ (bs : List Begun). bs ++ begun_on l (((A ++ F) ++ G) ++ N)) (nothing (same_lane (lane_of e.actor) l))
       ∙ begun_append l ((A ++ F) ++ G) N
-      ∙ ap (λ (bs : List Begun). bs ++ begun_on l N) (begun_append l (A ++ F) G ∙ ap (λ (bs : List Begun). bs ++ begun_on l G) (begun_append l A F))
+      ∙ ap (λ (bs : List Begun). bs ++ begun_on l N)
+      (begun_append l (A ++ F) G ∙ ap (λ (bs : List Begun). bs ++ begun_on l G) (begun_append l A F))
       ∙ (λ i. ((actor_miss e.actor i ++ frame_miss (frame_in e.event) i) ++ begun_on l G) ++ begun_on l N)
       ∙ both_pages
     where

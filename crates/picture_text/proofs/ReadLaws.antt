@@ -50,7 +50,8 @@ module _ (past : List Entry) (e : Entry) where
         | inr other ↦
             let away = actor_stays e.actor p refl other in
             let still : stay past p.0 ≡ stay (e ∷ past) p.0
-            = sym (ap (λ (b : Bool). stay_after (move_by e.event) b past (stay past p.0)) away ∙ stay_stays (move_by e.event) past (stay past p.0)) in
+            = sym (ap (λ (b : Bool). stay_after (move_by e.event) b past (stay past p.0)) away
+            ∙ stay_stays (move_by e.event) past (stay past p.0)) in
             miss past e (lane_of e.actor) (lanes.Processor p) (stack_of (open_on past (lanes.Processor p))) other
             ∙ ap (λ (s : Option Stay). Some (stack_of (only (inside s)))) still
       ]
@@ -226,7 +227,8 @@ module _ (past : List Entry) (e : Entry) where
   pub read_after : (l : Lane)
       → read_events l (events_after past e) (Some (stack_of (open_on past l))) ≡ Some (stack_of (open_on (e ∷ past) l))
   read_after l =
-      ap (λ (o : Option (List Span)). read_events l (((steps_on past e (Some (lane_of e.actor)) ++ steps_on past e (frame_lane (frame_in e.event)))
+      ap (λ (o : Option (List Span)). read_events l
+      (((steps_on past e (Some (lane_of e.actor)) ++ steps_on past e (frame_lane (frame_in e.event)))
       ++ steps_on past e (page_lane (pages_by past (change_after past e)).former))
       ++ steps_on past e (page_lane (pages_by past (change_after past e)).named)) o)
       (read_does (lane_of e.actor) l (stack_of (open_on past l)))

@@ -4,7 +4,8 @@ use Rattle.sgx_rules.specs.declared.entries.Entry.{Entry}
 use Rattle.sgx_types.specs.declared.names.Page.{Page}
 use Rattle.trace_places.specs.declared.change.Change.{Change}
 use Rattle.trace_places.specs.declared.change.Tenant.TheVariants.{Has, Awaits}
-use Rattle.trace_places.specs.Places.{change_after, frame_changed, tenant, frames_after, frames, least, gone_of, gone_after, version_by, gone_last}
+use Rattle.trace_places.specs.Places.{change_after, frame_changed, tenant, frames_after, frames, least, gone_of}
+use Rattle.trace_places.specs.Places.{gone_after, version_by, gone_last}
 use Rattle.trace_places.specs.Places.{where_by, place_of}
 use Rattle.trace_places.specs.inner.Tables.{is_page, page_at_frame, page_named}
 use Rattle.trace_places.proofs.StandLaws.{frames_made}
@@ -30,7 +31,8 @@ place_kept past e change g is a b =
 -- .. and where nothing changes, none
 place_still : (past : List Entry) (e : Entry) (g : Page) → change_after past e ≡ None → place_of (e ∷ past) g ≡ place_of past g
 place_still past e g is =
-    λ i. where_by (least (frames_after (is i) (Has g) (frames past (Has g)))) (least (frames_after (is i) (Awaits g) (frames past (Awaits g))))
+    λ i. where_by (least (frames_after (is i) (Has g) (frames past (Has g))))
+    (least (frames_after (is i) (Awaits g) (frames past (Awaits g))))
     (gone_after (is i) g (gone_last past g))
 
 -- the page that a change names, before it is known whether its frame has it

@@ -51,7 +51,8 @@ module _ (place : ℕ) (lane : Lane) where
       let outer = not (same_spans a.outer b.outer) in
       let middle = outer || not (same_spans a.middle b.middle) in
       let inner = middle || not (same_spans a.inner b.inner) in
-      joined _ _ (joined _ _ (joined _ _ (joined _ _ (joined _ _ (ends_lie inner a.inner) (ends_lie middle a.middle)) (ends_lie outer a.outer))
+      joined _ _ (joined _ _
+      (joined _ _ (joined _ _ (joined _ _ (ends_lie inner a.inner) (ends_lie middle a.middle)) (ends_lie outer a.outer))
       (begins_lie outer b.outer)) (begins_lie middle b.middle)) (begins_lie inner b.inner)
 
 on_lie : (past : List Entry) (e : Entry) (lane : Option Lane) → Lie (length past + 1) (length past + 1) (steps_on past e lane)

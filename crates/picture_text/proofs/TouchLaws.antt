@@ -57,7 +57,8 @@ module _ (past : List Entry) (e : Entry) where
   miss_page (Some g) l st h = miss (lanes.Page g) l st (h g)
 
 -- four parts one behind the other
-pub read_four : (l : Lane) (a b c d : List PictureEvent) (o oa ob oc z : Option (List Span)) → read_events l a o ≡ oa → read_events l b oa ≡ ob
+pub read_four : (l : Lane) (a b c d : List PictureEvent) (o oa ob oc z : Option (List Span)) → read_events l a o ≡ oa
+    → read_events l b oa ≡ ob
     → read_events l c ob ≡ oc → read_events l d oc ≡ z → read_events l (((a ++ b) ++ c) ++ d) o ≡ z
 read_four l a b c d o oa ob oc z ha hb hc hd =
     read_append l ((a ++ b) ++ c) d o

@@ -21,4 +21,5 @@ loop-event-preserved g c =
 pub returns-in_err-make_room-clause-broke : goal.returns-in_err-make_room-clause-broke
 returns-in_err-make_room-clause-broke g c =
     told_at_err c.from_residual.result (λ lanes numbered. broke_off _ _ _ _ _ _ _ (c.loop-event.invariant.held lanes numbered)
-    c.in_err-make_room.ensures.broke (lines_parted (event_text c.args.entries.now lanes) c.args.piece.now.items c.args.events.now c.loop-event.event-index))
+    c.in_err-make_room.ensures.broke
+    (lines_parted (event_text c.args.entries.now lanes) c.args.piece.now.items c.args.events.now c.loop-event.event-index))

@@ -26,7 +26,8 @@ returns-in_err-give_events-clause-broke g c =
     let head = c.print_head.ensures.text ∙ ap (λ (t : List ℕ). t ++ head_text) c.requires.empty in
     broke_off _ _ _ _ (second_text entries order drawn) (tail_text (length entries)) _
     (held_more _ _ _ (flat_map (event_text entries order) drawn) (first_text order)
-    (held_as _ _ _ _ (first_text order) (first_is _ order _ head (c.as_slice.ensures order numbered)) (c.in_ok-give_lanes.ensures.held order numbered)))
+    (held_as _ _ _ _ (first_text order) (first_is _ order _ head (c.as_slice.ensures order numbered))
+    (c.in_ok-give_lanes.ensures.held order numbered)))
     (c.in_err-give_events.ensures.broke order numbered) (text_ended entries order drawn))
 
 pub returns-in_err-make_room-clause-broke : goal.returns-in_err-make_room-clause-broke
@@ -37,7 +38,8 @@ returns-in_err-make_room-clause-broke g c =
     let head = c.print_head.ensures.text ∙ ap (λ (t : List ℕ). t ++ head_text) c.requires.empty in
     broke_off _ _ _ _ (second_text entries order drawn) (tail_text (length entries)) _
     (held_on _ _ _ _ _ (first_text order) (flat_map (event_text entries order) drawn)
-    (held_as _ _ _ _ (first_text order) (first_is _ order _ head (c.as_slice.ensures order numbered)) (c.in_ok-give_lanes.ensures.held order numbered))
+    (held_as _ _ _ _ (first_text order) (first_is _ order _ head (c.as_slice.ensures order numbered))
+    (c.in_ok-give_lanes.ensures.held order numbered))
     (c.in_ok-give_events.ensures.held order numbered))
     c.in_err-make_room.ensures.broke (text_ended entries order drawn))
 
@@ -50,7 +52,8 @@ returns-clause-gave g c =
     held_given _ _ _ _ _
     (held_line _ _ _ _ _ _ _ (second_text entries order drawn) _
     (held_on _ _ _ _ _ (first_text order) (flat_map (event_text entries order) drawn)
-    (held_as _ _ _ _ (first_text order) (first_is _ order _ head (c.as_slice.ensures order numbered)) (c.in_ok-give_lanes.ensures.held order numbered))
+    (held_as _ _ _ _ (first_text order) (first_is _ order _ head (c.as_slice.ensures order numbered))
+    (c.in_ok-give_lanes.ensures.held order numbered))
     (c.in_ok-give_events.ensures.held order numbered))
     c.in_ok-make_room.ensures.held c.hold_tail.ensures (text_ended entries order drawn))
     (gave ∙ ap (followed_by (g.K.Sink.given c.make_room.new.sink)) c.deref.ensures.value))
@@ -65,7 +68,8 @@ returns-clause-broke g c =
     held_broke _ _ _ _ _
     (held_line _ _ _ _ _ _ _ (second_text entries order drawn) _
     (held_on _ _ _ _ _ (first_text order) (flat_map (event_text entries order) drawn)
-    (held_as _ _ _ _ (first_text order) (first_is _ order _ head (c.as_slice.ensures order numbered)) (c.in_ok-give_lanes.ensures.held order numbered))
+    (held_as _ _ _ _ (first_text order) (first_is _ order _ head (c.as_slice.ensures order numbered))
+    (c.in_ok-give_lanes.ensures.held order numbered))
     (c.in_ok-give_events.ensures.held order numbered))
     c.in_ok-make_room.ensures.held c.hold_tail.ensures (text_ended entries order drawn))
     (rw c.deref.ensures.value at part))

@@ -22,7 +22,8 @@ returns-in-Begins-clause-text c = λ lanes numbered.
     pushed_six o c.write_parts.new.onto.items c.write_lane.new.onto.items c.write_parts-in-Begins.new.onto.items
     c.write_span_name.new.onto.items c.write_parts-in-Begins-2.new.onto.items c.write_cause.new.onto.items
     lead on (time ++ (decimal (event.place + 1) ++ name)) named end why
-    c.write_parts.ensures.text (c.write_lane.ensures.text lanes numbered) c.write_parts-in-Begins.ensures.text c.write_span_name.ensures.text
+    c.write_parts.ensures.text (c.write_lane.ensures.text lanes numbered) c.write_parts-in-Begins.ensures.text
+    c.write_span_name.ensures.text
     c.write_parts-in-Begins-2.ensures.text c.write_cause.ensures.text
     ∙ ap (λ (line : List ℕ). o ++ line) (line_parts lead on time (decimal (event.place + 1)) name named end why)
     ∙ ap (λ (mark : Mark). o ++ mark_text lanes c.args.entry.now event.place event.lane mark) (sym c.in-Begins.is)
@@ -41,7 +42,8 @@ returns-in-Does-clause-text c = λ lanes numbered.
     pushed_six o c.write_parts-in-Does.new.onto.items c.write_lane-in-Does.new.onto.items c.write_parts-in-Does-2.new.onto.items
     c.write_event_name.new.onto.items c.write_parts-in-Does-3.new.onto.items c.write_cause-in-Does.new.onto.items
     lead on (time ++ (decimal event.place ++ name)) named end why
-    c.write_parts-in-Does.ensures.text (c.write_lane-in-Does.ensures.text lanes numbered) c.write_parts-in-Does-2.ensures.text c.write_event_name.ensures.text
+    c.write_parts-in-Does.ensures.text (c.write_lane-in-Does.ensures.text lanes numbered) c.write_parts-in-Does-2.ensures.text
+    c.write_event_name.ensures.text
     c.write_parts-in-Does-3.ensures.text c.write_cause-in-Does.ensures.text
     ∙ ap (λ (line : List ℕ). o ++ line) (line_parts lead on time (decimal event.place) name named end why)
     ∙ ap (λ (mark : Mark). o ++ mark_text lanes c.args.entry.now event.place event.lane mark) (sym c.in-Does.is)

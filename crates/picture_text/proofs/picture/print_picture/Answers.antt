@@ -12,7 +12,8 @@ returns c =
     let order = lanes_of drawn in
     let numbered = c.in_ok-known.ensures in
     pictured entries drawn c.print_tail.new.onto.items (c.deref.ensures.value ∙ c.in_ok-events.ensures)
-    (whole entries order drawn c.print_head.new.onto.items c.push_lanes.new.text.items c.push_events.new.text.items c.print_tail.new.onto.items
+    (whole entries order drawn c.print_head.new.onto.items c.push_lanes.new.text.items c.push_events.new.text.items
+    c.print_tail.new.onto.items
     (c.print_head.ensures.text ∙ ap (λ t. t ++ head_text) c.in_ok-text.ensures.items)
     (c.in_ok-push_lanes.ensures order numbered ∙ ap (λ ls. c.print_head.new.onto.items ++ flat_map (lane_text order) ls)
     (c.as_slice.ensures order numbered))
