@@ -1,11 +1,11 @@
 -- How what was given and what is held go on over the parts of a picture.
-use Rattle.std.proofs.Common.{◌≡◌, ◌<◌, ◌≤◌, ℕ, ◌+◌, List, [], ◌∷◌, ◌++◌, length, take, drop, get_or, Option, Some}
+use Rattle.std.proofs.Common.{◌≡◌, ◌<◌, ℕ, ◌+◌, List, [], ◌++◌, length, take, drop, get_or, Option, Some}
 use Rattle.std.proofs.Common.{None, refl, sym, ap, ◌∙◌}
 use Rattle.std.proofs.Common.{append_assoc, reverse}
 use Rattle.std.specs.List.{flat_map}
 use Rattle.std.proofs.lemmas.List.{append-nil, flat_map_more, reverse-reverse, take_more, take-append-drop}
 use Rattle.std.proofs.lemmas.Grind.{flat_map-append}
-use Rattle.io_edges.specs.Sinks.{followed_by, GivesPart}
+use Rattle.io_edges.specs.Sinks.{GivesPart}
 use Rattle.sgx_rules.specs.declared.entries.Entry.{Entry}
 use Rattle.trace_pieces.specs.inner.Held.{IsHeld}
 use Rattle.trace_pieces.proofs.HeldLaws.{broke_off, held_more, held_then}

@@ -8,17 +8,14 @@ use Rattle.sgx_rules.specs.declared.entries.Entry.{Entry}
 use Rattle.sgx_rules.specs.Processors.{Stay, move_by, is_by, stay_after, stay}
 use Rattle.trace_places.specs.declared.change.Change.{Change}
 use Rattle.trace_places.specs.declared.places.Places.{Places}
-use Rattle.trace_places.specs.Places.{change_by, change_after, frame_changed, tenant}
+use Rattle.trace_places.specs.Places.{change_by, change_after, frame_changed}
 use Rattle.trace_places.specs.inner.Tables.{Stands, may_move, pages_if, page_at_frame, page_named, other_than}
 use Rattle.picture_text.specs.declared.events.Lane.{Lane}
-use Rattle.picture_text.specs.declared.leaving.Leaving.{Leaving}
-use Rattle.picture_text.specs.declared.leaving.Leavings.{Leavings}
 use Rattle.picture_text.specs.declared.open_spans.OpenSpans.{OpenSpans}
-use Rattle.picture_text.specs.declared.seats.Seats.{Seats}
 use Rattle.picture_text.specs.declared.events.Mark.TheVariants as marks
 use Rattle.picture_text.specs.Events.{marked, pages_by, steps_on, events_after, events_of}
 use Rattle.picture_text.specs.Open.{inside}
-use Rattle.picture_text.specs.inner.Following.{leaving_in, leaving_after, leaving_of, seat_in, Follows, open_if}
+use Rattle.picture_text.specs.inner.Following.{leaving_in, leaving_after, seat_in, Follows, open_if}
 use Rattle.picture_text.specs.inner.Steps.{steps_if, touched_by, seen_on, drawn}
 use Rattle.picture_text.proofs.FrameLaws.{leaving_more}
 

@@ -1,9 +1,7 @@
 -- What an entry leaves as it is: the frames that it is not on, and the processors that it is not by.
-use Rattle.std.proofs.Common.{◌≡◌, ℕ, ◌==◌, ◌&&◌, ◌||◌, not, Bool, true, false, if◌then◌else◌, List, [], ◌∷◌, Option, Some, None}
-use Rattle.std.proofs.Common.{refl, sym, ap, ◌∙◌}
-use Rattle.sgx_rules.specs.declared.entries.Action.{Action}
+use Rattle.std.proofs.Common.{◌≡◌, ℕ, ◌==◌, ◌&&◌, ◌||◌, not, false, List, [], ◌∷◌, Option, Some, None}
+use Rattle.std.proofs.Common.{refl}
 use Rattle.sgx_rules.specs.declared.entries.Action.TheVariants as actions
-use Rattle.sgx_rules.specs.declared.entries.Answer.{Answer}
 use Rattle.sgx_rules.specs.declared.entries.Answer.TheVariants as answers
 use Rattle.sgx_rules.specs.declared.entries.Entry.{Entry}
 use Rattle.sgx_rules.specs.declared.entries.Event.{Event}

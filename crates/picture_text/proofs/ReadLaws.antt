@@ -1,5 +1,5 @@
 -- What is read back from a lane is what is open on it.
-use Rattle.std.proofs.Common.{◌≡◌, ℕ, ◌==◌, Bool, true, false, if◌then◌else◌, List, [], ◌∷◌, ◌++◌, length, Option, Some, None}
+use Rattle.std.proofs.Common.{◌≡◌, Bool, true, false, if◌then◌else◌, List, [], ◌∷◌, ◌++◌, Option, Some, None}
 use Rattle.std.proofs.Common.{refl, sym, ap, ◌∙◌, inl, inr}
 use Rattle.std.proofs.lemmas.Bool.{false≢true}
 use Rattle.sgx_rules.specs.declared.entries.Entry.{Entry}
@@ -10,8 +10,8 @@ use Rattle.sgx_types.specs.declared.names.Cpu.{Cpu}
 use Rattle.sgx_types.specs.declared.names.Frame.{Frame}
 use Rattle.sgx_types.specs.declared.names.Page.{Page}
 use Rattle.sgx_types.proofs.Truths.{tested}
-use Rattle.trace_places.specs.Places.{change_after, tenant, place_of}
-use Rattle.trace_places.specs.inner.Tables.{is_page, page_named, other_than}
+use Rattle.trace_places.specs.Places.{change_after, tenant}
+use Rattle.trace_places.specs.inner.Tables.{is_page, page_named}
 use Rattle.trace_places.specs.declared.change.Change.{Change}
 use Rattle.trace_places.specs.declared.moves.Where.{Where}
 use Rattle.trace_places.proofs.MoveLaws.{other_true, other_false}
@@ -20,7 +20,7 @@ use Rattle.picture_text.specs.declared.events.Lane.TheVariants as lanes
 use Rattle.picture_text.specs.declared.events.Open.{Open}
 use Rattle.picture_text.specs.declared.events.Span.{Span}
 use Rattle.picture_text.specs.declared.events.Span.TheVariants as spans
-use Rattle.picture_text.specs.Events.{marked, lane_of, frame_in, frame_lane, page_lane, pages_by, steps_on, events_after, events_of}
+use Rattle.picture_text.specs.Events.{lane_of, frame_in, frame_lane, page_lane, pages_by, steps_on, events_after, events_of}
 use Rattle.picture_text.specs.Lanes.{same_lane}
 use Rattle.picture_text.specs.Open.{inside, sits, stands, when_so, only, open_on, stack_of}
 use Rattle.picture_text.specs.Reading.{read_events}

@@ -1,11 +1,11 @@
 -- Where a page is that an entry does not move.
-use Rattle.std.proofs.Common.{◌≡◌, ℕ, ◌∷◌, false, List, Option, Some, None, refl, sym, ap, ◌∙◌}
+use Rattle.std.proofs.Common.{◌≡◌, ◌∷◌, false, List, Option, Some, None, sym, ap, ◌∙◌}
 use Rattle.sgx_rules.specs.declared.entries.Entry.{Entry}
 use Rattle.sgx_types.specs.declared.names.Page.{Page}
 use Rattle.trace_places.specs.declared.change.Change.{Change}
 use Rattle.trace_places.specs.declared.change.Tenant.TheVariants.{Has, Awaits}
-use Rattle.trace_places.specs.Places.{change_after, frame_changed, tenant, frames_after, frames, least, gone_of}
-use Rattle.trace_places.specs.Places.{gone_after, version_by, gone_last}
+use Rattle.trace_places.specs.Places.{change_after, frame_changed, tenant, frames_after, frames, least}
+use Rattle.trace_places.specs.Places.{gone_after, gone_last}
 use Rattle.trace_places.specs.Places.{where_by, place_of}
 use Rattle.trace_places.specs.inner.Tables.{is_page, page_at_frame, page_named}
 use Rattle.trace_places.proofs.StandLaws.{frames_made}

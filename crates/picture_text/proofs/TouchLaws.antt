@@ -1,5 +1,5 @@
 -- Which lanes are one, and what is read on a lane from the steps of another one.
-use Rattle.std.proofs.Common.{◌≡◌, ℕ, ◌==◌, Bool, true, false, List, [], ◌∷◌, ◌++◌, length, Option, Some, None, refl, sym, ap, ◌∙◌}
+use Rattle.std.proofs.Common.{◌≡◌, true, false, List, ◌∷◌, ◌++◌, length, Option, Some, None, refl, sym, ap, ◌∙◌}
 use Rattle.std.proofs.lemmas.Bool.{false≢true, eqb-true}
 use Rattle.sgx_types.proofs.Pages.{same_pages}
 use Rattle.sgx_rules.specs.declared.entries.Entry.{Entry}

@@ -1,5 +1,5 @@
 -- The spans that are open on the lanes of a picture behind entries, which stand newest first. No rule is asked of them.
-use Rattle.std.specs.Prelude.{◌==◌, ◌&&◌, Bool, true, false, if◌then◌else◌, List, [], ◌++◌, Option, Some, None, option_to_list}
+use Rattle.std.specs.Prelude.{◌==◌, ◌&&◌, Bool, true, false, if◌then◌else◌, List, ◌++◌, Option, Some, None, option_to_list}
 use Rattle.sgx_rules.specs.declared.entries.Entry.{Entry}
 use Rattle.sgx_rules.specs.Frames.{is_blocked, is_sealing}
 use Rattle.sgx_rules.specs.Processors.{Stay, stay}

@@ -1,4 +1,4 @@
-use Rattle.std.proofs.Common.{◌≡◌, ℕ, List, ap, ◌∙◌, subst, reverse}
+use Rattle.std.proofs.Common.{ℕ, List, ap, ◌∙◌, subst}
 use Rattle.io_edges.specs.Sinks.{followed_by, GivesPart}
 use Rattle.picture_text.specs.Lanes.{lanes_of}
 use Rattle.picture_command.proofs.PieceLaws.{given_picture}

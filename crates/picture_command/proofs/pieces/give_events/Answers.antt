@@ -1,6 +1,4 @@
-use Rattle.std.proofs.Common.{◌<◌, ◌≤◌, ◌++◌, length, take, drop, sym, ap, ◌∙◌, arith}
-use Rattle.std.specs.List.{flat_map}
-use Rattle.std.proofs.lemmas.List.{take_all}
+use Rattle.std.proofs.Common.{◌<◌, length, arith}
 use Rattle.io_edges.proofs.Read.{told_at_err}
 use Rattle.picture_text.specs.PictureText.{event_text}
 use Rattle.trace_pieces.proofs.HeldLaws.{broke_off, held_line}

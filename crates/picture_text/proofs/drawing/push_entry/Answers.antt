@@ -1,7 +1,7 @@
-use Rattle.std.proofs.Common.{◌≡◌, ◌∷◌, ◌++◌, List, ap, ◌∙◌}
+use Rattle.std.proofs.Common.{◌∷◌, ◌++◌, List, ap, ◌∙◌}
 use Rattle.std.proofs.lemmas.Result.{on_ok_weaker}
 use Rattle.picture_text.specs.declared.events.PictureEvent.{PictureEvent}
-use Rattle.picture_text.specs.inner.Steps.{drawn, seen_on, touched_by}
+use Rattle.picture_text.specs.inner.Steps.{drawn, seen_on}
 use Rattle.picture_text.proofs.FollowLaws.{drawn_after}
 use Rattle.picture_text.proofs.drawing.push_entry.Goals as goal
 

@@ -2,7 +2,6 @@ use Rattle.std.proofs.Common.{◌++◌, ◌+◌, ℕ, List, ap, sym, ◌∙◌}
 use Rattle.std.specs.Prelude.{codes}
 use Rattle.std.specs.Fmt.{decimal}
 use Rattle.picture_text.specs.declared.events.Mark.{Mark}
-use Rattle.picture_text.specs.declared.events.Mark.TheVariants as marks
 use Rattle.picture_text.specs.PictureText.{cause, event_words, mark_text, on_lane, shown, span_words}
 use Rattle.picture_text.proofs.AppendLaws.{pushed_six}
 use Rattle.picture_text.proofs.TextLaws.{line_parts}

@@ -1,4 +1,4 @@
-use Rattle.std.proofs.Common.{◌≡◌, ◌||◌, not, Bool, ◌++◌, ap, ◌∙◌}
+use Rattle.std.proofs.Common.{◌||◌, not, Bool, ◌++◌, ap, ◌∙◌}
 use Rattle.picture_text.specs.Events.{ends, begins}
 use Rattle.picture_text.specs.Open.{same_spans}
 use Rattle.picture_text.proofs.AppendLaws.{pushed_six}
