@@ -42,12 +42,12 @@ not_gone_by : (went : Option Gone) (g : Page) (before : Option ℕ) → is_page 
 not_gone_by None g before h = refl
 not_gone_by (Some went) g before h = rw h refl
 
-not_gone : (change : Change) (g : Page) (before : Option ℕ) → is_page (page_named change) g ≡ false
+pub not_gone : (change : Change) (g : Page) (before : Option ℕ) → is_page (page_named change) g ≡ false
     → version_by (gone_of change) g before ≡ before
 not_gone (Puts f t) g before h = refl
 not_gone (Empties f went) g before h = not_gone_by went g before h
 
-frames_stay : (change : Change) (former : Option Tenant) (t : Tenant) (ns : List ℕ) → is_page (page_at_frame former) (page_of t) ≡ false
+pub frames_stay : (change : Change) (former : Option Tenant) (t : Tenant) (ns : List ℕ) → is_page (page_at_frame former) (page_of t) ≡ false
     → is_page (page_named change) (page_of t) ≡ false → frames_with change former t ns ≡ ns
 frames_stay change former t ns a b =
     rw (other_tenant (tenant_of change) t (not_put change (page_of t) b), other_tenant former t a) refl
@@ -67,7 +67,7 @@ place_stays old new change g makes a b =
 
 -- ---- what is told
 
-same_where-refl : (w : Where) → same_where w w ≡ true
+pub same_where-refl : (w : Where) → same_where w w ≡ true
 same_where-refl Nowhere = refl
 same_where-refl (At f) = eq-eqb f.0 f.0 refl
 same_where-refl (Loading f) = eq-eqb f.0 f.0 refl
@@ -116,11 +116,11 @@ unless_false (Some a) page g h =
     ]
 
 -- a page is told of once
-other_true : (former named : Option Page) (g : Page) → is_page former g ≡ true → is_page (other_than former named) g ≡ false
+pub other_true : (former named : Option Page) (g : Page) → is_page former g ≡ true → is_page (other_than former named) g ≡ false
 other_true former None g h = refl
 other_true former (Some page) g h = unless_true former page g h
 
-other_false : (former named : Option Page) (g : Page) → is_page former g ≡ false
+pub other_false : (former named : Option Page) (g : Page) → is_page former g ≡ false
     → is_page (other_than former named) g ≡ is_page named g
 other_false former None g h = refl
 other_false former (Some page) g h = unless_false former page g h

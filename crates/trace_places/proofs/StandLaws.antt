@@ -32,7 +32,7 @@ frames_left true n here ns h = refl
 frames_left false n true ns h = refl
 frames_left false n false ns h = sym (h refl)
 
-frames_made : (past : List Entry) (change : Change) (t : Tenant)
+pub frames_made : (past : List Entry) (change : Change) (t : Tenant)
     → frames_with change (tenant past (frame_changed change)) t (frames past t) ≡ frames_after (Some change) t (frames past t)
 frames_made past change t =
     let f = frame_changed change in

@@ -10,7 +10,7 @@ use sgx_types::names::{Frame, Page};
 
 /// The page that a frame has, or the page that it awaits.
 #[derive(Clone, Copy, Debug, PartialEq, Eq)]
-pub(crate) enum Tenant {
+pub enum Tenant {
     Has(Page),
     Awaits(Page),
 }
@@ -28,14 +28,14 @@ impl Tenant {
 
 /// A page that went out, and the version under which it is sealed.
 #[derive(Clone, Copy, Debug, PartialEq, Eq)]
-pub(crate) struct Gone {
+pub struct Gone {
     pub page: Page,
     pub version: u64,
 }
 
 /// A frame has a tenant from now on, or nobody's page; in that case a page may have gone out.
 #[derive(Clone, Copy, Debug, PartialEq, Eq)]
-pub(crate) enum Change {
+pub enum Change {
     Puts { frame: Frame, tenant: Tenant },
     Empties { frame: Frame, gone: Option<Gone> },
 }

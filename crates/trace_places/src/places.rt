@@ -3,7 +3,7 @@
 ghost use Rattle.std.specs.Prelude.{◌≡◌, ◌≤◌, ◌∷◌, [], Some, List, IfOk, OnOk, OnErr, option_to_list};
 ghost use Rattle.sgx_rules.specs.declared.entries.Entry.{Entry};
 ghost use Rattle.sgx_types.specs.declared.names.Page.{Page};
-ghost use Rattle.trace_places.specs.Places.{place_of, moved, moved_by, version_by};
+ghost use Rattle.trace_places.specs.Places.{place_of, moved, moved_by, tenant, version_by};
 ghost use Rattle.trace_places.specs.Moves.{moves_of, AreMovesOf};
 ghost use Rattle.trace_places.specs.inner.Tables.{page_key, place_in, seen_in, move_in, Stands, HasRoom, HasRoomToMake, Makes};
 ghost use Rattle.trace_places.specs.inner.Tables.{page_at_frame, pages_in, may_move, tenant_in, gone_in};
@@ -74,6 +74,14 @@ impl Places {
             Some(version) => Where::Sealed { version: *version },
             None => Where::Nowhere,
         }
+    }
+
+    /// The page that a frame has or awaits.
+    pub fn tenant(&self, frame: Frame) -> Option<Tenant>
+        ensures tables { result ≡ tenant_in self.now frame.0 }
+        ensures held { (past : List Entry) → Stands self.now past → result ≡ tenant past frame.0 }
+    {
+        self.tenants.get(&frame.0).copied()
     }
 
     /// Takes an entry more, and tells the moves that it makes. Refused memory leaves all as it was.

@@ -1,0 +1,13 @@
+pub mod AppendLaws
+pub mod TextLaws
+pub mod StepLaws
+pub mod FrameLaws
+pub mod LeavingLaws
+pub mod StayLaws
+pub mod TouchLaws
+pub mod ReadLaws
+pub mod MoveLaws
+pub mod TimeLaws
+pub mod FollowLaws
+pub mod LaneLaws
+pub mod PartLaws

@@ -1,0 +1,10 @@
+use Rattle.std.proofs.Common.{◌≡◌, reverse, take}
+use Rattle.picture_text.specs.Events.{events_of}
+use Rattle.picture_text.specs.inner.Following.{Follows}
+use Rattle.picture_text.proofs.drawing.events_of.Given as goal
+
+abbrev pub invariant-loop-place : goal.invariant-loop-place
+invariant-loop-place l = record {
+  follows : Follows l.spans (reverse (take l.place l.entries));
+  events : l.events.items ≡ events_of (reverse (take l.place l.entries));
+}

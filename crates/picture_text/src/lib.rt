@@ -1,0 +1,15 @@
+// A picture of a trace, as text in the Trace Event Format: lanes of processors, frames, pages and the driver, and what begins, ends and
+// happens on them.
+#![tactic(auto)]
+
+pub mod drawing;
+pub mod events;
+pub mod lanes;
+pub mod laws;
+mod leaving;
+pub mod lines;
+mod names;
+mod open_spans;
+pub mod picture;
+mod seats;
+mod steps;
