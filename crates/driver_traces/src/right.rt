@@ -1,4 +1,5 @@
-//! The right traces: Script, Age and Kick hold at each entry, and Refusal, Flat, Fits, Stale, Evict and Fresh; and at the end all is done.
+//! The right traces: Script, Age and Kick hold at each entry, and, of each but that whose SECS leaves, Refusal, Flat, Fits, Stale, Evict
+//! and Fresh. At the end of each but that of many processors all is done.
 
 ghost use Rattle.std.specs.Prelude.{◌≡◌, true};
 ghost use Rattle.driver_rules.specs.inner.Decided.{is_ended};
