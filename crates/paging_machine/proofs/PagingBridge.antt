@@ -8,7 +8,6 @@ use Rattle.std.specs.Option.{option_and_then}
 use Rattle.std.proofs.lemmas.Bool.{eqb-true, false≢true, leb-false, ltb-false, not-false}
 use Rattle.sgx_types.specs.declared.names.Page.{Page}
 use Rattle.sgx_types.specs.declared.names.SlotAt.{SlotAt}
-use Rattle.sgx_types.specs.declared.names.Kind.{Kind}
 use Rattle.sgx_types.specs.declared.names.Kind.TheVariants as kinds
 use Rattle.sgx_rules.specs.Frames.{IsLoading, enclave_in, is_free}
 use Rattle.sgx_types.specs.Pages.{is_secs_page, is_va_page}

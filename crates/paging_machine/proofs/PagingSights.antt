@@ -7,14 +7,13 @@ use Rattle.std.proofs.Common.{refl, sym, ap, subst, ◌∙◌, arith, Option, So
 use Rattle.std.specs.Prelude.{count_by, nat_lt, nat_le, slice_get, slice_index_or}
 use Rattle.std.specs.List.{list_any}
 use Rattle.std.specs.Option.{option_and_then, IsSomeAnd, option_map}
-use Rattle.std.proofs.lemmas.Bool.{ne_eqb, eqb-true, false≢true}
+use Rattle.std.proofs.lemmas.Bool.{ne_eqb, false≢true}
 use Rattle.std.proofs.lemmas.List.Sums.{sum_by-cons}
 use Rattle.sgx_types.specs.declared.names.Page.{Page}
 use Rattle.sgx_types.specs.declared.names.SlotAt.{SlotAt}
 use Rattle.sgx_types.specs.declared.names.Kind.{Kind}
 use Rattle.sgx_types.specs.declared.names.Kind.TheVariants as kinds
 use Rattle.sgx_types.specs.declared.names.Perm.{Perm}
-use Rattle.sgx_types.specs.declared.record.Header.{Header}
 use Rattle.sgx_rules.specs.declared.refusals.Refusal.{Refusal}
 use Rattle.sgx_types.specs.Counts.{any_below, count_below}
 use Rattle.sgx_rules.specs.Epochs.{epoch_of}
@@ -35,7 +34,6 @@ use Rattle.secs_state.specs.inner.Secs.{SecsState, added_at, page_count}
 use Rattle.secs_state.specs.inner.Table.{enclave_at}
 use Rattle.secs_state.proofs.Columns.{added_below}
 use Rattle.sgx_rules.specs.inner.Starts.{BareStart}
-use Rattle.sgx_types.proofs.Truths.{both_true}
 use Rattle.paging_laws.specs.inner.Stands.{IsFramed}
 use Rattle.paging_laws.specs.inner.Guarded.{IsGuarded, WritesOut, Loads}
 use Rattle.track_epoch.specs.inner.Tracking.{Tracking}
@@ -380,14 +378,3 @@ pub loads_in : (s : State) (f : ℕ) (start : BareStart) → IsGuarded s → is_
 loads_in s f start guarded loads opened =
     let w = waits_for (s.content f) loads in
     let told : start.loads ≡ Some w.0 = rw opened at (guarded.loaded f w.0 w.1) in ap is_some told
-
--- two headers that a test finds alike
-pub same_headers : (a b : Header) → ((a.enclave == b.enclave) && ((a.address == b.address) && (a.flags == b.flags))) ≡ true → a ≡ b
-same_headers a b h =
-    let first = both_true (a.enclave == b.enclave) ((a.address == b.address) && (a.flags == b.flags)) h in
-    let rest = both_true (a.address == b.address) (a.flags == b.flags) first.1 in
-    λ i. record {
-      enclave = eqb-true a.enclave b.enclave first.0 i;
-      address = eqb-true a.address b.address rest.0 i;
-      flags = eqb-true a.flags b.flags rest.1 i;
-    }

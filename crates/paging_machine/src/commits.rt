@@ -266,22 +266,13 @@ impl Machine {
         let key = self.key;
         let start = self.start(frame);
         let header = self.header(frame);
-        if work.key != key {
-            return false;
-        }
-        if work.version != start.version {
-            return false;
-        }
-        if work.rec.header != header {
-            return false;
-        }
         let EntryView::Valid { kind, .. } = self.epc.entry(frame) else {
             unreachable!();
         };
         if !is_own(kind) {
             return false;
         }
-        work.plain.as_slice() == self.epc.bytes(frame).as_slice()
+        work.is_of(key, start.version, header, self.epc.bytes(frame).as_slice())
     }
 
     // The opened work of the started ELDU of a frame.

@@ -1,6 +1,6 @@
 //! Sealing a page.
 
-ghost use Rattle.std.specs.Prelude.{◌≡◌, IfOk, length};
+ghost use Rattle.std.specs.Prelude.{◌≡◌, IfOk, length, true};
 ghost use Rattle.seal_record.specs.Cipher.{sealed};
 ghost use Rattle.sgx_types.specs.Layouts.{zeros};
 
@@ -53,6 +53,27 @@ impl SealWork {
             plain: vec![in alloc; 0; 4096]?,
             space: vec![in alloc; 0; 4096]?,
         })
+    }
+}
+
+impl SealedWork {
+    /// Whether this was sealed of these bytes, under this key, version and header.
+    pub fn is_of(&self, key: [u8; 32], version: u64, header: Header, plain: &[u8]) -> bool
+        ensures key { result ≡ true → self.now.key ≡ key }
+        ensures version { result ≡ true → self.now.version ≡ version }
+        ensures header { result ≡ true → self.now.rec.header ≡ header }
+        ensures plain { result ≡ true → self.now.plain.items ≡ plain.now }
+    {
+        if self.key != key {
+            return false;
+        }
+        if self.version != version {
+            return false;
+        }
+        if self.rec.header != header {
+            return false;
+        }
+        self.plain.as_slice() == plain
     }
 }
 

@@ -1,14 +1,11 @@
 use Rattle.std.proofs.Common.{◌≡◌, ◌∙◌, ap, subst, sym, true, refl, is_some, length}
-use Rattle.std.proofs.lemmas.Bool.{not-false}
-use Rattle.std.proofs.lemmas.Slice.Eq.{bytes_eq-Decides}
-use Rattle.seal_record.specs.declared.seal.SealedWork.{SealedWork}
 use Rattle.paging_machine.specs.inner.Whole.{parts_of}
 use Rattle.paging_machine.specs.inner.Parts.{Parts, state_of}
 use Rattle.paging_laws.specs.inner.Steps.{HasBytesOf}
 use Rattle.epcm_entry.specs.declared.entry_view.EntryView.TheVariants as views
 use Rattle.epcm_entry.specs.inner.Epc.{bytes_at, entry_at, words_at}
 use Rattle.epcm_entry.specs.inner.Words.{words_of}
-use Rattle.paging_machine.proofs.PagingSights.{start_out, same_headers}
+use Rattle.paging_machine.proofs.PagingSights.{start_out}
 use Rattle.paging_machine.proofs.SealBridge.{own_bytes, seals}
 use Rattle.paging_machine.proofs.machine.Machine.is_sealed.Goals as goal
 
@@ -31,17 +28,10 @@ returns c = λ same.
     subst (λ (z : Parts). HasBytesOf (state_of z) f ((state_of z).content f) (bytes_at d.epc f)) c.self.view_is
     (own_bytes d f w.page w.kind w.perm w.blocked w.sealing (bytes_at d.epc f) at (sym c.is_own.ensures ∙ c.if-not-is_own.false)
     refl words) in
-    let key : c.args.work.now.key ≡ c.self.inside.key = ap (λ (w : SealedWork). w.key) (sym c.work.view_is)
-    ∙ (bytes_eq-Decides _ c.self.inside.key).0 (not-false _ (sym c.if-ne.ensures)) in
-    let version : c.args.work.now.version ≡ x.version = ap (λ (w : SealedWork). w.version) (sym c.work.view_is) ∙ c.if-work-start.false in
-    let header : c.args.work.now.rec.header ≡ c.header-header.result = ap (λ (w : SealedWork). w.rec.header) (sym c.work.view_is)
-    ∙ same_headers _ c.header-header.result (not-false _ (sym c.if-ne-2.ensures)) in
-    let plain : c.args.work.now.plain.items ≡ bytes_at d.epc f =
-    ap (λ (w : SealedWork). w.plain.items) (sym c.work.view_is) ∙ sym c.as_slice.ensures.value
-    ∙ (bytes_eq-Decides c.as_slice.result.now c.as_slice-2.result.now).0 (sym c.eq.ensures ∙ same) ∙ c.as_slice-2.ensures
-    ∙ c.bytes.ensures.value
+    let plain : c.args.work.now.plain.items ≡ bytes_at d.epc f = c.is_of.ensures.plain same ∙ c.as_slice.ensures ∙ c.bytes.ensures.value
     in
     let sized : length (bytes_at d.epc f) ≡ 4096 = ap length (sym plain) ∙ c.args.work.now.plain_size in
     seals (state_of c.args.self.now) f (record { at = x.at; slot = x.slot; version = x.version; loads = x.loads }) c.header-header.result
     (bytes_at d.epc f) c.args.work.now.key c.args.work.now.plain.items c.args.work.now.version c.args.work.now.rec.header
-    c.start-start.ensures c.header-header.ensures sized kept (key ∙ ap (λ (z : Parts). z.key) c.self.view_is) version header plain
+    c.start-start.ensures c.header-header.ensures sized kept (c.is_of.ensures.key same ∙ ap (λ (z : Parts). z.key) c.self.view_is)
+    (c.is_of.ensures.version same) (c.is_of.ensures.header same) plain
