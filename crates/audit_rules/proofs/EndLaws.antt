@@ -21,9 +21,9 @@ use Rattle.sgx_types.proofs.Pages.{same_pages, same_page-refl}
 use Rattle.sgx_types.proofs.Truths.{tested}
 use Rattle.seal_record.specs.Sealing.{IsSealed}
 use Rattle.job_grammar.specs.Jobs.{JobView}
-use Rattle.driver_rules.specs.Scripts.{ScriptRule}
 use Rattle.run_history.specs.declared.rules.Rule.TheVariants as rules
-use Rattle.run_history.specs.Histories.{FailsHere}
+use Rattle.run_history.specs.inner.Histories.{is_machines}
+use Rattle.machine_history.specs.Histories.{FailsAmong}
 use Rattle.audit_rules.specs.inner.Rivals.{KeepsMachines, rule_back, rule_out}
 use Rattle.audit_rules.proofs.OrderLaws.{evict_fails, fresh_fails, refusal_fails, sealed_fails}
 
@@ -74,17 +74,17 @@ module _ (j : JobView) (past : List Entry) (actor : Actor) (f : Frame) where
       told = refl;
     }
 
-    of-version : (version : ℕ) (tag : List ℕ) → ScriptRule j past (out (answers.Moved g version tag)) → (version ≡ v → ⊥)
-        → FailsHere j past (Some (out (answers.Moved g version tag))) rules.Evict
-    of-version version tag script other =
-        evict_fails j past (out (answers.Moved g version tag)) script (refl, own-page version tag) (λ seen. absurd cc)
+    of-version : (version : ℕ) (tag : List ℕ) → (version ≡ v → ⊥)
+        → FailsAmong is_machines j past (Some (out (answers.Moved g version tag))) rules.Evict
+    of-version version tag other =
+        evict_fails j past (out (answers.Moved g version tag)) (refl, own-page version tag) (λ seen. absurd cc)
         (keeps.each rules.Fits refl)
         (keeps.each rules.Stale refl) (λ h. other (write-out-version (open_start past f.0) version v h (keeps.each rules.Evict refl)))
 
-    of-tag : (tag : List ℕ) → ScriptRule j past (out (answers.Moved g v tag)) → (tag ≡ t → ⊥)
-        → FailsHere j past (Some (out (answers.Moved g v tag))) rules.Sealed
-    of-tag tag script other =
-        sealed_fails j past (out (answers.Moved g v tag)) script (refl, own-page v tag) (λ seen. absurd cc) (keeps.each rules.Fits refl)
+    of-tag : (tag : List ℕ) → (tag ≡ t → ⊥)
+        → FailsAmong is_machines j past (Some (out (answers.Moved g v tag))) rules.Sealed
+    of-tag tag other =
+        sealed_fails j past (out (answers.Moved g v tag)) (refl, own-page v tag) (λ seen. absurd cc) (keeps.each rules.Fits refl)
         (keeps.each rules.Stale refl) (keeps.each rules.Evict refl) (record { rising = tt; reload = tt })
         (λ h. other (told h))
       where
@@ -94,62 +94,58 @@ module _ (j : JobView) (past : List Entry) (actor : Actor) (f : Frame) where
         told : IsSealed j.key past g v tag → tag ≡ t
         told h = h.told ∙ ap (λ (x : Sealed). x.tag) (same_Some _ _ (sym h.made ∙ mine.made)) ∙ sym mine.told
 
-    of-page : (page : Page) (version : ℕ) (tag : List ℕ) → ScriptRule j past (out (answers.Moved page version tag)) → (page ≡ g → ⊥)
-        → FailsHere j past (Some (out (answers.Moved page version tag))) rules.Refusal
-    of-page page version tag script other =
-        refusal_fails j past (out (answers.Moved page version tag)) script (λ h. other (out-page past f.0 page g version v tag t h.1 ends))
+    of-page : (page : Page) (version : ℕ) (tag : List ℕ) → (page ≡ g → ⊥)
+        → FailsAmong is_machines j past (Some (out (answers.Moved page version tag))) rules.Refusal
+    of-page page version tag other =
+        refusal_fails j past (out (answers.Moved page version tag)) (λ h. other (out-page past f.0 page g version v tag t h.1 ends))
 
-    at-version : (version : ℕ) (tag : List ℕ) → version ≡ v → ScriptRule j past (out (answers.Moved g version tag))
-        → (answers.Moved g version tag ≡ answers.Moved g v t → ⊥) → FailsHere j past (Some (out (answers.Moved g version tag))) rules.Sealed
-    at-version version tag same = subst Says_of (sym same) (λ script other. of-tag tag script (λ e. other (ap (answers.Moved g v) e)))
+    at-version : (version : ℕ) (tag : List ℕ) → version ≡ v → (answers.Moved g version tag ≡ answers.Moved g v t → ⊥) → FailsAmong is_machines j past (Some (out (answers.Moved g version tag))) rules.Sealed
+    at-version version tag same = subst Says_of (sym same) (λ other. of-tag tag (λ e. other (ap (answers.Moved g v) e)))
       where
         Says_of : ℕ → Type 0
-        Says_of w = ScriptRule j past (out (answers.Moved g w tag)) → (answers.Moved g w tag ≡ answers.Moved g v t → ⊥)
-            → FailsHere j past (Some (out (answers.Moved g w tag))) rules.Sealed
+        Says_of w = (answers.Moved g w tag ≡ answers.Moved g v t → ⊥)
+            → FailsAmong is_machines j past (Some (out (answers.Moved g w tag))) rules.Sealed
 
-    at-page : (version : ℕ) (tag : List ℕ) → ScriptRule j past (out (answers.Moved g version tag))
-        → (answers.Moved g version tag ≡ answers.Moved g v t → ⊥)
-        → FailsHere j past (Some (out (answers.Moved g version tag))) (rule_out (answers.Moved g version tag) (answers.Moved g v t))
-    at-page version tag script other = rw (same_page-refl g) (by_test (tested (version == v)))
+    at-page : (version : ℕ) (tag : List ℕ) → (answers.Moved g version tag ≡ answers.Moved g v t → ⊥)
+        → FailsAmong is_machines j past (Some (out (answers.Moved g version tag))) (rule_out (answers.Moved g version tag) (answers.Moved g v t))
+    at-page version tag other = rw (same_page-refl g) (by_test (tested (version == v)))
       where
         by_test : ((version == v) ≡ true) ⊎ ((version == v) ≡ false)
-            → FailsHere j past (Some (out (answers.Moved g version tag))) (if version == v then rules.Sealed else rules.Evict)
-        by_test (inl same) = rw same (at-version version tag (eqb-true version v same) script other)
+            → FailsAmong is_machines j past (Some (out (answers.Moved g version tag))) (if version == v then rules.Sealed else rules.Evict)
+        by_test (inl same) = rw same (at-version version tag (eqb-true version v same) other)
         by_test (inr differs) =
-            rw differs (of-version version tag script (λ e. false≢true (sym differs ∙ eq-eqb version v e)))
+            rw differs (of-version version tag (λ e. false≢true (sym differs ∙ eq-eqb version v e)))
 
-    moved-out : (page : Page) (version : ℕ) (tag : List ℕ) → ScriptRule j past (out (answers.Moved page version tag))
-        → (answers.Moved page version tag ≡ answers.Moved g v t → ⊥)
-        → FailsHere j past (Some (out (answers.Moved page version tag))) (rule_out (answers.Moved page version tag) (answers.Moved g v t))
-    moved-out page version tag script other = by_test (tested (same_page page g))
+    moved-out : (page : Page) (version : ℕ) (tag : List ℕ) → (answers.Moved page version tag ≡ answers.Moved g v t → ⊥)
+        → FailsAmong is_machines j past (Some (out (answers.Moved page version tag))) (rule_out (answers.Moved page version tag) (answers.Moved g v t))
+    moved-out page version tag other = by_test (tested (same_page page g))
       where
         Says_of : Page → Type 0
-        Says_of p = ScriptRule j past (out (answers.Moved p version tag)) → (answers.Moved p version tag ≡ answers.Moved g v t → ⊥)
-            → FailsHere j past (Some (out (answers.Moved p version tag))) (rule_out (answers.Moved p version tag) (answers.Moved g v t))
+        Says_of p = (answers.Moved p version tag ≡ answers.Moved g v t → ⊥)
+            → FailsAmong is_machines j past (Some (out (answers.Moved p version tag))) (rule_out (answers.Moved p version tag) (answers.Moved g v t))
 
         by_test : (same_page page g ≡ true) ⊎ (same_page page g ≡ false)
-            → FailsHere j past (Some (out (answers.Moved page version tag)))
+            → FailsAmong is_machines j past (Some (out (answers.Moved page version tag)))
             (rule_out (answers.Moved page version tag) (answers.Moved g v t))
-        by_test (inl same) = subst Says_of (sym (same_pages page g same)) (at-page version tag) script other
+        by_test (inl same) = subst Says_of (sym (same_pages page g same)) (at-page version tag) other
         by_test (inr differs) =
-            rw differs (of-page page version tag script
-            (λ e. false≢true (sym differs ∙ subst (λ x. same_page page x ≡ true) e (same_page-refl page))))
+            rw differs (of-page page version tag             (λ e. false≢true (sym differs ∙ subst (λ x. same_page page x ≡ true) e (same_page-refl page))))
 
     -- an end that names nothing
-    bare-out : (answer : Answer) → ScriptRule j past (out answer) → (EndsOut past f.0 answer → ⊥)
-        → FailsHere j past (Some (out answer)) rules.Refusal
-    bare-out answer script none = refusal_fails j past (out answer) script (λ h. none h.1)
+    bare-out : (answer : Answer) → (EndsOut past f.0 answer → ⊥)
+        → FailsAmong is_machines j past (Some (out answer)) rules.Refusal
+    bare-out answer none = refusal_fails j past (out answer) (λ h. none h.1)
 
-    out-other : (answer : Answer) → ScriptRule j past (out answer) → (answer ≡ answers.Moved g v t → ⊥)
-        → FailsHere j past (Some (out answer)) (rule_out answer (answers.Moved g v t))
-    out-other (answers.Moved page version tag) script other = moved-out page version tag script other
-    out-other answer script other = bare-out answer script (λ h. let e = h.told in cc)
+    out-other : (answer : Answer) → (answer ≡ answers.Moved g v t → ⊥)
+        → FailsAmong is_machines j past (Some (out answer)) (rule_out answer (answers.Moved g v t))
+    out-other (answers.Moved page version tag) other = moved-out page version tag other
+    out-other answer other = bare-out answer (λ h. let e = h.told in cc)
 
   -- a write-out that the machine ends otherwise
-  pub other_out : (answer right : Answer) → KeepsMachines j past (out right) → ScriptRule j past (out answer) → (answer ≡ right → ⊥)
-      → FailsHere j past (Some (out answer)) (rule_out answer right)
-  other_out answer (answers.Moved g v t) keeps script other = out-other g v t keeps answer script other
-  other_out answer right keeps script other = absurd (let e = (keeps.each rules.Refusal refl).1.told in cc)
+  pub other_out : (answer right : Answer) → KeepsMachines j past (out right) → (answer ≡ right → ⊥)
+      → FailsAmong is_machines j past (Some (out answer)) (rule_out answer right)
+  other_out answer (answers.Moved g v t) keeps other = out-other g v t keeps answer other
+  other_out answer right keeps other = absurd (let e = (keeps.each rules.Refusal refl).1.told in cc)
 
   -- ---- a load
 
@@ -158,10 +154,9 @@ module _ (j : JobView) (past : List Entry) (actor : Actor) (f : Frame) where
     is-back = (keeps.each rules.Refusal refl).1
 
     -- the page, with another version or another tag
-    back-at-page : (version : ℕ) (tag : List ℕ) → ScriptRule j past (back (answers.Moved g version tag))
-        → (answers.Moved g version tag ≡ answers.Moved g v t → ⊥) → FailsHere j past (Some (back (answers.Moved g version tag))) rules.Fresh
-    back-at-page version tag script other =
-        fresh_fails j past (back (answers.Moved g version tag)) script (refl, named) (λ seen. absurd cc) (keeps.each rules.Fits refl)
+    back-at-page : (version : ℕ) (tag : List ℕ) → (answers.Moved g version tag ≡ answers.Moved g v t → ⊥) → FailsAmong is_machines j past (Some (back (answers.Moved g version tag))) rules.Fresh
+    back-at-page version tag other =
+        fresh_fails j past (back (answers.Moved g version tag)) (refl, named) (λ seen. absurd cc) (keeps.each rules.Fits refl)
         (keeps.each rules.Stale refl) tt (λ h. other (same h.reload))
       where
         named : IsBack past f.0 (answers.Moved g version tag)
@@ -181,34 +176,33 @@ module _ (j : JobView) (past : List Entry) (actor : Actor) (f : Frame) where
             let e = same_Some _ _ (sym h.last ∙ mine.last) in
             λ i. answers.Moved g ((e i).version) ((e i).tag)
 
-    moved-back : (page : Page) (version : ℕ) (tag : List ℕ) → ScriptRule j past (back (answers.Moved page version tag))
-        → (answers.Moved page version tag ≡ answers.Moved g v t → ⊥)
-        → FailsHere j past (Some (back (answers.Moved page version tag))) (rule_back (answers.Moved page version tag) (answers.Moved g v t))
-    moved-back page version tag script other = by_test (tested (same_page page g))
+    moved-back : (page : Page) (version : ℕ) (tag : List ℕ) → (answers.Moved page version tag ≡ answers.Moved g v t → ⊥)
+        → FailsAmong is_machines j past (Some (back (answers.Moved page version tag))) (rule_back (answers.Moved page version tag) (answers.Moved g v t))
+    moved-back page version tag other = by_test (tested (same_page page g))
       where
         Says_of : Page → Type 0
-        Says_of p = ScriptRule j past (back (answers.Moved p version tag)) → (answers.Moved p version tag ≡ answers.Moved g v t → ⊥)
-            → FailsHere j past (Some (back (answers.Moved p version tag))) (rule_back (answers.Moved p version tag) (answers.Moved g v t))
+        Says_of p = (answers.Moved p version tag ≡ answers.Moved g v t → ⊥)
+            → FailsAmong is_machines j past (Some (back (answers.Moved p version tag))) (rule_back (answers.Moved p version tag) (answers.Moved g v t))
 
         at-page : Says_of g
         at-page held differs = rw (same_page-refl g) (back-at-page version tag held differs)
 
         by_test : (same_page page g ≡ true) ⊎ (same_page page g ≡ false)
-            → FailsHere j past (Some (back (answers.Moved page version tag)))
+            → FailsAmong is_machines j past (Some (back (answers.Moved page version tag)))
             (rule_back (answers.Moved page version tag) (answers.Moved g v t))
-        by_test (inl same) = subst Says_of (sym (same_pages page g same)) at-page script other
+        by_test (inl same) = subst Says_of (sym (same_pages page g same)) at-page other
         by_test (inr differs) =
-            rw differs (refusal_fails j past (back (answers.Moved page version tag)) script (λ h.
+            rw differs (refusal_fails j past (back (answers.Moved page version tag)) (λ h.
             false≢true (sym differs
             ∙ subst (λ x. same_page page x ≡ true) (back-page past f.0 page g version v tag t h.1 is-back) (same_page-refl page))))
 
-    back-other : (answer : Answer) → ScriptRule j past (back answer) → (answer ≡ answers.Moved g v t → ⊥)
-        → FailsHere j past (Some (back answer)) (rule_back answer (answers.Moved g v t))
-    back-other (answers.Moved page version tag) script other = moved-back page version tag script other
-    back-other answer script other = refusal_fails j past (back answer) script (λ h. let e = h.1.told in cc)
+    back-other : (answer : Answer) → (answer ≡ answers.Moved g v t → ⊥)
+        → FailsAmong is_machines j past (Some (back answer)) (rule_back answer (answers.Moved g v t))
+    back-other (answers.Moved page version tag) other = moved-back page version tag other
+    back-other answer other = refusal_fails j past (back answer) (λ h. let e = h.1.told in cc)
 
   -- a load that the machine ends otherwise
-  pub other_back : (answer right : Answer) → KeepsMachines j past (back right) → ScriptRule j past (back answer) → (answer ≡ right → ⊥)
-      → FailsHere j past (Some (back answer)) (rule_back answer right)
-  other_back answer (answers.Moved g v t) keeps script other = back-other g v t keeps answer script other
-  other_back answer right keeps script other = absurd (let e = (keeps.each rules.Refusal refl).1.told in cc)
+  pub other_back : (answer right : Answer) → KeepsMachines j past (back right) → (answer ≡ right → ⊥)
+      → FailsAmong is_machines j past (Some (back answer)) (rule_back answer right)
+  other_back answer (answers.Moved g v t) keeps other = back-other g v t keeps answer other
+  other_back answer right keeps other = absurd (let e = (keeps.each rules.Refusal refl).1.told in cc)

@@ -24,9 +24,9 @@ use Rattle.measure_log.specs.Rule.{IsExpected, IsOther, MeasureRule, measurement
 use Rattle.job_grammar.specs.Jobs.{JobView}
 use Rattle.turn_rules.specs.Machines.{machine_of}
 use Rattle.turn_rules.specs.Script.{action_of}
-use Rattle.driver_rules.specs.Scripts.{ScriptRule}
 use Rattle.run_history.specs.declared.rules.Rule.TheVariants as rules
-use Rattle.run_history.specs.Histories.{FailsHere}
+use Rattle.run_history.specs.inner.Histories.{is_machines}
+use Rattle.machine_history.specs.Histories.{FailsAmong}
 use Rattle.audit_rules.specs.inner.Forms.{has_form, is_hash}
 use Rattle.audit_rules.specs.inner.Rivals.{AreRivals, KeepsMachines, is_load_refused, rule_of, rule_of_allowed, rule_of_answer}
 use Rattle.audit_rules.specs.inner.Rivals.{rule_of_denied}
@@ -76,19 +76,19 @@ module _ (j : JobView) (past : List Entry) (actor : Actor) where
   -- ---- an `init`
 
   init-refused : (enclave : ℕ) (expect : Option (List ℕ)) (made : List ℕ) (e : Entry)
-      → ScriptRule j past (refused (Init enclave expect) (why.BadMeasure made)) → KeepsMachines j past e
+      → KeepsMachines j past e
       → first (Init enclave expect) ≡ None → (MeasureRule past (refused (Init enclave expect) (why.BadMeasure made)) → ⊥)
-      → FailsHere j past (Some (refused (Init enclave expect) (why.BadMeasure made))) rules.Measure
-  init-refused enclave expect made e script keeps allows fails =
-      measure_fails j past (refused (Init enclave expect) (why.BadMeasure made)) script allows tt (tt, (keeps.each rules.Fits refl).1)
+      → FailsAmong is_machines j past (Some (refused (Init enclave expect) (why.BadMeasure made))) rules.Measure
+  init-refused enclave expect made e keeps allows fails =
+      measure_fails j past (refused (Init enclave expect) (why.BadMeasure made)) allows tt (tt, (keeps.each rules.Fits refl).1)
       (tt, (keeps.each rules.Stale refl).1) tt (record { rising = tt; reload = tt }) tt fails
 
   init-done : (enclave : ℕ) (expect : Option (List ℕ)) (digest : List ℕ) (e : Entry)
-      → ScriptRule j past (done (Init enclave expect) (answers.Hash digest)) → KeepsMachines j past e
+      → KeepsMachines j past e
       → first (Init enclave expect) ≡ None → (MeasureRule past (done (Init enclave expect) (answers.Hash digest)) → ⊥)
-      → FailsHere j past (Some (done (Init enclave expect) (answers.Hash digest))) rules.Measure
-  init-done enclave expect digest e script keeps allows fails =
-      measure_fails j past (done (Init enclave expect) (answers.Hash digest)) script (allows, (digest, refl))
+      → FailsAmong is_machines j past (Some (done (Init enclave expect) (answers.Hash digest))) rules.Measure
+  init-done enclave expect digest e keeps allows fails =
+      measure_fails j past (done (Init enclave expect) (answers.Hash digest)) (allows, (digest, refl))
       (λ seen. record {
         taken = ap is_none (init-open (enclave_sight (flat past) enclave) (secs_sight_at j.epc past enclave) allows);
         same = refl;
@@ -98,46 +98,44 @@ module _ (j : JobView) (past : List Entry) (actor : Actor) where
   -- ---- where the machine refuses
 
   done-refused : (action : Action) (answer : Answer) (found : Refusal) → is_load_refused (Refused action found) ≡ false
-      → ScriptRule j past (done action answer) → KeepsMachines j past (refused action found)
-      → FailsHere j past (Some (done action answer)) (rule_of_allowed action answer found)
-  done-refused (Init enclave expect) (answers.Hash digest) (why.BadMeasure made) ends script keeps =
-      init-done enclave expect digest _ script keeps (keeps.each rules.Refusal refl) (λ h.
+      → KeepsMachines j past (refused action found)
+      → FailsAmong is_machines j past (Some (done action answer)) (rule_of_allowed action answer found)
+  done-refused (Init enclave expect) (answers.Hash digest) (why.BadMeasure made) ends keeps =
+      init-done enclave expect digest _ keeps (keeps.each rules.Refusal refl) (λ h.
       not-both expect (measurement past enclave) h.1 (keeps.each rules.Measure refl).1)
-  done-refused (Init enclave expect) answer (why.BadMeasure made) ends script keeps =
-      refusal_fails j past _ script (λ h. let form = h.1.1 in cc)
-  done-refused action answer found ends script keeps =
-      refusal_fails j past _ script (λ h. none-some _ (sym h.0 ∙ refused-first action found ends (keeps.each rules.Refusal refl)))
+  done-refused (Init enclave expect) answer (why.BadMeasure made) ends keeps =
+      refusal_fails j past _ (λ h. let form = h.1.1 in cc)
+  done-refused action answer found ends keeps =
+      refusal_fails j past _ (λ h. none-some _ (sym h.0 ∙ refused-first action found ends (keeps.each rules.Refusal refl)))
 
   refused-done : (action : Action) (refusal : Refusal) (right : Answer) → is_load_refused (Refused action refusal) ≡ false
-      → ScriptRule j past (refused action refusal) → KeepsMachines j past (done action right)
-      → FailsHere j past (Some (refused action refusal)) (rule_of_denied action refusal)
-  refused-done (Init enclave expect) (why.BadMeasure made) right ends script keeps =
-      init-refused enclave expect made _ script keeps (keeps.each rules.Refusal refl).0 (λ h.
+      → KeepsMachines j past (done action right)
+      → FailsAmong is_machines j past (Some (refused action refusal)) (rule_of_denied action refusal)
+  refused-done (Init enclave expect) (why.BadMeasure made) right ends keeps =
+      init-refused enclave expect made _ keeps (keeps.each rules.Refusal refl).0 (λ h.
       not-both expect (measurement past enclave) (keeps.each rules.Measure refl).1 h.1)
-  refused-done action refusal right ends script keeps =
-      refusal_fails j past _ script (λ h. none-some _ (sym (keeps.each rules.Refusal refl).0 ∙ refused-first action refusal ends h))
+  refused-done action refusal right ends keeps =
+      refusal_fails j past _ (λ h. none-some _ (sym (keeps.each rules.Refusal refl).0 ∙ refused-first action refusal ends h))
 
   -- ---- where both refuse
 
-  init-both : (enclave : ℕ) (expect : Option (List ℕ)) (refusal found : Refusal) → ScriptRule j past (refused (Init enclave expect) refusal)
-      → KeepsMachines j past (refused (Init enclave expect) found) → (refusal ≡ found → ⊥)
-      → FailsHere j past (Some (refused (Init enclave expect) refusal)) (rule_of_reasons (Init enclave expect) refusal found)
-  init-both enclave expect (why.BadMeasure given) (why.BadMeasure made) script keeps other =
-      init-refused enclave expect given _ script keeps (keeps.each rules.Refusal refl) (λ h.
+  init-both : (enclave : ℕ) (expect : Option (List ℕ)) (refusal found : Refusal) → KeepsMachines j past (refused (Init enclave expect) found) → (refusal ≡ found → ⊥)
+      → FailsAmong is_machines j past (Some (refused (Init enclave expect) refusal)) (rule_of_reasons (Init enclave expect) refusal found)
+  init-both enclave expect (why.BadMeasure given) (why.BadMeasure made) keeps other =
+      init-refused enclave expect given _ keeps (keeps.each rules.Refusal refl) (λ h.
       other (ap why.BadMeasure (h.0 ∙ sym (keeps.each rules.Measure refl).0)))
-  init-both enclave expect (why.BadMeasure given) found script keeps other =
-      refusal_fails j past _ script (λ h. none-some _ (sym h ∙ keeps.each rules.Refusal refl))
-  init-both enclave expect refusal found script keeps other =
-      refusal_fails j past _ script (λ h. other (from-case enclave expect found refusal (sym h ∙ keeps.each rules.Refusal refl)))
+  init-both enclave expect (why.BadMeasure given) found keeps other =
+      refusal_fails j past _ (λ h. none-some _ (sym h ∙ keeps.each rules.Refusal refl))
+  init-both enclave expect refusal found keeps other =
+      refusal_fails j past _ (λ h. other (from-case enclave expect found refusal (sym h ∙ keeps.each rules.Refusal refl)))
 
   refused-refused : (action : Action) (refusal found : Refusal) → is_load_refused (Refused action refusal) ≡ false
-      → is_load_refused (Refused action found) ≡ false → ScriptRule j past (refused action refusal)
-      → KeepsMachines j past (refused action found) → (refusal ≡ found → ⊥)
-      → FailsHere j past (Some (refused action refusal)) (rule_of_reasons action refusal found)
-  refused-refused (Init enclave expect) refusal found ends ended script keeps other =
-      init-both enclave expect refusal found script keeps other
-  refused-refused action refusal found ends ended script keeps other =
-      refusal_fails j past _ script (λ h. other (same_Some _ _ (sym (refused-first action refusal ends h)
+      → is_load_refused (Refused action found) ≡ false → KeepsMachines j past (refused action found) → (refusal ≡ found → ⊥)
+      → FailsAmong is_machines j past (Some (refused action refusal)) (rule_of_reasons action refusal found)
+  refused-refused (Init enclave expect) refusal found ends ended keeps other =
+      init-both enclave expect refusal found keeps other
+  refused-refused action refusal found ends ended keeps other =
+      refusal_fails j past _ (λ h. other (same_Some _ _ (sym (refused-first action refusal ends h)
       ∙ refused-first action found ended (keeps.each rules.Refusal refl))))
 
   -- ---- where both are done
@@ -149,58 +147,56 @@ module _ (j : JobView) (past : List Entry) (actor : Actor) where
 
   -- an instruction whose answer has a value: flat memory knows it
   valued : (action : Action) (answer right : Answer) → is_visible action ≡ true → is_hash answer ≡ false → is_hash right ≡ false
-      → HasForm past action answer → ScriptRule j past (done action answer) → KeepsMachines j past (done action right)
+      → HasForm past action answer → KeepsMachines j past (done action right)
       → (answer ≡ right → ⊥)
-      → FailsHere j past (Some (done action answer)) rules.Flat
-  valued action answer right visible a b form script keeps other =
-      flat_fails j past (done action answer) script ((keeps.each rules.Refusal refl).0, form) (λ h.
+      → FailsAmong is_machines j past (Some (done action answer)) rules.Flat
+  valued action answer right visible a b form keeps other =
+      flat_fails j past (done action answer) ((keeps.each rules.Refusal refl).0, form) (λ h.
       other (sym (seen-self action answer a) ∙ (h visible).same ∙ sym (keeps.each rules.Flat refl visible).same ∙ seen-self action right b))
 
   value-none : (a : Answer) → (v : ℕ) × (a ≡ answers.Value v) → is_hash a ≡ false
   value-none a x = rw x.1 refl
 
   formed-done : (action : Action) (answer right : Answer) → has_form action answer ≡ true → HasForm past action answer
-      → ScriptRule j past (done action answer) → KeepsMachines j past (done action right) → (answer ≡ right → ⊥)
-      → FailsHere j past (Some (done action answer)) (rule_of_formed action)
-  formed-done (Init enclave expect) answer right formed form script keeps other =
+      → KeepsMachines j past (done action right) → (answer ≡ right → ⊥)
+      → FailsAmong is_machines j past (Some (done action answer)) (rule_of_formed action)
+  formed-done (Init enclave expect) answer right formed form keeps other =
       subst Fails (sym form.1) (λ held. init-done enclave expect form.0 _ held keeps (keeps.each rules.Refusal refl).0 (λ h.
-      other (form.1 ∙ h.0 ∙ sym (keeps.each rules.Measure refl).0))) script
-    where
+      other (form.1 ∙ h.0 ∙ sym (keeps.each rules.Measure refl).0)))     where
       Fails : Answer → Type 0
-      Fails a = ScriptRule j past (done (Init enclave expect) a) → FailsHere j past (Some (done (Init enclave expect) a)) rules.Measure
-  formed-done (EwbStart f slot) answer right formed form script keeps other =
-      fresh_fails j past (done (EwbStart f slot) answer) script ((keeps.each rules.Refusal refl).0, form) (λ seen. absurd cc)
+      Fails a = FailsAmong is_machines j past (Some (done (Init enclave expect) a)) rules.Measure
+  formed-done (EwbStart f slot) answer right formed form keeps other =
+      fresh_fails j past (done (EwbStart f slot) answer) ((keeps.each rules.Refusal refl).0, form) (λ seen. absurd cc)
       (keeps.each rules.Fits refl) (keeps.each rules.Stale refl) (keeps.each rules.Evict refl) (λ h.
       other (h.rising ∙ sym (keeps.each rules.Fresh refl).rising))
-  formed-done (Enter enclave tcs tf sf) answer right formed form script keeps other =
-      valued _ answer right refl (rw form.1 refl) (rw (keeps.each rules.Refusal refl).1.1 refl) form script keeps other
-  formed-done (Resume enclave tcs tf sf) answer right formed form script keeps other =
-      valued _ answer right refl (rw form.1 refl) (rw (keeps.each rules.Refusal refl).1.1 refl) form script keeps other
-  formed-done (Load off) answer right formed form script keeps other =
-      valued _ answer right refl (rw form.1 refl) (rw (keeps.each rules.Refusal refl).1.1 refl) form script keeps other
-  formed-done (Xadd off value) answer right formed form script keeps other =
-      valued _ answer right refl (rw form.1 refl) (rw (keeps.each rules.Refusal refl).1.1 refl) form script keeps other
-  formed-done (Plus value) answer right formed form script keeps other =
-      valued _ answer right refl (rw form.1 refl) (rw (keeps.each rules.Refusal refl).1.1 refl) form script keeps other
-  formed-done (OutLoad enclave off) answer right formed form script keeps other =
-      valued _ answer right refl (rw form.1 refl) (rw (keeps.each rules.Refusal refl).1.1 refl) form script keeps other
-  formed-done (Pf op off) answer right formed form script keeps other =
-      valued _ answer right refl (rw form.1 refl) (rw (keeps.each rules.Refusal refl).1.1 refl) form script keeps other
-  formed-done (Epa f) answer right formed form script keeps other = absurd cc
-  formed-done (Ewb f) answer right formed form script keeps other = absurd cc
-  formed-done (EldStart f page slot) answer right formed form script keeps other = absurd cc
-  formed-done (Eld f) answer right formed form script keeps other = absurd cc
-  formed-done action answer right formed form script keeps other = absurd (other (form ∙ sym (keeps.each rules.Refusal refl).1))
+  formed-done (Enter enclave tcs tf sf) answer right formed form keeps other =
+      valued _ answer right refl (rw form.1 refl) (rw (keeps.each rules.Refusal refl).1.1 refl) form keeps other
+  formed-done (Resume enclave tcs tf sf) answer right formed form keeps other =
+      valued _ answer right refl (rw form.1 refl) (rw (keeps.each rules.Refusal refl).1.1 refl) form keeps other
+  formed-done (Load off) answer right formed form keeps other =
+      valued _ answer right refl (rw form.1 refl) (rw (keeps.each rules.Refusal refl).1.1 refl) form keeps other
+  formed-done (Xadd off value) answer right formed form keeps other =
+      valued _ answer right refl (rw form.1 refl) (rw (keeps.each rules.Refusal refl).1.1 refl) form keeps other
+  formed-done (Plus value) answer right formed form keeps other =
+      valued _ answer right refl (rw form.1 refl) (rw (keeps.each rules.Refusal refl).1.1 refl) form keeps other
+  formed-done (OutLoad enclave off) answer right formed form keeps other =
+      valued _ answer right refl (rw form.1 refl) (rw (keeps.each rules.Refusal refl).1.1 refl) form keeps other
+  formed-done (Pf op off) answer right formed form keeps other =
+      valued _ answer right refl (rw form.1 refl) (rw (keeps.each rules.Refusal refl).1.1 refl) form keeps other
+  formed-done (Epa f) answer right formed form keeps other = absurd cc
+  formed-done (Ewb f) answer right formed form keeps other = absurd cc
+  formed-done (EldStart f page slot) answer right formed form keeps other = absurd cc
+  formed-done (Eld f) answer right formed form keeps other = absurd cc
+  formed-done action answer right formed form keeps other = absurd (other (form ∙ sym (keeps.each rules.Refusal refl).1))
 
   abbrev is_commit : Action → Bool
   is_commit (Ewb f) = true
   is_commit (Eld f) = true
   is_commit _ = false
 
-  row-done : (action : Action) (answer right : Answer) → is_commit action ≡ false → ScriptRule j past (done action answer)
-      → KeepsMachines j past (done action right)
-      → (answer ≡ right → ⊥) → FailsHere j past (Some (done action answer)) (rule_of_answer action answer)
-  row-done action answer right row script keeps other = by_test (tested (has_form action answer))
+  row-done : (action : Action) (answer right : Answer) → is_commit action ≡ false → KeepsMachines j past (done action right)
+      → (answer ≡ right → ⊥) → FailsAmong is_machines j past (Some (done action answer)) (rule_of_answer action answer)
+  row-done action answer right row keeps other = by_test (tested (has_form action answer))
     where
       formless : (a : Action) → is_commit a ≡ false → has_form a answer ≡ false
           → KeepsMachines j past (done a right) → HasForm past a answer → ⊥
@@ -212,48 +208,43 @@ module _ (j : JobView) (past : List Entry) (actor : Actor) where
           absurd (let f : false ≡ true = e in cc)
 
       by_test : (has_form action answer ≡ true) ⊎ (has_form action answer ≡ false)
-          → FailsHere j past (Some (done action answer)) (rule_of_answer action answer)
-      by_test (inl formed) = rw formed (formed-done action answer right formed (has_its_form past action answer formed) script keeps other)
+          → FailsAmong is_machines j past (Some (done action answer)) (rule_of_answer action answer)
+      by_test (inl formed) = rw formed (formed-done action answer right formed (has_its_form past action answer formed) keeps other)
       by_test (inr not_formed) =
-          rw not_formed (refusal_fails j past (done action answer) script (λ h. formless action row not_formed keeps h.1))
+          rw not_formed (refusal_fails j past (done action answer) (λ h. formless action row not_formed keeps h.1))
 
-  done-done : (action : Action) (answer right : Answer) → ScriptRule j past (done action answer) → KeepsMachines j past (done action right)
-      → (answer ≡ right → ⊥) → FailsHere j past (Some (done action answer)) (rule_of_done action answer right)
-  done-done (Ewb f) answer right script keeps other = other_out j past actor f answer right keeps script other
-  done-done (Eld f) answer right script keeps other = other_back j past actor f answer right keeps script other
-  done-done action answer right script keeps other = row-done action answer right refl script keeps other
+  done-done : (action : Action) (answer right : Answer) → KeepsMachines j past (done action right)
+      → (answer ≡ right → ⊥) → FailsAmong is_machines j past (Some (done action answer)) (rule_of_done action answer right)
+  done-done (Ewb f) answer right keeps other = other_out j past actor f answer right keeps other
+  done-done (Eld f) answer right keeps other = other_back j past actor f answer right keeps other
+  done-done action answer right keeps other = row-done action answer right refl keeps other
 
 -- ---- the whole
 
 by-events : (j : JobView) (past : List Entry) (actor : Actor) (event made : Event) (action : Action) → action_of event ≡ Some action
     → action_of made ≡ Some action → is_load_refused event ≡ false → is_load_refused made ≡ false → (event ≡ made → ⊥)
-    → ScriptRule j past (record { actor = actor; event = event }) → KeepsMachines j past (record { actor = actor; event = made })
-    → FailsHere j past (Some (record { actor = actor; event = event })) (rule_of event made)
-by-events j past actor (Did one answer) (Did two right) action own same ends ended other script keeps =
+    → KeepsMachines j past (record { actor = actor; event = made })
+    → FailsAmong is_machines j past (Some (record { actor = actor; event = event })) (rule_of event made)
+by-events j past actor (Did one answer) (Did two right) action own same ends ended other keeps =
     let act : two ≡ one = same_Some _ _ (same ∙ sym own) in
-    done-done j past actor one answer right script
-    (subst (λ a. KeepsMachines j past (record { actor = actor; event = Did a right })) act keeps)
+    done-done j past actor one answer right     (subst (λ a. KeepsMachines j past (record { actor = actor; event = Did a right })) act keeps)
     (λ e. other (λ i. Did (sym act i) (e i)))
-by-events j past actor (Did one answer) (Refused two found) action own same ends ended other script keeps =
+by-events j past actor (Did one answer) (Refused two found) action own same ends ended other keeps =
     let act : two ≡ one = same_Some _ _ (same ∙ sym own) in
-    done-refused j past actor one answer found (subst (λ a. is_load_refused (Refused a found) ≡ false) act ended) script
-    (subst (λ a. KeepsMachines j past (record { actor = actor; event = Refused a found })) act keeps)
-by-events j past actor (Refused one refusal) (Did two right) action own same ends ended other script keeps =
+    done-refused j past actor one answer found (subst (λ a. is_load_refused (Refused a found) ≡ false) act ended)     (subst (λ a. KeepsMachines j past (record { actor = actor; event = Refused a found })) act keeps)
+by-events j past actor (Refused one refusal) (Did two right) action own same ends ended other keeps =
     let act : two ≡ one = same_Some _ _ (same ∙ sym own) in
-    refused-done j past actor one refusal right ends script
-    (subst (λ a. KeepsMachines j past (record { actor = actor; event = Did a right })) act keeps)
-by-events j past actor (Refused one refusal) (Refused two found) action own same ends ended other script keeps =
+    refused-done j past actor one refusal right ends     (subst (λ a. KeepsMachines j past (record { actor = actor; event = Did a right })) act keeps)
+by-events j past actor (Refused one refusal) (Refused two found) action own same ends ended other keeps =
     let act : two ≡ one = same_Some _ _ (same ∙ sym own) in
-    refused-refused j past actor one refusal found ends (subst (λ a. is_load_refused (Refused a found) ≡ false) act ended) script
-    (subst (λ a. KeepsMachines j past (record { actor = actor; event = Refused a found })) act keeps)
+    refused-refused j past actor one refusal found ends (subst (λ a. is_load_refused (Refused a found) ≡ false) act ended)     (subst (λ a. KeepsMachines j past (record { actor = actor; event = Refused a found })) act keeps)
     (λ e. other (λ i. Refused (sym act i) (e i)))
-by-events j past actor (Did one answer) made action own same ends ended other script keeps = absurd (none-some _ same)
-by-events j past actor (Refused one refusal) made action own same ends ended other script keeps = absurd (none-some _ same)
-by-events j past actor event made action own same ends ended other script keeps = absurd (none-some _ own)
+by-events j past actor (Did one answer) made action own same ends ended other keeps = absurd (none-some _ same)
+by-events j past actor (Refused one refusal) made action own same ends ended other keeps = absurd (none-some _ same)
+by-events j past actor event made action own same ends ended other keeps = absurd (none-some _ own)
 
 -- an entry breaks the rule that its event and the machine's name, and none before it
-pub first_broken : (j : JobView) (past : List Entry) (e made : Entry) → AreRivals e made → ScriptRule j past e → KeepsMachines j past made
-    → FailsHere j past (Some e) (rule_of e.event made.event)
-first_broken j past e made rivals script keeps =
-    by-events j past e.actor e.event made.event rivals.action rivals.own rivals.same rivals.ends rivals.ended rivals.differ script
-    (subst (λ a. KeepsMachines j past (record { actor = a; event = made.event })) (sym rivals.actor) keeps)
+pub first_broken : (j : JobView) (past : List Entry) (e made : Entry) → AreRivals e made → KeepsMachines j past made
+    → FailsAmong is_machines j past (Some e) (rule_of e.event made.event)
+first_broken j past e made rivals keeps =
+    by-events j past e.actor e.event made.event rivals.action rivals.own rivals.same rivals.ends rivals.ended rivals.differ     (subst (λ a. KeepsMachines j past (record { actor = a; event = made.event })) (sym rivals.actor) keeps)

@@ -3,8 +3,8 @@
 ghost use Rattle.std.specs.Prelude.{◌≡◌, Some, List};
 ghost use Rattle.sgx_rules.specs.declared.entries.Entry.{Entry};
 ghost use Rattle.job_grammar.specs.Jobs.{JobView};
-ghost use Rattle.driver_rules.specs.Scripts.{ScriptRule};
-ghost use Rattle.run_history.specs.Histories.{FailsHere};
+ghost use Rattle.run_history.specs.inner.Histories.{is_machines};
+ghost use Rattle.machine_history.specs.Histories.{FailsAmong};
 ghost use Rattle.audit_rules.specs.inner.Rivals.{AreRivals, KeepsMachines, rule_back, rule_of, rule_of_allowed, rule_of_answer};
 ghost use Rattle.audit_rules.specs.inner.Rivals.{rule_of_denied, rule_of_done, rule_of_formed, rule_of_reasons, rule_out};
 
@@ -13,12 +13,12 @@ use run_history::rules::Rule;
 use sgx_rules::entries::{Action, Answer, Entry, Event};
 use sgx_rules::refusals::Refusal;
 
-/// The first rule that an entry breaks which its actor may make, where the machine made another entry of the same instruction there: of the
-/// rules that the entry and this one differ in, the first in the order in which rules are named.
+/// The first of the processor's rules that an entry breaks, where the machine made another entry of the same instruction there: of the rules
+/// that the entry and this one differ in, the first in the order in which rules are named.
 #[tactic(auto, using(crate::proofs::RivalLaws::first_broken))]
 pub fn first_broken(entry: &Entry, made: &Entry) -> Rule
-    ensures { (j : JobView) (past : List Entry) → AreRivals entry.now made.now → ScriptRule j past entry.now → KeepsMachines j past made.now
-        → FailsHere j past (Some entry.now) result }
+    ensures { (j : JobView) (past : List Entry) → AreRivals entry.now made.now → KeepsMachines j past made.now
+        → FailsAmong is_machines j past (Some entry.now) result }
 {
     rule_of(&entry.event, &made.event)
 }
