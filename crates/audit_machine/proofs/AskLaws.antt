@@ -15,18 +15,17 @@ use Rattle.sgx_types.specs.Making.{Making}
 use Rattle.sgx_rules.specs.Table.{first_of_row}
 use Rattle.seal_record.specs.Records.{Made}
 use Rattle.job_grammar.specs.Jobs.{JobView}
-use Rattle.turn_rules.specs.Machines.{machine_of}
 use Rattle.turn_rules.specs.Script.{action_of}
-use Rattle.driver_rules.specs.Scripts.{ScriptRule}
 use Rattle.paging_laws.specs.inner.Histories.{StandsWithAllRules}
 use Rattle.paging_laws.specs.inner.State.{State, row_of}
 use Rattle.paging_laws.specs.inner.Steps.{CanApply, IsDone, IsStep, refused_by}
 use Rattle.run_history.specs.declared.rules.Rule.{Rule}
-use Rattle.run_history.specs.Histories.{FailsHere}
+use Rattle.run_history.specs.inner.Histories.{is_machines}
+use Rattle.machine_history.specs.Histories.{FailsAmong}
 use Rattle.audit_rules.specs.inner.Rivals.{AreRivals, KeepsMachines, is_load_refused}
 use Rattle.audit_rules.specs.inner.Same.{same_end}
 use Rattle.audit_rules.proofs.SameLaws.{ends_alike, ends_apart}
-use Rattle.audit_machine.specs.inner.Asked.{Breaks, GoesOnWith}
+use Rattle.audit_machine.specs.inner.Asked.{Breaks, GoesOnWith, made_for}
 use Rattle.audit_machine.proofs.KeptLaws.{last_kept}
 
 -- ---- the machine's entry is of the instruction that it was asked for
@@ -74,14 +73,14 @@ with_none s t e goes k past records h =
 
 -- whatever rule is told of two rivals, of which the machine made the one
 abbrev pub Tells : Entry → Entry → Rule → Type 0
-Tells e made rule = (j : JobView) (past : List Entry) → AreRivals e made → ScriptRule j past e → KeepsMachines j past made
-    → FailsHere j past (Some e) rule
+Tells e made rule = (j : JobView) (past : List Entry) → AreRivals e made → KeepsMachines j past made
+    → FailsAmong is_machines j past (Some e) rule
 
 pub broken : (s t : State) (action : Action) (e made : Entry) (more : List Made) (rule : Rule) → action_of e.event ≡ Some action
     → IsMadeOf e.actor action made → is_load_refused e.event ≡ false → is_load_refused made.event ≡ false
     → same_end e.event made.event ≡ false → GoesOnWith s made more t → Tells e made rule → Breaks s e rule
-broken s t action e made more rule own is ends ended unlike goes tells j past records h script =
-    tells j past rivals script (last_kept j t past made (records ++ more) (goes (machine_of j) past records h))
+broken s t action e made more rule own is ends ended unlike goes tells j cpus past records h =
+    tells j past rivals (last_kept j cpus t past made (records ++ more) (goes (made_for j cpus) past records h))
   where
     rivals : AreRivals e made
     rivals = record {

@@ -1,7 +1,7 @@
 -- The end of a load.
 use Rattle.std.specs.Prelude.{MatchOption, not, bytes_eq, ◌&&◌}
 use Rattle.std.proofs.Common.{◌≡◌, ℕ, ◌==◌, true, false, refl, sym, ap, subst, ◌∙◌, ◌⊎◌}
-use Rattle.std.proofs.Common.{inl, inr, List, ◌∷◌, Option, Some, None}
+use Rattle.std.proofs.Common.{inl, inr, List, [], ◌∷◌, Option, Some, None}
 use Rattle.std.proofs.lemmas.Bool.{eqb-true, eq-eqb, and_from, false≢true}
 use Rattle.std.proofs.lemmas.Slice.Eq.{bytes_eq-Decides}
 use Rattle.std.proofs.lemmas.Option.{none-some, same_Some}
@@ -33,23 +33,25 @@ use Rattle.job_grammar.specs.Jobs.{JobView}
 use Rattle.page_history.proofs.StartLaws.{starts_apart}
 use Rattle.turn_rules.specs.Machines.{machine_of}
 use Rattle.turn_rules.specs.Script.{action_of}
-use Rattle.driver_rules.specs.Scripts.{ScriptRule}
 use Rattle.paging_laws.specs.inner.Histories.{BringsBack, BringsIn, StandsWithAllRules}
 use Rattle.paging_laws.specs.inner.Notes.{IsDone}
 use Rattle.paging_laws.specs.inner.State.{State}
 use Rattle.paging_laws.specs.inner.Steps.{IsComing, IsReloaded, commit_row, did_by, refused_by}
 use Rattle.paging_laws.proofs.ColumnLaws.{content_is, start_is}
-use Rattle.paging_laws.proofs.MoveEnds.{coming_header}
+use Rattle.paging_laws.proofs.MoveEnds.{coming_header, ends_refused}
 use Rattle.paging_laws.proofs.ReloadLaws.{keeps_moves, row_allows}
 use Rattle.run_history.specs.declared.rules.Rule.{Rule}
 use Rattle.run_history.specs.declared.rules.Rule.TheVariants as rules
-use Rattle.run_history.specs.Histories.{FailsHere}
+use Rattle.run_history.specs.inner.Histories.{is_machines}
+use Rattle.machine_history.specs.Histories.{FailsAmong}
 use Rattle.audit_rules.proofs.OrderLaws.{refusal_fails}
 use Rattle.audit_rules.proofs.SameLaws.{ends_apart}
 use Rattle.audit_rules.specs.inner.Rivals.{AreRivals, is_load_refused}
 use Rattle.audit_rules.specs.inner.Same.{same_end}
-use Rattle.audit_machine.specs.inner.Asked.{Breaks, IsDoneBack, IsOwnRecord, is_unfit, other_number}
-use Rattle.audit_machine.proofs.AskLaws.{IsMadeOf, Tells, alike, made_of_it}
+use Rattle.seal_record.specs.declared.unseal.UnsealedWork.{UnsealedWork}
+use Rattle.audit_machine.specs.inner.Asked.{Breaks, GoesOnWith, IsDoneBack, IsOwnRecord, made_for}
+use Rattle.audit_machine.specs.inner.Reasons.{IsUnder, header_told, is_refused, tells_two_tags, unfit_header}
+use Rattle.audit_machine.proofs.AskLaws.{IsMadeOf, Tells, alike, made_of_it, with_none}
 use Rattle.audit_machine.proofs.KeptLaws.{last_kept}
 use Rattle.audit_machine.proofs.OtherRefusal.{other_refusal}
 
@@ -70,37 +72,20 @@ no-end j past actor event f own none h = absurd (none-some _ own)
 
 pub none_comes : (s : State) (e : Entry) (f : Frame) → action_of e.event ≡ Some (Eld f) → is_loading (s.content f.0) ≡ false
     → Breaks s e rules.Refusal
-none_comes s e f own idle j past records h script = refusal_fails j past e script (no-end j past e.actor e.event f own none)
+none_comes s e f own idle j cpus past records h = refusal_fails j past e (no-end j past e.actor e.event f own none)
   where
     none : (page : Page) → EndsIn past f.0 page → ⊥
     none page ends =
-        let loading = (starts_apart (machine_of j) past (keeps_moves (machine_of j) s past records h)).loading f.0 ends.start page
+        let loading = (starts_apart (made_for j cpus) past (keeps_moves (made_for j cpus) s past records h)).loading f.0 ends.start page
         ends.opened
         ends.loads in
         false≢true (sym idle ∙ ap is_loading (content_is h.shaped.shape.columns f.0 ∙ loading))
 
 -- ---- headers
 
-header-same : (a b : Header) → same_header a b ≡ true → a ≡ b
-header-same a b is =
-    let first = both_true ((a.enclave == b.enclave) && (a.address == b.address)) (a.flags == b.flags) is in
-    let second = both_true (a.enclave == b.enclave) (a.address == b.address) first.0 in
-    λ i. record {
-      enclave = eqb-true a.enclave b.enclave second.0 i;
-      address = eqb-true a.address b.address second.1 i;
-      flags = eqb-true a.flags b.flags first.1 i;
-    }
-
 header-own : (a : Header) → same_header a a ≡ true
 header-own a =
     and_from _ _ (and_from _ _ (eq-eqb a.enclave a.enclave refl) (eq-eqb a.address a.address refl)) (eq-eqb a.flags a.flags refl)
-
-number-apart : (n : ℕ) → other_number n ≡ n → ⊥
-number-apart n e = by_test (tested (n == 0))
-  where
-    by_test : ((n == 0) ≡ true) ⊎ ((n == 0) ≡ false) → ⊥
-    by_test (inl is) = let f : 1 ≡ n = rw is at e in let g : 1 ≡ 0 = f ∙ eqb-true n 0 is in absurd cc
-    by_test (inr differs) = let f : 0 ≡ n = rw differs at e in false≢true (sym differs ∙ eq-eqb n 0 (sym f))
 
 -- ---- the page that a frame waits for, and its own record
 
@@ -176,11 +161,11 @@ module _ (s t : State) (e made : Entry) (f : Frame) (rec : Sealed) (done : IsDon
       let row = rw (allows k s past records f rec h own step.coming) at step.row in
       rw row.0 refl
 
-  pub not_brought : (rule : Rule) → same_end e.event made.event ≡ false → Tells e made rule → (j : JobView) (past : List Entry)
-      (records : List Made) → StandsWithAllRules (machine_of j) s past records → IsOwnRecord j.key past f.0 rec → ScriptRule j past e
-      → FailsHere j past (Some e) rule
-  not_brought rule unlike tells j past records h own script =
-      tells j past rivals script (last_kept j t past made records (goes (machine_of j) past records h own))
+  pub not_brought : (rule : Rule) → same_end e.event made.event ≡ false → Tells e made rule → (j : JobView) (cpus : ℕ)
+      (past : List Entry) (records : List Made) → StandsWithAllRules (made_for j cpus) s past records → IsOwnRecord j.key past f.0 rec
+      → FailsAmong is_machines j past (Some e) rule
+  not_brought rule unlike tells j cpus past records h own =
+      tells j past rivals (last_kept j cpus t past made records (goes (made_for j cpus) past records h own))
     where
       rivals : AreRivals e made
       rivals = record {
@@ -189,73 +174,119 @@ module _ (s t : State) (e made : Entry) (f : Frame) (rec : Sealed) (done : IsDon
         own = (done-event e.event f done).0;
         same = is.action_is;
         ends = (done-event e.event f done).1;
-        ended = made-done (machine_of j) past records h own;
+        ended = made-done (made_for j cpus) past records h own;
         differ = ends_apart e.event made.event (Eld f) (done-event e.event f done).0 unlike;
       }
 
+-- ---- reasons
+
+-- a reason that tells a header is that one
+pub header-reason : (reason : Refusal) (header : Header) → header_told reason ≡ Some header → reason ≡ unfit_header header
+header-reason (why.BadHeader enclave address flags) header h = ap unfit_header (same_Some _ _ h)
+header-reason reason header h = absurd cc
+
+-- .. and one that tells no header fits no page where its tags differ, and else is none
+pub two-tags : (reason : Refusal) → tells_two_tags reason ≡ true → (past : List Entry) (g : Page) → DoesNotFit past g reason
+two-tags (why.MacFail given computed) h past g = λ same.
+    let is : bytes_eq given computed ≡ true = (bytes_eq-Decides given computed).1 same in
+    false≢true (sym (ap not is) ∙ h)
+two-tags reason h past g = absurd cc
+
+pub no-reason : (reason : Refusal) → header_told reason ≡ None → tells_two_tags reason ≡ false → (past : List Entry) (g : Page)
+    → DoesNotFit past g reason → ⊥
+no-reason (why.MacFail given computed) headless equal past g unfit = unfit ((bytes_eq-Decides given computed).0 (not_false _ equal))
+no-reason (why.BadHeader enclave address flags) headless equal past g unfit = cc
+no-reason reason headless equal past g unfit = unfit
+
+pub no_reason : (s : State) (actor : Actor) (f : Frame) (reason : Refusal)
+    → ((past : List Entry) (g : Page) → DoesNotFit past g reason → ⊥) → Breaks s (refused_by actor (Eld f) reason) rules.Refusal
+no_reason s actor f reason none j cpus past records h =
+    refusal_fails j past (refused_by actor (Eld f) reason) (λ (back : IsNotBack past f.0 reason). none past back.page back.unfit)
+
 -- ---- a load that is told as refused
 
-does-not-fit : (past : List Entry) (g : Page) (own : Header) (reason : Refusal) → header_at past g ≡ Some own → is_unfit own reason ≡ true
-    → DoesNotFit past g reason
-does-not-fit past g own (why.MacFail given computed) headed unfit = λ same.
-    let is : bytes_eq given computed ≡ true = (bytes_eq-Decides given computed).1 same in
-    false≢true (sym (ap not is) ∙ unfit)
-does-not-fit past g own (why.BadHeader enclave address flags) headed unfit = λ told.
-    let same : own ≡ record { enclave = enclave; address = address; flags = flags } = same_Some _ _ (sym headed ∙ told) in
-    let is : same_header own (record { enclave = enclave; address = address; flags = flags }) ≡ true =
-    subst (λ x. same_header own x ≡ true) same (header-own own) in
-    false≢true (sym (ap not is) ∙ unfit)
-does-not-fit past g own reason headed unfit = absurd cc
+-- the tag that is computed of a record that was opened under the machine's key and the version of the start
+pub computed_is : (s : State) (f : Frame) (work : UnsealedWork) → IsUnder s f work → (coming : IsComing s f.0)
+    → work.computed ≡ tag s.key coming.start.version work.rec.header work.rec.cipher
+computed_is s f work under coming =
+    let version : work.version ≡ coming.start.version = rw coming.opened at under.version in
+    work.is_computed ∙ (λ i. tag (under.key i) (version i) work.rec.header work.rec.cipher)
 
-fits : (past : List Entry) (g : Page) (own : Header) (reason : Refusal) → header_at past g ≡ Some own → is_unfit own reason ≡ false
-    → DoesNotFit past g reason → ⊥
-fits past g own (why.MacFail given computed) headed fit unfit = unfit ((bytes_eq-Decides given computed).0 (not_false _ fit))
-fits past g own (why.BadHeader enclave address flags) headed fit unfit = unfit (headed ∙ ap Some (header-same own _ (not_false _ fit)))
-fits past g own reason headed fit unfit = unfit
-
--- a reason that cannot be so
-pub reason_fits : (s : State) (actor : Actor) (f : Frame) (rec : Sealed) (reason : Refusal) → is_unfit rec.header reason ≡ false
-    → (j : JobView) (past : List Entry) (records : List Made) → StandsWithAllRules (machine_of j) s past records
-    → IsOwnRecord j.key past f.0 rec → ScriptRule j past (refused_by actor (Eld f) reason)
-    → FailsHere j past (Some (refused_by actor (Eld f) reason)) rules.Refusal
-reason_fits s actor f rec reason fit j past records h own script =
-    refusal_fails j past (refused_by actor (Eld f) reason) script (λ (back : IsNotBack past f.0 reason).
-    let start : own.start ≡ back.ends.start = same_Some _ _ (sym own.opened ∙ back.ends.opened) in
-    let page : back.page ≡ own.page = same_Some _ _ (sym back.ends.loads ∙ ap (λ (x : Start). x.loads) (sym start) ∙ own.loads) in
-    fits past back.page rec.header reason (ap (header_at past) page ∙ own.header) fit back.unfit)
-
-module _ (s t : State) (actor : Actor) (f : Frame) (rec other : Sealed) (reason : Refusal) (made : Entry)
-    (apart : other.header.enclave ≡ other_number rec.header.enclave) (step : IsReloaded s actor f other made t)
+module _ (s t : State) (actor : Actor) (f : Frame) (rec : Sealed) (made : Entry) (step : IsReloaded s actor f rec made t)
     (back : (k : Making) (past : List Entry) (records : List Made) → StandsWithAllRules k s past records
-    → (IsDone made.event → BringsIn k.key past s f.0 other) → StandsWithAllRules k t (made ∷ past) records) where
-  pub turned_away : is_unfit rec.header reason ≡ true → (k : Making) (past : List Entry) (records : List Made)
-      → StandsWithAllRules k s past records → IsOwnRecord k.key past f.0 rec
-      → StandsWithAllRules k t (refused_by actor (Eld f) reason ∷ past) records
-  turned_away unfit k past records h own = by_row (first_of_row (commit_row s f.0 step.coming other)) refl
+    → (IsDone made.event → BringsIn k.key past s f.0 rec) → StandsWithAllRules k t (made ∷ past) records) where
+  computed : List ℕ
+  computed = tag s.key step.coming.start.version rec.header rec.cipher
+
+  -- the refusal that the machine made
+  goes-refused : (found : Refusal) → first_of_row (commit_row s f.0 step.coming rec) ≡ Some found → (k : Making) (past : List Entry)
+      (records : List Made) → StandsWithAllRules k s past records
+      → StandsWithAllRules k t (refused_by actor (Eld f) found ∷ past) records
+  goes-refused found refused k past records h =
+      let row = rw refused at step.row in
+      subst (λ x. StandsWithAllRules k t (x ∷ past) records) row.0
+      (back k past records h (λ was_done. absurd (subst (λ (x : Entry). IsDone x.event) row.0 was_done)))
+
+  -- .. stands for each other reason for which no page fits
+  turned : (found reason : Refusal) → first_of_row (commit_row s f.0 step.coming rec) ≡ Some found
+      → ((past : List Entry) (g : Page) → DoesNotFit past g reason) → GoesOnWith s (refused_by actor (Eld f) reason) [] t
+  turned found reason refused unfit = with_none s t (refused_by actor (Eld f) reason) (λ k past records h.
+      let own = ends_refused s past f.0 step.coming rec found h.shaped.shape.columns h.standing.stands refused in
+      other_refusal past actor f found reason k t records (goes-refused found refused k past records h)
+      (record { page = own.page; ends = own.ends; unfit = unfit past own.page }))
+
+  pub tag_refused : (rec.tag ≡ computed → ⊥) → (reason : Refusal) → ((past : List Entry) (g : Page) → DoesNotFit past g reason)
+      → GoesOnWith s (refused_by actor (Eld f) reason) [] t
+  tag_refused apart reason unfit = by_test (tested (bytes_eq rec.tag computed))
     where
-      not_back : IsNotBack past f.0 reason
-      not_back = record {
-        page = own.page;
-        ends = record { start = own.start; opened = own.opened; loads = own.loads };
-        unfit = does-not-fit past own.page rec.header reason own.header unfit;
-      }
+      by_test : (bytes_eq rec.tag computed ≡ true) ⊎ (bytes_eq rec.tag computed ≡ false)
+          → GoesOnWith s (refused_by actor (Eld f) reason) [] t
+      by_test (inl same) = absurd (apart ((bytes_eq-Decides rec.tag computed).0 same))
+      by_test (inr differs) = turned (why.MacFail rec.tag computed) reason (rw differs refl) unfit
 
-      by_row : (o : Option Refusal) → first_of_row (commit_row s f.0 step.coming other) ≡ o
-          → StandsWithAllRules k t (refused_by actor (Eld f) reason ∷ past) records
+  -- where the tag fits, only the header can refuse the record
+  found-is : bytes_eq rec.tag computed ≡ true → (found : Refusal) → first_of_row (commit_row s f.0 step.coming rec) ≡ Some found
+      → found ≡ unfit_header rec.header
+  found-is fits found refused = by_test (tested (same_header rec.header step.coming.header))
+    where
+      by_test : (same_header rec.header step.coming.header ≡ true) ⊎ (same_header rec.header step.coming.header ≡ false)
+          → found ≡ unfit_header rec.header
+      by_test (inl same) = absurd (none-some _ (sym (let e : first_of_row (commit_row s f.0 step.coming rec) ≡ None = rw (fits, same) refl in e)
+          ∙ refused))
+      by_test (inr differs) =
+          let e : first_of_row (commit_row s f.0 step.coming rec) ≡ Some (unfit_header rec.header) = rw (fits, differs) refl in
+          same_Some _ _ (sym refused ∙ e)
+
+  pub header_told_right : rec.tag ≡ computed → is_refused made.event ≡ true
+      → GoesOnWith s (refused_by actor (Eld f) (unfit_header rec.header)) [] t
+  header_told_right tagged refused = by_row (first_of_row (commit_row s f.0 step.coming rec)) refl
+    where
+      fits : bytes_eq rec.tag computed ≡ true
+      fits = (bytes_eq-Decides rec.tag computed).1 tagged
+
+      by_row : (o : Option Refusal) → first_of_row (commit_row s f.0 step.coming rec) ≡ o
+          → GoesOnWith s (refused_by actor (Eld f) (unfit_header rec.header)) [] t
       by_row None allowed =
-          let headed : other.header ≡ rec.header = (row_allows s f.0 step.coming other allowed).header
-          ∙ sym (own-header k s past records f rec h own step.coming) in
-          absurd (number-apart rec.header.enclave (sym apart ∙ ap (λ (x : Header). x.enclave) headed))
-      by_row (Some found) refused =
-          let row = rw refused at step.row in
-          other_refusal past actor f found reason k t records
-          (subst (λ x. StandsWithAllRules k t (x ∷ past) records) row.0
-          (back k past records h (λ was_done. absurd (subst (λ (x : Entry). IsDone x.event) row.0 was_done)))) not_back
+          let row = rw allowed at step.row in
+          absurd (false≢true (ap (λ (x : Entry). is_refused x.event) (sym row.0) ∙ refused))
+      by_row (Some found) at = with_none s t (refused_by actor (Eld f) (unfit_header rec.header)) (λ k past records h.
+          subst (λ r. StandsWithAllRules k t (refused_by actor (Eld f) r ∷ past) records) (found-is fits found at)
+          (goes-refused found at k past records h))
 
--- the entry that tells of it
-pub refused_entry : (e : Entry) (f : Frame) (action : Action) (reason : Refusal) → e.event ≡ Refused action reason
-    → action_of e.event ≡ Some (Eld f) → refused_by e.actor (Eld f) reason ≡ e
-refused_entry e f action reason is own =
-    let act : action ≡ Eld f = same_Some _ _ (sym (ap action_of is) ∙ own) in
-    let event : e.event ≡ Refused (Eld f) reason = is ∙ (λ k. Refused (act k) reason) in
-    λ i. record { actor = e.actor; event = sym event i }
+  pub header_told_wrong : is_refused made.event ≡ false → Breaks s (refused_by actor (Eld f) (unfit_header rec.header)) rules.Refusal
+  header_told_wrong done j cpus past records h =
+      refusal_fails j past (refused_by actor (Eld f) (unfit_header rec.header)) (λ (told : IsNotBack past f.0 (unfit_header rec.header)).
+      let started : Some step.coming.start ≡ bare_start (Some told.ends.start) =
+      sym step.coming.opened ∙ start_is h.shaped.shape.columns f.0 ∙ ap bare_start told.ends.opened in
+      let page : told.page ≡ step.coming.page = same_Some _ _ (sym told.ends.loads
+      ∙ ap (λ (x : BareStart). x.loads) (sym (same_Some step.coming.start (without_place told.ends.start) started)) ∙ step.coming.loads) in
+      told.unfit (ap (header_at past) page ∙ coming_header s past f.0 h.standing.stands step.coming ∙ ap Some (sym headed)))
+    where
+      headed : rec.header ≡ step.coming.header
+      headed = by_row (first_of_row (commit_row s f.0 step.coming rec)) refl
+        where
+          by_row : (o : Option Refusal) → first_of_row (commit_row s f.0 step.coming rec) ≡ o → rec.header ≡ step.coming.header
+          by_row None allowed = (row_allows s f.0 step.coming rec allowed).header
+          by_row (Some found) at =
+              let row = rw at at step.row in
+              absurd (false≢true (sym done ∙ ap (λ (x : Entry). is_refused x.event) row.0))

@@ -109,8 +109,8 @@ no-end j past actor event f own still h = absurd (none-some _ own)
 
 pub none_leaves : (s : State) (e : Entry) (f : Frame) → action_of e.event ≡ Some (Ewb f) → s.is_sealing f.0 ≡ false
     → Breaks s e rules.Refusal
-none_leaves s e f own still j past records h script =
-    refusal_fails j past e script (no-end j past e.actor e.event f own (sym (sealing_is h.shaped.shape.columns f.0) ∙ still))
+none_leaves s e f own still j cpus past records h =
+    refusal_fails j past e (no-end j past e.actor e.event f own (sym (sealing_is h.shaped.shape.columns f.0) ∙ still))
 
 -- ---- the end that the machine makes
 

@@ -23,7 +23,6 @@ use Rattle.turn_rules.specs.Script.{action_of}
 use Rattle.driver_rules.specs.Ages.{Ahead, EndsNext, GoesOn, InPass, IsAhead, IsInTries, Looks, TriesNext, ahead}
 use Rattle.driver_rules.specs.Passes.{Between, Blocking, Pass, Scan, Tries, pass}
 use Rattle.driver_rules.specs.Spares.{outs}
-use Rattle.driver_rules.specs.Scripts.{ScriptRule}
 use Rattle.paging_laws.specs.inner.State.{State, row_outside}
 use Rattle.paging_laws.specs.inner.Steps.{is_of_cpus}
 use Rattle.paging_laws.proofs.RowLaws.{row_outside_agrees}
@@ -115,22 +114,20 @@ no_ahead j past (EndsNext g) action r own h = h
 -- ---- the rule that is told
 
 module _ (j : JobView) (past : List Entry) (action : Action) (own : is_of_cpus action ≡ true) where
-  done_form : (answer : Answer) (b : Bool) → has_form action answer ≡ b → ScriptRule j past (done action answer)
-      → first j past action ≡ None → FailsHere j past (Some (done action answer)) (rule_outside None (Did action answer))
-  done_form answer true is script none =
-      subst (λ b. FailsHere j past (Some (done action answer)) (outside.rule_of_done b)) (sym is)
-      (flat_fails j past (done action answer) script (none, has_its_form past action answer is) (not_flat j past action answer own none))
-  done_form answer false is script none =
-      subst (λ b. FailsHere j past (Some (done action answer)) (outside.rule_of_done b)) (sym is)
-      (refusal_fails j past (done action answer) script (λ h.
+  done_form : (answer : Answer) (b : Bool) → has_form action answer ≡ b → first j past action ≡ None → FailsAmong is_machines j past (Some (done action answer)) (rule_outside None (Did action answer))
+  done_form answer true is none =
+      subst (λ b. FailsAmong is_machines j past (Some (done action answer)) (outside.rule_of_done b)) (sym is)
+      (flat_fails j past (done action answer) (none, has_its_form past action answer is) (not_flat j past action answer own none))
+  done_form answer false is none =
+      subst (λ b. FailsAmong is_machines j past (Some (done action answer)) (outside.rule_of_done b)) (sym is)
+      (refusal_fails j past (done action answer) (λ h.
       false≢true (sym is ∙ is_of_its_form past action answer (not_apart action own) h.1)))
 
-  refused_so : (r found : Refusal) (b : Bool) → same_refusal r found ≡ b → ScriptRule j past (refused action r)
-      → KeepsRules (machine_of j) past → first j past action ≡ Some found
-      → FailsHere j past (Some (refused action r)) (rule_outside (Some found) (Refused action r))
-  refused_so r found true is script keeps at =
-      subst (λ b. FailsHere j past (Some (refused action r)) (outside.rule_of_refused b)) (sym is)
-      (age_fails j past (refused action r) script (record { each = each })
+  refused_so : (r found : Refusal) (b : Bool) → same_refusal r found ≡ b → KeepsRules (machine_of j) past → first j past action ≡ Some found
+      → FailsAmong is_machines j past (Some (refused action r)) (rule_outside (Some found) (Refused action r))
+  refused_so r found true is keeps at =
+      subst (λ b. FailsAmong is_machines j past (Some (refused action r)) (outside.rule_of_refused b)) (sym is)
+      (age_fails j past (refused action r) (record { each = each })
       (λ h. no_ahead j past (ahead j past (outs j past)) action r own h))
     where
       each : (rule : Rule) → is_machines rule ≡ true → Says j rule past (Some (refused action r))
@@ -143,41 +140,37 @@ module _ (j : JobView) (past : List Entry) (action : Action) (own : is_of_cpus a
       each rules.Sealed its = tt
       each rules.Measure its = quiet past action r own
       each rule its = absurd cc
-  refused_so r found false is script keeps at =
-      subst (λ b. FailsHere j past (Some (refused action r)) (outside.rule_of_refused b)) (sym is)
-      (refusal_fails j past (refused action r) script (λ h.
+  refused_so r found false is keeps at =
+      subst (λ b. FailsAmong is_machines j past (Some (refused action r)) (outside.rule_of_refused b)) (sym is)
+      (refusal_fails j past (refused action r) (λ h.
       ends_apart (Refused action r) (Refused action found) action refl is
       (ap (Refused action) (same_Some _ _ (sym (refusal_is j past action r own h) ∙ at)))))
 
   by_first : (event : Event) (o : Option Refusal) → action_of event ≡ Some action
-      → ScriptRule j past (record { actor = actors.Reclaimer; event = event }) → KeepsRules (machine_of j) past → first j past action ≡ o
-      → FailsHere j past (Some (record { actor = actors.Reclaimer; event = event })) (rule_outside o event)
-  by_first (Did one answer) None same script keeps at = with_same one (sym (same_Some _ _ same)) script
-    where
-      with_same : (one : Action) → action ≡ one → ScriptRule j past (done one answer)
-          → FailsHere j past (Some (done one answer)) (rule_outside None (Did one answer))
-      with_same one eq script = subst (λ x. FailsHere j past (Some (done x answer)) (rule_outside None (Did x answer))) eq
-          (done_form answer (has_form action answer) refl (subst (λ x. ScriptRule j past (done x answer)) (sym eq) script) at)
-  by_first (Did one answer) (Some found) same script keeps at =
-      refusal_fails j past (done one answer) script (λ h.
+      → KeepsRules (machine_of j) past → first j past action ≡ o
+      → FailsAmong is_machines j past (Some (record { actor = actors.Reclaimer; event = event })) (rule_outside o event)
+  by_first (Did one answer) None same keeps at = with_same one (sym (same_Some _ _ same))     where
+      with_same : (one : Action) → action ≡ one → FailsAmong is_machines j past (Some (done one answer)) (rule_outside None (Did one answer))
+      with_same one eq = subst (λ x. FailsAmong is_machines j past (Some (done x answer)) (rule_outside None (Did x answer))) eq
+          (done_form answer (has_form action answer) refl (subst (λ x. ) (sym eq) ) at)
+  by_first (Did one answer) (Some found) same keeps at =
+      refusal_fails j past (done one answer) (λ h.
       none-some _ (sym (ap (first j past) (sym (same_Some _ _ same)) ∙ h.0) ∙ at))
-  by_first (Refused one r) None same script keeps at =
-      refusal_fails j past (refused one r) script (λ h.
+  by_first (Refused one r) None same keeps at =
+      refusal_fails j past (refused one r) (λ h.
       none-some _ (sym at ∙ refusal_is j past action r own
       (subst (λ x. RefusalRule (machine_of j) past (refused x r)) (same_Some _ _ same) h)))
-  by_first (Refused one r) (Some found) same script keeps at = with_same one (sym (same_Some _ _ same)) script
-    where
-      with_same : (one : Action) → action ≡ one → ScriptRule j past (refused one r)
-          → FailsHere j past (Some (refused one r)) (rule_outside (Some found) (Refused one r))
-      with_same one eq script = subst (λ x. FailsHere j past (Some (refused x r)) (rule_outside (Some found) (Refused x r))) eq
-          (refused_so r found (same_refusal r found) refl (subst (λ x. ScriptRule j past (refused x r)) (sym eq) script) keeps at)
-  by_first event o same script keeps at = absurd (none-some _ same)
+  by_first (Refused one r) (Some found) same keeps at = with_same one (sym (same_Some _ _ same))     where
+      with_same : (one : Action) → action ≡ one → FailsAmong is_machines j past (Some (refused one r)) (rule_outside (Some found) (Refused one r))
+      with_same one eq = subst (λ x. FailsAmong is_machines j past (Some (refused x r)) (rule_outside (Some found) (Refused x r))) eq
+          (refused_so r found (same_refusal r found) refl (subst (λ x. ) (sym eq) ) keeps at)
+  by_first event o same keeps at = absurd (none-some _ same)
 
 pub outside_breaks : (s : State) (e : Entry) (action : Action) → action_of e.event ≡ Some action → is_of_cpus action ≡ true
     → e.actor ≡ actors.Reclaimer → Breaks s e (rule_outside (first_of_row (row_outside s action)) e.event)
-outside_breaks s e action same own reclaimer j past records h script =
-    subst (λ x. FailsHere j past (Some x) (rule_outside (first_of_row (row_outside s action)) e.event)) (sym whole)
-    (by_first j past action own e.event (first_of_row (row_outside s action)) same (subst (ScriptRule j past) whole script)
+outside_breaks s e action same own reclaimer j past records h =
+    subst (λ x. FailsAmong is_machines j past (Some x) (rule_outside (first_of_row (row_outside s action)) e.event)) (sym whole)
+    (by_first j past action own e.event (first_of_row (row_outside s action)) same (subst () whole )
     (own_rules (machine_of j) s past records h) agrees)
   where
     whole : e ≡ record { actor = actors.Reclaimer; event = e.event }

@@ -1,37 +1,37 @@
 -- What comes of asking a machine for the instruction of an entry: it made that entry, or the entry breaks a rule.
-use Rattle.std.specs.Prelude.{ℕ, ◌≡◌, ◌==◌, if◌then◌else◌, Bool, false, not, List, [], ◌∷◌, ◌++◌, Option, None}
-use Rattle.std.specs.Prelude.{Some, bytes_eq}
+use Rattle.std.specs.Prelude.{ℕ, ◌≡◌, ◌==◌, nat_lt, Bool, false, List, [], ◌∷◌, ◌++◌, Option, None, Some}
 use Rattle.sgx_rules.specs.declared.entries.Action.TheVariants.{Ewb, Eld}
 use Rattle.sgx_rules.specs.declared.entries.Answer.TheVariants.{Moved}
 use Rattle.sgx_rules.specs.declared.entries.Entry.{Entry}
 use Rattle.sgx_rules.specs.declared.entries.Event.{Event}
 use Rattle.sgx_rules.specs.declared.entries.Event.TheVariants.{Did}
 use Rattle.sgx_types.specs.declared.names.Frame.{Frame}
+use Rattle.sgx_types.specs.declared.names.Actor.{Actor}
+use Rattle.sgx_types.specs.declared.names.Actor.TheVariants as actors
 use Rattle.sgx_types.specs.declared.names.Page.{Page}
 use Rattle.sgx_types.specs.declared.names.TheConstants.{SECS_NUMBER}
-use Rattle.sgx_types.specs.declared.record.Header.{Header}
-use Rattle.sgx_rules.specs.declared.refusals.Refusal.{Refusal}
-use Rattle.sgx_rules.specs.declared.refusals.Refusal.TheVariants as why
 use Rattle.sgx_rules.specs.PageBytes.{header_at}
 use Rattle.sgx_types.specs.Making.{Making}
 use Rattle.sgx_types.specs.Sealed.{Sealed}
 use Rattle.sgx_rules.specs.Starts.{Start, open_start}
 use Rattle.seal_record.specs.Cipher.{tag}
 use Rattle.seal_record.specs.Records.{Made}
-use Rattle.seal_record.specs.inner.Row.{same_header}
 use Rattle.seal_record.specs.declared.unseal.UnsealedWork.{UnsealedWork}
 use Rattle.seal_record.specs.Sealing.{made_with}
 use Rattle.job_grammar.specs.Jobs.{JobView}
-use Rattle.turn_rules.specs.Machines.{machine_of}
-use Rattle.driver_rules.specs.Scripts.{ScriptRule}
 use Rattle.paging_laws.specs.inner.Histories.{BringsBack, StandsWithAllRules}
 use Rattle.paging_laws.specs.inner.State.{State}
 use Rattle.run_history.specs.declared.rules.Rule.{Rule}
-use Rattle.run_history.specs.Histories.{FailsHere}
-use Rattle.audit_machine.specs.declared.coming.Back.{Back}
-use Rattle.audit_machine.specs.declared.coming.Back.TheVariants as backs
+use Rattle.run_history.specs.inner.Histories.{is_machines}
+use Rattle.machine_history.specs.Histories.{FailsAmong}
 use Rattle.audit_machine.specs.declared.leaving.Out.{Out}
 use Rattle.audit_machine.specs.declared.leaving.Out.TheVariants as outs
+
+-- ---- the machine
+
+-- a machine of a job that has so many processors: no rule of the processor counts them
+abbrev pub made_for : JobView → ℕ → Making
+made_for j cpus = record { frames = j.epc; cpus = cpus; key = j.key; first_epoch = j.start_epoch; first_version = j.start_version }
 
 -- ---- of an entry
 
@@ -40,10 +40,10 @@ abbrev pub GoesOnWith : State → Entry → List Made → State → Type 0
 GoesOnWith s e more t = (k : Making) (past : List Entry) (records : List Made) → StandsWithAllRules k s past records
     → StandsWithAllRules k t (e ∷ past) (records ++ more)
 
--- whatever entries the state stood for, behind them the entry breaks this rule first, if its actor may make it there
+-- whatever entries the state stood for, behind them the entry breaks this of the processor's rules first
 abbrev pub Breaks : State → Entry → Rule → Type 0
-Breaks s e rule = (j : JobView) (past : List Entry) (records : List Made) → StandsWithAllRules (machine_of j) s past records
-    → ScriptRule j past e → FailsHere j past (Some e) rule
+Breaks s e rule = (j : JobView) (cpus : ℕ) (past : List Entry) (records : List Made) → StandsWithAllRules (made_for j cpus) s past records
+    → FailsAmong is_machines j past (Some e) rule
 
 -- .. where a rule was told
 abbrev pub Takes : State → Entry → State → Option Rule → Type 0
@@ -86,23 +86,15 @@ IsDoneBack (Did action answer) f = action ≡ Eld f
 IsDoneBack _ f = ⊥
 
 -- where a frame waits for the page of this record, the entry is taken, or breaks this rule first
-abbrev pub TakesBack : State → Entry → Frame → Sealed → State → Back → Type 0
-TakesBack s e f rec t (backs.Broken rule) = (j : JobView) (past : List Entry) (records : List Made)
-    → StandsWithAllRules (machine_of j) s past records → IsOwnRecord j.key past f.0 rec → ScriptRule j past e
-    → FailsHere j past (Some e) rule
-TakesBack s e f rec t backs.Here = ((k : Making) (past : List Entry) (records : List Made)
-    → StandsWithAllRules k s past records → IsOwnRecord k.key past f.0 rec → StandsWithAllRules k t (e ∷ past) records)
-    × IsDoneBack e.event f
-TakesBack s e f rec t (backs.Away work) = ((k : Making) (past : List Entry) (records : List Made)
-    → StandsWithAllRules k s past records → IsOwnRecord k.key past f.0 rec → StandsWithAllRules k t (e ∷ past) records)
-    × (work.rec ≡ rec)
+abbrev pub TakesBack : State → Entry → Frame → Sealed → State → Option Rule → Type 0
+TakesBack s e f rec t (Some rule) = (j : JobView) (cpus : ℕ) (past : List Entry) (records : List Made)
+    → StandsWithAllRules (made_for j cpus) s past records → IsOwnRecord j.key past f.0 rec → FailsAmong is_machines j past (Some e) rule
+TakesBack s e f rec t None = (k : Making) (past : List Entry) (records : List Made)
+    → StandsWithAllRules k s past records → IsOwnRecord k.key past f.0 rec → StandsWithAllRules k t (e ∷ past) records
 
--- why a record can have been refused, where the page's header is this one
-abbrev pub is_unfit : Header → Refusal → Bool
-is_unfit own (why.MacFail given computed) = not (bytes_eq given computed)
-is_unfit own (why.BadHeader enclave address flags) =
-    not (same_header own (record { enclave = enclave; address = address; flags = flags }))
-is_unfit own _ = false
+-- ---- of a processor's instruction by whom the machine has no such processor
 
-abbrev pub other_number : ℕ → ℕ
-other_number n = if n == 0 then 1 else 0
+abbrev pub is_processor : ℕ → Actor → Bool
+is_processor cpus (actors.Cpu p) = nat_lt p.0 cpus
+is_processor cpus actors.Builder = false
+is_processor cpus actors.Reclaimer = false
