@@ -105,10 +105,6 @@ module _ (past : List Entry) (a : Actor) (f : Frame) (arrays : ArraysApart (vas_
   unmade_not_named x k index is high = not_named x k index is (λ here.
       let low = arrays.below x.at.frame.0 k (ap array_in here) in omega (arith, low, high))
 
-  -- a frame that holds a page that another holds is that one
-  held_once : (m n k : ℕ) → content past m ≡ IsVa k → content past n ≡ IsVa k → m ≡ n
-  held_once m n k here there = arrays.once m n k (ap array_in here) (ap array_in there)
-
   -- a version array page goes out as it is, and others rest
   ewb_rest : (page : Page) (version : ℕ) (tag : List ℕ) → EndsRightOut past f.0 (Moved page version tag)
       → ArraysRest (entry_of a (Did (Ewb f) (Moved page version tag)) ∷ past)
@@ -134,7 +130,7 @@ module _ (past : List Entry) (a : Actor) (f : Frame) (arrays : ArraysApart (vas_
           → names_slot (open_slot past f.0) (record { va = k; index = index }) ≡ false
       not_its_own k index is = not_named x k index right.ends.opened (λ there.
           false≢true (sym (found f.0 x right.ends.opened).stays
-          ∙ ap (is_sealing past) (held_once x.at.frame.0 f.0 k there (here k is)) ∙ right.leaves))
+          ∙ ap (is_sealing past) (arrays.once x.at.frame.0 f.0 k there (here k is)) ∙ right.leaves))
 
       still : (k : ℕ) → ((index : ℕ) → names_slot (open_slot past f.0) (record { va = k; index = index }) ≡ false)
           → va_words (entry_of a (Did (Ewb f) (Moved page version tag)) ∷ past) k ≡ va_words past k
@@ -160,7 +156,7 @@ module _ (past : List Entry) (a : Actor) (f : Frame) (arrays : ArraysApart (vas_
           by_held : (f.0 == n) ≡ false → (d : Bool) → is_va_of (content past n) k ≡ d → d ≡ false
           by_held other false there = refl
           by_held other true there =
-              absurd (false≢true (sym other ∙ eq-eqb f.0 n (held_once f.0 n k (here k e) (va_is (content past n) k there))))
+              absurd (false≢true (sym other ∙ eq-eqb f.0 n (arrays.once f.0 n k (here k e) (va_is (content past n) k there))))
 
       below : (k : ℕ) (words : List ℕ) (b : Bool) → same_page page (va_page k) ≡ b
           → cond b (Some (va_words past k)) (words_out past k) ≡ Some words → k < vas_made past
