@@ -1,9 +1,9 @@
 //! What a driver that moves version array pages asks before it does.
 
-ghost use Rattle.std.specs.Prelude.{◌≡◌, true, false, Some, ℕ};
+ghost use Rattle.std.specs.Prelude.{◌≡◌, true, false, ℕ};
+ghost use Rattle.sgx_rules.specs.Frames.{IsVa};
 ghost use Rattle.sgx_rules.specs.Table.{is_va};
 ghost use Rattle.epcm_entry.specs.inner.Sights.{held};
-ghost use Rattle.page_history.specs.inner.Away.{array_in};
 ghost use Rattle.paging_machine.specs.inner.Parts.{state_of};
 
 use crate::machine::Machine;
@@ -25,10 +25,10 @@ impl Machine {
         frame.0 < self.epc.frames() && self.epc.entry(frame).is_va()
     }
 
-    /// Whether a frame holds a version array page, by the page's number, or waits for it. Looks at each frame.
+    /// Whether a frame holds a version array page, by the page's number. Looks at each frame.
     pub fn has_array(&self, number: u32) -> bool
-        ensures there { result ≡ true → (n : ℕ) × (array_in ((state_of self.now).content n) ≡ Some number) }
-        ensures away { result ≡ false → (n : ℕ) → array_in ((state_of self.now).content n) ≡ Some number → ⊥ }
+        ensures there { result ≡ true → (n : ℕ) × ((state_of self.now).content n ≡ IsVa number) }
+        ensures away { result ≡ false → (n : ℕ) → (state_of self.now).content n ≡ IsVa number → ⊥ }
     {
         for frame in 0..self.epc.frames() {
             if is_array(self.epc.entry(Frame(frame)), number) {
@@ -39,10 +39,10 @@ impl Machine {
     }
 }
 
-// An entry's frame holds this version array page, or waits for it.
+// An entry's frame holds this version array page.
 fn is_array(entry: EntryView, number: u32) -> bool
-    ensures there { result ≡ true → array_in (held entry) ≡ Some number }
-    ensures away { result ≡ false → array_in (held entry) ≡ Some number → ⊥ }
+    ensures there { result ≡ true → held entry ≡ IsVa number }
+    ensures away { result ≡ false → held entry ≡ IsVa number → ⊥ }
 {
     match entry {
         EntryView::Valid {
@@ -50,7 +50,6 @@ fn is_array(entry: EntryView, number: u32) -> bool
             kind: Kind::Va,
             ..
         } => page.number == number,
-        EntryView::Loading { page } => page.enclave == 0 && page.number == number,
         _ => false,
     }
 }
