@@ -1,6 +1,6 @@
 -- The end of a load.
 use Rattle.std.specs.Prelude.{MatchOption, not, bytes_eq, ◌&&◌}
-use Rattle.std.proofs.Common.{◌≡◌, ℕ, ◌==◌, true, false, refl, sym, ap, subst, ◌∙◌, ◌⊎◌}
+use Rattle.std.proofs.Common.{◌≡◌, ℕ, ◌<◌, ◌==◌, true, false, refl, sym, ap, subst, ◌∙◌, ◌⊎◌}
 use Rattle.std.proofs.Common.{inl, inr, List, ◌∷◌, Option, Some, None}
 use Rattle.std.proofs.lemmas.Bool.{eqb-true, eq-eqb, and_from, false≢true}
 use Rattle.std.proofs.lemmas.Slice.Eq.{bytes_eq-Decides}
@@ -18,10 +18,13 @@ use Rattle.sgx_types.specs.declared.record.Header.{Header}
 use Rattle.sgx_rules.specs.declared.refusals.Refusal.{Refusal}
 use Rattle.sgx_rules.specs.declared.refusals.Refusal.TheVariants as why
 use Rattle.sgx_rules.specs.Ends.{DoesNotFit, EndsIn, IsBack, IsNotBack}
+use Rattle.sgx_rules.specs.Frames.{IsLoading, IsVa, content, stands}
+use Rattle.sgx_types.specs.Pages.{is_va_page}
 use Rattle.sgx_rules.specs.PageBytes.{header_at}
 use Rattle.sgx_types.specs.Making.{Making}
 use Rattle.sgx_rules.specs.Rules.{RefusalRule}
 use Rattle.sgx_types.specs.Sealed.{Sealed}
+use Rattle.sgx_rules.specs.Slots.{version_in}
 use Rattle.sgx_rules.specs.Starts.{Start}
 use Rattle.sgx_rules.specs.inner.Starts.{BareStart, bare_start, without_place}
 use Rattle.sgx_rules.specs.Table.{first_of_row, is_loading}
@@ -30,6 +33,11 @@ use Rattle.seal_record.specs.Cipher.{tag}
 use Rattle.seal_record.specs.Records.{Made}
 use Rattle.seal_record.specs.inner.Row.{same_header}
 use Rattle.job_grammar.specs.Jobs.{JobView}
+use Rattle.page_history.specs.inner.Copies.{InFrame, InSlot, OneLiveCopy, copy}
+use Rattle.page_history.specs.inner.Once.{IsGone, KeepsMoves, StartsApart}
+use Rattle.page_history.proofs.ArrayLaws.{va_stands}
+use Rattle.page_history.proofs.CopyLaws.{live_copies, out_is_gone, whose_copy}
+use Rattle.page_history.proofs.DrawnLaws.{drawn_once}
 use Rattle.page_history.proofs.StartLaws.{starts_apart}
 use Rattle.turn_rules.specs.Machines.{machine_of}
 use Rattle.turn_rules.specs.Script.{action_of}
@@ -37,7 +45,7 @@ use Rattle.driver_rules.specs.Scripts.{ScriptRule}
 use Rattle.paging_laws.specs.inner.Histories.{BringsBack, BringsIn, StandsWithAllRules}
 use Rattle.paging_laws.specs.inner.Notes.{IsDone}
 use Rattle.paging_laws.specs.inner.State.{State}
-use Rattle.paging_laws.specs.inner.Steps.{IsComing, IsReloaded, commit_row, did_by, refused_by}
+use Rattle.paging_laws.specs.inner.Steps.{CanBring, IsComing, IsReloaded, commit_row, did_by, refused_by}
 use Rattle.paging_laws.proofs.ColumnLaws.{content_is, start_is}
 use Rattle.paging_laws.proofs.MoveEnds.{coming_header}
 use Rattle.paging_laws.proofs.ReloadLaws.{keeps_moves, row_allows}
@@ -117,6 +125,39 @@ module _ (k : Making) (s : State) (past : List Entry) (records : List Made) (f :
       let page : own.page ≡ g = same_Some _ _ (sym own.loads ∙ ap (λ (x : BareStart). x.loads) same ∙ loads) in
       subst (λ (x : BareStart). BringsBack k.key past f.0 g x.version rec) same
       (subst (λ p. BringsBack k.key past f.0 p own.start.version rec) page own.brings)
+
+  -- the page is in its slot, so that no frame holds it
+  pub can_bring : CanBring s f.0
+  can_bring = record { away = away }
+    where
+      moves : KeepsMoves k past
+      moves = keeps_moves k s past records h
+
+      starts : StartsApart k.frames past
+      starts = starts_apart k past moves
+
+      live : OneLiveCopy past
+      live = live_copies k past h.positive moves
+
+      found : (version_in past own.start.slot ≡ own.start.version) × (0 < own.start.version)
+      found = starts.found f.0 own.start own.page own.opened own.loads
+
+      in_slot : copy past own.page ≡ Some (InSlot own.start.slot (version_in past own.start.slot))
+      in_slot =
+          let gone = out_is_gone past own.page _ own.brings.last.last in
+          let under = subst (λ v. IsGone past (record { page = own.page; version = v })) (sym found.0) gone in
+          whose_copy k.first_version past live (drawn_once k past moves) own.start.slot own.page (rw found.0 found.1) under
+
+      away : (page : Page) → s.content f.0 ≡ IsLoading page → is_va_page page ≡ true → (n : ℕ) → s.content n ≡ IsVa page.number → ⊥
+      away page waits va n held =
+          let columns = h.shaped.shape.columns in
+          let both : IsLoading page ≡ IsLoading own.page =
+          sym waits ∙ content_is columns f.0 ∙ starts.loading f.0 own.start own.page own.opened own.loads in
+          let same : page ≡ own.page = cc both in
+          let stood : stands (content past n) page ≡ true = va_stands (content past n) page va (sym (content_is columns n) ∙ held) in
+          let framed : copy past own.page ≡ Some (InFrame n) = ap (copy past) (sym same) ∙ live.framed n page stood in
+          let twice : Some (InFrame n) ≡ Some (InSlot own.start.slot (version_in past own.start.slot)) = sym framed ∙ in_slot in
+          cc twice
 
   own-page : (coming : IsComing s f.0) → own.page ≡ coming.page
   own-page coming = same_Some _ _ (sym own.loads ∙ ap (λ (x : BareStart). x.loads) (own-start coming.start coming.opened) ∙ coming.loads)

@@ -3,7 +3,7 @@
 ghost use Rattle.std.specs.Prelude.{◌≡◌, true, IfOk, OnErr, Some, length};
 ghost use Rattle.audit_machine.specs.inner.Asked.{IsDoneBack, TakesBack, is_unfit, other_number};
 ghost use Rattle.paging_laws.specs.inner.State.{making_of};
-ghost use Rattle.paging_laws.specs.inner.Steps.{refused_by};
+ghost use Rattle.paging_laws.specs.inner.Steps.{CanBring, refused_by};
 ghost use Rattle.paging_machine.specs.inner.Parts.{state_of};
 ghost use Rattle.sgx_rules.specs.declared.entries.Action.TheVariants as actions;
 ghost use Rattle.sgx_rules.specs.Table.{is_loading};
@@ -35,7 +35,8 @@ pub enum Back {
 
 /// Asks a machine for the `eld` of an entry, where `work` is the record with which the page went out last that the frame waits for, opened.
 /// Takes no SHA-256 where the load is done: the work was opened before. Of a refused load an entry tells why its record does not fit, which
-/// only the store has seen: it is asked that this can be so, and the machine is given a record that fits no page.
+/// only the store has seen: it is asked that this can be so, and the machine is given a record that fits no page. A version array page for
+/// which the frame waits is in no frame, as it is where `work` is its own record (`own_records_can_come`).
 ///
 /// Refused memory leaves the machine as it was.
 pub fn ask_back(
@@ -46,6 +47,7 @@ pub fn ask_back(
     work: UnsealedWork,
 ) -> Result<Back, Memory>
     requires own { action_of entry.now.event ≡ Some (actions.Eld frame) }
+    requires can_bring { CanBring (state_of machine.old) frame.0 }
     ensures takes { IfOk result (TakesBack (state_of machine.old) entry.now frame work.rec (state_of machine.new)) }
     ensures making { making_of (state_of machine.new) ≡ making_of (state_of machine.old) }
     ensures cpus { length machine.new.cpus ≡ length machine.old.cpus }
@@ -63,6 +65,7 @@ pub fn ask_back(
 // The load of an entry that tells that it was done.
 fn bring(machine: &mut Machine, entry: &Entry, frame: Frame, work: UnsealedWork) -> Back
     requires coming { is_loading ((state_of machine.old).content frame.0) ≡ true }
+    requires can_bring { CanBring (state_of machine.old) frame.0 }
     requires done { IsDoneBack entry.now.event frame }
     ensures takes { TakesBack (state_of machine.old) entry.now frame work.rec (state_of machine.new) result }
     ensures making { making_of (state_of machine.new) ≡ making_of (state_of machine.old) }
@@ -85,6 +88,7 @@ fn refuse(
     why: &Refusal,
 ) -> Result<Back, Memory>
     requires coming { is_loading ((state_of machine.old).content frame.0) ≡ true }
+    requires can_bring { CanBring (state_of machine.old) frame.0 }
     ensures takes { IfOk result (TakesBack (state_of machine.old) (refused_by actor (actions.Eld frame) why.now) frame work.rec
         (state_of machine.new)) }
     ensures making { making_of (state_of machine.new) ≡ making_of (state_of machine.old) }

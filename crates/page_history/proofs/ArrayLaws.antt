@@ -16,15 +16,14 @@ use Rattle.sgx_types.specs.declared.names.Perm.{Perm}
 use Rattle.sgx_types.specs.declared.names.TheConstants.{SECS_NUMBER}
 use Rattle.sgx_types.specs.declared.names.VaSlot.{VaSlot}
 use Rattle.sgx_rules.specs.Frames.{Content, Free, IsVa, SecsOf, Holds, IsLoading, added, content, is_sealing}
-use Rattle.sgx_rules.specs.Frames.{reloaded}
-use Rattle.sgx_types.specs.Pages.{page_at, same_page, va_page}
-use Rattle.sgx_rules.specs.Frames.{reloaded_as, vas_made}
+use Rattle.sgx_rules.specs.Frames.{reloaded, reloaded_as, stands, vas_made}
+use Rattle.sgx_types.specs.Pages.{is_va_page, page_at, same_page, va_page}
 use Rattle.sgx_rules.specs.PageBytes.{va_words}
 use Rattle.sgx_rules.specs.inner.Arrays.{ArraysRest, words_out}
 use Rattle.sgx_types.specs.Pages.{same_slot}
 use Rattle.sgx_rules.specs.Slots.{is_va_of, names_slot, open_slot, slot_of, version_in}
 use Rattle.sgx_rules.specs.Starts.{Start, open_start}
-use Rattle.sgx_types.proofs.Pages.{same_slots}
+use Rattle.sgx_types.proofs.Pages.{same_page-refl, same_slots}
 use Rattle.sgx_types.proofs.Truths.{apart}
 use Rattle.page_history.specs.inner.Away.{ArraysApart, EndsRight, EndsRightIn, EndsRightOut, array_in}
 use Rattle.page_history.specs.inner.Once.{IsFound}
@@ -37,6 +36,14 @@ va_is Free k is = cc is
 va_is (SecsOf enclave) k is = cc is
 va_is (Holds page kind perm) k is = cc is
 va_is (IsLoading page) k is = cc is
+
+-- a version array page by its number
+pub array_page : (g : Page) → is_va_page g ≡ true → va_page g.number ≡ g
+array_page g is = λ i. record { enclave = sym (eqb-true g.enclave 0 is) i; number = g.number }
+
+-- .. stands where a frame holds the one of its number
+pub va_stands : (c : Content) (g : Page) → is_va_page g ≡ true → c ≡ IsVa g.number → stands c g ≡ true
+va_stands c g is held = ap (λ x. stands x g) held ∙ subst (λ p. same_page p g ≡ true) (sym (array_page g is)) (same_page-refl g)
 
 -- what comes back as a version array page is one
 reloaded_va : (page : Page) (kinds : Option (Kind × Perm)) (k : ℕ) → is_va_of (reloaded page kinds) k ≡ true

@@ -509,5 +509,5 @@ guarded_eld s f start page plain is waits known bring h =
     (rw here refl) (stays_in s f h (rw waits refl)) (λ w again. k.done w (rw here at again))
     (kept_less s.frames s.vas_made s.content s.is_sealing f (reloaded page (s.added page)) (h.apart.below f start is) (λ e. rw waits refl)
     (stays_in s f h (rw waits refl)) (λ e is. rw waits (k.child e is)) (λ number is. rw waits (k.array number is))
-    (λ number n here there. let its = k.held number here in absurd (bring page waits its.0 n (there ∙ ap IsVa (sym its.1)))) k.named
+    (λ number n here there. let its = k.held number here in absurd (bring.away page waits its.0 n (there ∙ ap IsVa (sym its.1)))) k.named
     h.kept))

@@ -267,7 +267,8 @@ module _ (s t : State) (made : Making) (past : List Entry) (a : Actor) (f : Fram
                 (did_by a (Eld f) (answers.Moved page back.coming.start.version rec.tag) ∷ past) f.0 number) x.same
                 (back_versions s past a f x.start x.opened (found_as s past h.shape.columns guarded f.0 x.start x.opened)
                 (arrays_as s past h.shape.columns guarded) plain page back.coming.start.version rec.tag number
-                (λ n there. bring page waits va n (content_is h.shape.columns n ∙ there ∙ ap (λ (g : Page). IsVa g.number) (sym same))) words))
+                (λ n there. bring.away page waits va n
+                (content_is h.shape.columns n ∙ there ∙ ap (λ (g : Page). IsVa g.number) (sym same))) words))
 
     pub reloaded_brought : IsNextTo s t past e
     reloaded_brought = by_row (first_of_row (commit_row s f.0 back.coming rec)) back.row

@@ -131,7 +131,8 @@ room m h f page waits bring va =
     let held : ℕ → Content = (state_of d).content in
     let arrays = h.guarded.kept.arrays in
     let here : array_in (held f) ≡ Some page.number = ap array_in waits ∙ (rw va refl) in
-    let few = fewer_arrays MOST_FRAMES m.va.made page.number held arrays (arrays.below f page.number here) (bring page waits va) in
+    let few = fewer_arrays MOST_FRAMES m.va.made page.number held arrays (arrays.below f page.number here)
+    (bring.away page waits va) in
     let count : pages_made m.va.pages ≡ count_below (λ n. has_page m.va.pages n) MOST_FRAMES =
     count_places is_some None refl m.va.pages MOST_FRAMES (few_places m.va h.held.places) in
     let same : count_below (λ n. has_page m.va.pages n) MOST_FRAMES ≡ count_below (λ n. is_va (held n)) MOST_FRAMES =

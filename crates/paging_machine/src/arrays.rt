@@ -1,14 +1,15 @@
 //! What a driver that moves version array pages asks before it does.
 
-ghost use Rattle.std.specs.Prelude.{◌≡◌, true, false, ℕ};
-ghost use Rattle.sgx_rules.specs.Frames.{IsVa};
-ghost use Rattle.sgx_rules.specs.Table.{is_va};
+ghost use Rattle.std.specs.Prelude.{◌≡◌, true, false, ℕ, MatchOption};
+ghost use Rattle.sgx_rules.specs.Frames.{IsLoading, IsVa};
+ghost use Rattle.sgx_rules.specs.Table.{is_loading, is_va};
 ghost use Rattle.epcm_entry.specs.inner.Sights.{held};
+ghost use Rattle.paging_laws.specs.inner.Steps.{CanBring};
 ghost use Rattle.paging_machine.specs.inner.Parts.{state_of};
 
 use crate::machine::Machine;
 use epcm_entry::entry_view::EntryView;
-use sgx_types::names::{Frame, Kind};
+use sgx_types::names::{Frame, Kind, Page};
 
 impl Machine {
     /// How many version array pages were made.
@@ -36,6 +37,31 @@ impl Machine {
             }
         }
         false
+    }
+
+    /// Whether the load into a frame may end, whatever record is brought: no frame holds the version array page for which it waits.
+    pub fn can_bring(&self, frame: Frame) -> bool
+        ensures may { result ≡ true → CanBring (state_of self.now) frame.0 }
+        ensures may_not { result ≡ false → CanBring (state_of self.now) frame.0 → ⊥ }
+    {
+        match self.awaited(frame) {
+            Some(page) => page.enclave != 0 || !self.has_array(page.number),
+            None => true,
+        }
+    }
+
+    // The page for which a frame waits.
+    fn awaited(&self, frame: Frame) -> Option<Page>
+        ensures { MatchOption result (is_loading ((state_of self.now).content frame.0) ≡ false)
+            (λ page. (state_of self.now).content frame.0 ≡ IsLoading page) }
+    {
+        if frame.0 >= self.epc.frames() {
+            return None;
+        }
+        match self.epc.entry(frame) {
+            EntryView::Loading { page } => Some(page),
+            _ => None,
+        }
     }
 }
 

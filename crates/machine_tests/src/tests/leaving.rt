@@ -2,7 +2,7 @@
 
 use super::digests::THREE_PAGES;
 use super::instructions::Instruction::*;
-use super::rows::Reader::{Arrays, Children, HasArray};
+use super::rows::Reader::{Arrays, CanBring, Children, HasArray};
 use super::rows::Row::{self, EndIn, EndOut, Step, Swap, Tells};
 use super::rows::Told::{Count, Is};
 use super::rows::{BUILDER, DONE, FIRST, RECLAIMER};
@@ -188,6 +188,7 @@ const ARRAY_LEAVES: &[Row] = &[
     Tells(HasArray(1), Is(false)),
     Step(FIRST, StartInBy(OWN, 4, 5, 0), Err(Refusal::BadKind)),
     Step(FIRST, StartInBy(ARRAY, 6, 0, 0), Ok(Answer::Version(2))),
+    Tells(CanBring(6), Is(true)),
     EndIn(6, Ok(FULL)),
     Tells(HasArray(1), Is(true)),
     Swap,
@@ -202,5 +203,23 @@ const ARRAY_LEAVES: &[Row] = &[
 #[test]
 fn slots_leave_with_their_page_and_come_into_another_frame(rt: HostRuntime) -> Result<(), Fail> {
     play(&rt, rt.alloc(), 8, 1, &[BUILT, ARRAY_LEAVES])?;
+    Ok(())
+}
+
+// A load of version array page 1 starts by the slot of another page, while frame 5 holds it.
+const ARRAY_STAYS: &[Row] = &[
+    Step(BUILDER, Epa(5), Ok(Answer::Va(1))),
+    Step(RECLAIMER, Block(4), DONE),
+    Step(RECLAIMER, Track, DONE),
+    Step(RECLAIMER, StartOutBy(4, 5, 0), Ok(Answer::Version(1))),
+    EndOut(4, FIRST_SEVENS),
+    Step(FIRST, StartInBy(ARRAY, 6, 5, 0), Ok(Answer::Version(1))),
+    Tells(HasArray(1), Is(true)),
+    Tells(CanBring(6), Is(false)),
+];
+
+#[test]
+fn a_page_that_is_here_may_start_to_come_and_not_end(rt: HostRuntime) -> Result<(), Fail> {
+    play(&rt, rt.alloc(), 8, 1, &[BUILT, ARRAY_STAYS])?;
     Ok(())
 }

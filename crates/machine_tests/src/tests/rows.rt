@@ -86,9 +86,11 @@ pub enum Reader {
     Children(u16),
     // Whether a slot of the version array page in a frame is in use.
     AnyBusy(u32),
-    // How many version array pages were made, and whether one of a number is in a frame or comes into one.
+    // How many version array pages were made, and whether one of a number is in a frame.
     Arrays,
     HasArray(u32),
+    // Whether the load into a frame may end.
+    CanBring(u32),
     // Whether an access of a page can succeed, by the enclave and the number of the page.
     Lawful(u16, u32, AccessOp),
 }

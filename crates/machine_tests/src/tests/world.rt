@@ -204,6 +204,7 @@ impl World {
         want: Result<Answer, Refusal>,
     ) -> Result<(), Memory> {
         assert!(rt; self.machine.is_coming(frame), "row {at}");
+        assert!(rt; self.machine.can_bring(frame), "row {at}");
         let rec = self.record.take().expect(rt, "no record was kept");
         let mut work = UnsealWork::new(alloc, rec)?;
         self.machine.unseal_input(frame, &mut work);
@@ -247,6 +248,7 @@ impl World {
                 Told::Count(u32::try_from(machine.arrays_made()).unwrap_or(u32::MAX))
             }
             Reader::HasArray(number) => Told::Is(machine.has_array(number)),
+            Reader::CanBring(frame) => Told::Is(machine.can_bring(Frame(frame))),
             Reader::Lawful(enclave, number, op) => {
                 Told::Is(machine.lawful(Page { enclave, number }, op))
             }
@@ -287,7 +289,6 @@ fn can_move(machine: &Machine, action: Action) -> bool
 {
     match action {
         Action::Epa { .. } => machine.arrays_made() < 1 << 32,
-        Action::EldStart { page, .. } => page.enclave != 0 || !machine.has_array(page.number),
         _ => true,
     }
 }

@@ -236,8 +236,8 @@ pub record IsWrittenOut (s : State) (actor : Actor) (f : Frame) (e : Entry) (rec
   pub state : s' ≡ after_ewb s f.0 leaving.start
 
 -- the load into a frame may end, whatever record is brought: no frame holds the version array page for which it waits
-abbrev pub CanBring : State → ℕ → Type 0
-CanBring s f = (page : Page) → s.content f ≡ IsLoading page → is_va_page page ≡ true → (n : ℕ) → s.content n ≡ IsVa page.number → ⊥
+pub record CanBring (s : State) (f : ℕ) : Type 0 where
+  pub away : (page : Page) → s.content f ≡ IsLoading page → is_va_page page ≡ true → (n : ℕ) → s.content n ≡ IsVa page.number → ⊥
 
 -- a page for which a frame waits
 pub record IsComing (s : State) (f : ℕ) : Type 0 where
