@@ -44,10 +44,13 @@ impl Machine {
         ensures may { result ≡ true → CanBring (state_of self.now) frame.0 }
         ensures may_not { result ≡ false → CanBring (state_of self.now) frame.0 → ⊥ }
     {
-        match self.awaited(frame) {
-            Some(page) => page.enclave != 0 || !self.has_array(page.number),
-            None => true,
+        let Some(page) = self.awaited(frame) else {
+            return true;
+        };
+        if page.enclave != 0 {
+            return true;
         }
+        !self.has_array(page.number)
     }
 
     // The page for which a frame waits.

@@ -13,7 +13,8 @@ ghost use Rattle.seal_record.specs.Records.{Given, Made, Unforged};
 ghost use Rattle.paging_laws.specs.inner.Histories.{StandsWithAllRules, given_out, looked_at, BringsArrayIn, BringsIn, GivesArray};
 ghost use Rattle.paging_machine.specs.inner.Parts.{start_of, state_of};
 ghost use Rattle.paging_laws.specs.inner.Shape.{ShapeWithRules, FitsApart};
-ghost use Rattle.paging_laws.specs.inner.Steps.{CanBring, HasBytesOf, HasSecsBytes, IsDigest, IsReloaded, IsWrittenOut, SealsPage, header_in};
+ghost use Rattle.paging_laws.specs.inner.Steps.{CanBring, HasBytesOf, HasSecsBytes, IsDigest, IsReloaded, IsWrittenOut, SealsPage};
+ghost use Rattle.paging_laws.specs.inner.Steps.{header_in};
 ghost use Rattle.page_bytes.specs.inner.Bytes.{HasRoom};
 ghost use Rattle.evict_reload.specs.inner.Sights.{is_kind_own};
 
