@@ -142,11 +142,11 @@ room m h f page waits bring va =
 
 -- ---- a load that may end
 
--- a frame that waits for no page may be told to end its load
+-- nothing is asked of a frame that waits for no page
 pub none_awaited : (s : State) (f : ℕ) → is_loading (s.content f) ≡ false → CanBring s f
 none_awaited s f idle = record { away = λ g comes va n held. false≢true (sym idle ∙ ap is_loading comes) }
 
--- .. and one that waits for a page, where no frame holds the version array page of its number, if it is one
+-- .. and of one that waits for a page that no frame holds it, where it is a version array page
 pub none_held : (s : State) (f : ℕ) (page : Page) → s.content f ≡ IsLoading page
     → (is_va_page page ≡ true → (n : ℕ) → s.content n ≡ IsVa page.number → ⊥) → CanBring s f
 none_held s f page waits none = record {
