@@ -45,7 +45,7 @@ pub record IsToList (d : Driver) (page : Page) (frame : Frame) (slot : VaSlot) :
   pub absent : is_own_page page ≡ true → is_listed d.active.pages page ≡ false
   pub out : is_own_page page ≡ true → is_out d.slots slot ≡ true
 
--- a processor loads the page, a record is kept for it, the frame waits for it, and no frame holds it
+-- a processor loads the page, a record is kept for it, the frame waits for it, and its load may end
 pub record CanFinish (cpu : Cpu) (page : Page) (d : Driver) (m : Parts) : Type 0 where
   pub frame : Frame
   pub slot : VaSlot
