@@ -1,6 +1,6 @@
 -- The slots of the version array pages that frames hold: which are busy, and which versions they have, whatever records are brought.
 use Rattle.std.proofs.Common.{◌≡◌, ℕ, ◌<◌, ◌==◌, ◌&&◌, ◌||◌, Bool, true, false, cond, refl, sym, ap, ◌∙◌, subst}
-use Rattle.std.proofs.Common.{Some, List, ◌∷◌, IfSome, get_or, nat_le, arith, ◌⊎◌, ⊎_elim}
+use Rattle.std.proofs.Common.{Some, List, ◌∷◌, IfSome, get_or, nat_le, arith, ⊎_elim}
 use Rattle.std.proofs.lemmas.Bool.{eqb-true, eq-eqb, false≢true, leb-false, leb-true}
 use Rattle.std.proofs.lemmas.List.FromFn.{get_or-map-range_with_len}
 use Rattle.sgx_rules.specs.declared.entries.Action.TheVariants.{Ewb, Eld}
