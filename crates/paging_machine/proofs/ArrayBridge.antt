@@ -4,7 +4,7 @@ use Rattle.std.proofs.Common.{◌⊎◌, inl, inr, Option, Some, None, is_some, 
 use Rattle.std.specs.Prelude.{slice_index, slice_index_or}
 use Rattle.std.specs.Int.{w64, from_le_bytes}
 use Rattle.std.specs.Simd.{first_chunks}
-use Rattle.std.proofs.lemmas.Bool.{cases_lt, eqb-true, false≢true}
+use Rattle.std.proofs.lemmas.Bool.{cases_lt, eqb-true}
 use Rattle.std.proofs.lemmas.List.{get_or-map, get_or_past}
 use Rattle.std.proofs.lemmas.List.FromFn.{get_or-map-range_with_len}
 use Rattle.sgx_types.specs.declared.names.Page.{Page}
@@ -16,8 +16,8 @@ use Rattle.sgx_types.specs.inner.Layouts.{long_at}
 use Rattle.sgx_types.proofs.Chunks.{chunk_of_chunks}
 use Rattle.sgx_types.proofs.CountLaws.{count_below-agrees}
 use Rattle.sgx_types.proofs.Truths.{both_true, eqb-swap}
-use Rattle.sgx_rules.specs.Frames.{Content, IsLoading, IsVa}
-use Rattle.sgx_rules.specs.Table.{is_loading, is_va}
+use Rattle.sgx_rules.specs.Frames.{Content, IsLoading}
+use Rattle.sgx_rules.specs.Table.{is_va}
 use Rattle.epcm_entry.specs.inner.Words.{words_of}
 use Rattle.epcm_entry.proofs.Words.{length-words_of}
 use Rattle.version_array.specs.declared.va_page.SlotState.{SlotState}
@@ -28,7 +28,6 @@ use Rattle.version_array.proofs.TableLaws.{IsVaTable-filled, length-filled, page
 use Rattle.evict_reload.specs.inner.Effects.{refilled}
 use Rattle.page_history.specs.inner.Away.{array_in}
 use Rattle.page_history.proofs.PigeonLaws.{fewer_arrays}
-use Rattle.paging_laws.specs.inner.State.{State}
 use Rattle.paging_laws.specs.inner.Steps.{CanBring}
 use Rattle.paging_machine.specs.declared.machine.Machine.TheInside.{Inside}
 use Rattle.paging_machine.specs.inner.Parts.{state_of}
@@ -139,19 +138,3 @@ room m h f page waits bring va =
     let same : count_below (λ n. has_page m.va.pages n) MOST_FRAMES ≡ count_below (λ n. is_va (held n)) MOST_FRAMES =
     count_below-agrees (λ n. has_page m.va.pages n) (λ n. is_va (held n)) (λ n. h.held.pages n) MOST_FRAMES in
     rw (count, same) few
-
--- ---- a load that may end
-
--- nothing is asked of a frame that waits for no page
-pub none_awaited : (s : State) (f : ℕ) → is_loading (s.content f) ≡ false → CanBring s f
-none_awaited s f idle = record { away = λ g comes va n held. false≢true (sym idle ∙ ap is_loading comes) }
-
--- .. and of one that waits for a page that no frame holds it, where it is a version array page
-pub none_held : (s : State) (f : ℕ) (page : Page) → s.content f ≡ IsLoading page
-    → (is_va_page page ≡ true → (n : ℕ) → s.content n ≡ IsVa page.number → ⊥) → CanBring s f
-none_held s f page waits none = record {
-  away = λ g comes va n held.
-      let both : IsLoading page ≡ IsLoading g = sym waits ∙ comes in
-      let same : page ≡ g = cc both in
-      none (ap is_va_page same ∙ va) n (held ∙ ap (λ (q : Page). IsVa q.number) (sym same));
-}
