@@ -29,6 +29,7 @@ same_lanes (lanes.Frame f) (lanes.Frame k) h = ap lanes.Frame (same_frames f k (
 same_lanes (lanes.Page g) (lanes.Page k) h = ap lanes.Page (same_pages g k h)
 same_lanes lanes.Builder lanes.Builder h = refl
 same_lanes lanes.Reclaimer lanes.Reclaimer h = refl
+same_lanes lanes.Counters lanes.Counters h = refl
 same_lanes a b h = absurd (false≢true h)
 
 module _ (past : List Entry) (e : Entry) where

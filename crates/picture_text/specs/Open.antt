@@ -50,6 +50,12 @@ open_on past (lanes.Frame f) = record {
 open_on past (lanes.Page g) = only (stands (place_of past g))
 open_on past lanes.Builder = only None
 open_on past lanes.Reclaimer = only None
+open_on past lanes.Counters = only None
+
+-- .. and none where there is no lane
+abbrev pub open_if : List Entry → Option Lane → Open
+open_if past None = only None
+open_if past (Some lane) = open_on past lane
 
 -- .. as they lie within one another, the innermost first
 abbrev pub stack_of : Open → List Span
