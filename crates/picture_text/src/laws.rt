@@ -5,8 +5,8 @@ ghost use Rattle.sgx_rules.specs.declared.entries.Entry.{Entry};
 ghost use Rattle.sgx_types.specs.declared.names.Page.{Page};
 ghost use Rattle.picture_text.specs.declared.events.Lane.{Lane};
 ghost use Rattle.picture_text.specs.Events.{events_of};
-ghost use Rattle.picture_text.specs.Open.{open_on, stack_of};
-ghost use Rattle.picture_text.specs.Reading.{read_events, begun_on, begun_by_moves, NeverFall};
+ghost use Rattle.picture_text.specs.Open.{open_on};
+ghost use Rattle.picture_text.specs.Reading.{read_events, stack_of, begun_on, begun_by_moves, NeverFall};
 
 /// What is read back from a lane is what is so there: on a frame's lane what sits in the frame, that it is blocked, that it is on its way
 /// out; on a page's lane where the page is; on a processor's lane how it is inside. So it is behind every entry, since a picture of fewer
