@@ -8,8 +8,8 @@ use Rattle.sgx_rules.specs.declared.entries.Entry.{Entry}
 use Rattle.sgx_rules.specs.Processors.{Stay, move_by, is_by, stay_after, stay}
 use Rattle.trace_places.specs.declared.change.Change.{Change}
 use Rattle.trace_places.specs.declared.places.Places.{Places}
-use Rattle.trace_places.specs.Places.{change_by, change_after, frame_changed}
-use Rattle.trace_places.specs.inner.Tables.{Stands, may_move, pages_if, page_at_frame, page_named, other_than}
+use Rattle.trace_places.specs.Places.{change_by, change_after, frame_changed, page_at_frame, page_named, other_than}
+use Rattle.trace_places.specs.inner.Tables.{Stands, may_move, pages_if}
 use Rattle.picture_text.specs.declared.events.Lane.{Lane}
 use Rattle.picture_text.specs.declared.open_spans.OpenSpans.{OpenSpans}
 use Rattle.picture_text.specs.declared.events.Mark.TheVariants as marks

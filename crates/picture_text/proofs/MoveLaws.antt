@@ -11,8 +11,7 @@ use Rattle.sgx_types.proofs.Pages.{same_page-refl}
 use Rattle.sgx_types.proofs.Truths.{tested}
 use Rattle.trace_places.specs.declared.moves.Where.{Where}
 use Rattle.trace_places.specs.declared.moves.Where.TheVariants as wheres
-use Rattle.trace_places.specs.Places.{change_after, place_of, same_where, moved, moved_by}
-use Rattle.trace_places.specs.inner.Tables.{is_page}
+use Rattle.trace_places.specs.Places.{change_after, place_of, same_where, moved, moved_by, is_page}
 use Rattle.trace_places.proofs.MoveLaws.{stayed}
 use Rattle.picture_text.specs.declared.events.Lane.{Lane}
 use Rattle.picture_text.specs.declared.events.Lane.TheVariants as lanes

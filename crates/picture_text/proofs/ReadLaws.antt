@@ -10,8 +10,7 @@ use Rattle.sgx_types.specs.declared.names.Cpu.{Cpu}
 use Rattle.sgx_types.specs.declared.names.Frame.{Frame}
 use Rattle.sgx_types.specs.declared.names.Page.{Page}
 use Rattle.sgx_types.proofs.Truths.{tested}
-use Rattle.trace_places.specs.Places.{change_after, tenant}
-use Rattle.trace_places.specs.inner.Tables.{is_page, page_named}
+use Rattle.trace_places.specs.Places.{change_after, tenant, is_page, page_named}
 use Rattle.trace_places.specs.declared.change.Change.{Change}
 use Rattle.trace_places.specs.declared.moves.Where.{Where}
 use Rattle.trace_places.proofs.MoveLaws.{other_true, other_false}
@@ -27,8 +26,8 @@ use Rattle.picture_text.specs.declared.events.Mark.TheVariants as marks
 use Rattle.picture_text.specs.Events.{lane_of, frame_in, frame_lane, marked, page_lane, pages_by, steps_on, events_after, events_by, events_of}
 use Rattle.picture_text.specs.Events.{count_to, counts_of, counts_to}
 use Rattle.picture_text.specs.Lanes.{same_lane}
-use Rattle.picture_text.specs.Open.{inside, sits, stands, when_so, only, open_on, stack_of}
-use Rattle.picture_text.specs.Reading.{read_events}
+use Rattle.picture_text.specs.Open.{inside, sits, stands, when_so, only, open_on}
+use Rattle.picture_text.specs.Reading.{read_events, stack_of}
 use Rattle.picture_text.specs.inner.Following.{is_on, leaving_of}
 use Rattle.picture_text.proofs.FrameLaws.{tenant_stays, leaving_stays, leaving_more, stay_stays}
 use Rattle.picture_text.proofs.StayLaws.{named_by, place_stays}

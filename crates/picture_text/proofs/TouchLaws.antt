@@ -12,8 +12,8 @@ use Rattle.picture_text.specs.declared.events.PictureEvent.{PictureEvent}
 use Rattle.picture_text.specs.declared.events.Span.{Span}
 use Rattle.picture_text.specs.Events.{steps_on, frame_lane, page_lane}
 use Rattle.picture_text.specs.Lanes.{same_lane}
-use Rattle.picture_text.specs.Open.{open_on, stack_of}
-use Rattle.picture_text.specs.Reading.{read_events}
+use Rattle.picture_text.specs.Open.{open_on}
+use Rattle.picture_text.specs.Reading.{read_events, stack_of}
 use Rattle.picture_text.proofs.StepLaws.{hit_steps, miss_steps, read_append}
 
 same_cpus : (p q : Cpu) → p.0 ≡ q.0 → p ≡ q

@@ -13,8 +13,7 @@ use Rattle.sgx_types.specs.declared.names.Frame.{Frame}
 use Rattle.sgx_types.specs.declared.names.Page.{Page}
 use Rattle.trace_places.specs.declared.change.Change.{Change}
 use Rattle.trace_places.specs.declared.moves.MayMove.{MayMove}
-use Rattle.trace_places.specs.Places.{change_after, frame_changed, tenant}
-use Rattle.trace_places.specs.inner.Tables.{page_at_frame, page_named, other_than}
+use Rattle.trace_places.specs.Places.{change_after, frame_changed, tenant, page_at_frame, page_named, other_than}
 use Rattle.picture_text.specs.declared.counts.Counts.{Counts}
 use Rattle.picture_text.specs.declared.events.Counter.{Counter}
 use Rattle.picture_text.specs.declared.events.Counter.TheVariants as counters

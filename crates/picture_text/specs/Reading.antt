@@ -1,6 +1,7 @@
 -- What is read back from the events of a lane, by the rule of the format: a span that begins lies within those that are open, and an end
 -- is that of the innermost one.
-use Rattle.std.specs.Prelude.{ℕ, ◌+◌, ◌≤◌, Bool, true, false, if◌then◌else◌, List, [], ◌∷◌, ◌++◌, length, Option, Some, None, option_and_then}
+use Rattle.std.specs.Prelude.{ℕ, ◌+◌, ◌≤◌, Bool, true, false, if◌then◌else◌, List, [], ◌∷◌, ◌++◌, length, Option, Some, None}
+use Rattle.std.specs.Prelude.{option_and_then, option_to_list}
 use Rattle.sgx_rules.specs.declared.entries.Entry.{Entry}
 use Rattle.sgx_types.specs.declared.names.Page.{Page}
 use Rattle.trace_places.specs.declared.moves.Where.{Where}
@@ -11,12 +12,17 @@ use Rattle.picture_text.specs.declared.events.Counter.TheVariants as counters
 use Rattle.picture_text.specs.declared.events.Lane.{Lane}
 use Rattle.picture_text.specs.declared.events.Mark.{Mark}
 use Rattle.picture_text.specs.declared.events.Mark.TheVariants as marks
+use Rattle.picture_text.specs.declared.events.Open.{Open}
 use Rattle.picture_text.specs.declared.events.PictureEvent.{PictureEvent}
 use Rattle.picture_text.specs.declared.events.Span.{Span}
 use Rattle.picture_text.specs.Lanes.{same_lane}
 use Rattle.picture_text.specs.Open.{stands}
 
 -- ---- what is open
+
+-- open spans as they lie within one another, the innermost first
+abbrev pub stack_of : Open → List Span
+stack_of open_spans = option_to_list open_spans.inner ++ (option_to_list open_spans.middle ++ option_to_list open_spans.outer)
 
 -- the spans that are open behind a mark, the innermost first. Where none is open, no end can be read
 abbrev pub read_mark : Mark → List Span → Option (List Span)

@@ -6,8 +6,8 @@ ghost use Rattle.sgx_types.specs.declared.names.Page.{Page};
 ghost use Rattle.picture_text.specs.declared.events.Counter.{Counter};
 ghost use Rattle.picture_text.specs.declared.events.Lane.{Lane};
 ghost use Rattle.picture_text.specs.Events.{counts_of, events_of};
-ghost use Rattle.picture_text.specs.Open.{open_on, stack_of};
-ghost use Rattle.picture_text.specs.Reading.{count_in, read_events, read_value, begun_on, begun_by_moves, NeverFall};
+ghost use Rattle.picture_text.specs.Open.{open_on};
+ghost use Rattle.picture_text.specs.Reading.{count_in, read_events, read_value, stack_of, begun_on, begun_by_moves, NeverFall};
 
 /// What is read back from a lane is what is so there: on a frame's lane what sits in the frame, that it is blocked, that it is on its way
 /// out; on a page's lane where the page is; on a processor's lane how it is inside. So it is behind every entry, since a picture of fewer
