@@ -25,6 +25,13 @@ value_append k (x ∷ xs) ys v = value_append k xs ys _
 both : (k : Counter) (xs ys : List PictureEvent) (v : ℕ) → read_value k xs v ≡ v → read_value k ys v ≡ v → read_value k (xs ++ ys) v ≡ v
 both k xs ys v first second = value_append k xs ys v ∙ ap (read_value k ys) first ∙ second
 
+-- .. six
+six : (k : Counter) (a b c d e f : List PictureEvent) (v : ℕ) → read_value k a v ≡ v → read_value k b v ≡ v → read_value k c v ≡ v
+    → read_value k d v ≡ v → read_value k e v ≡ v → read_value k f v ≡ v → read_value k (((((a ++ b) ++ c) ++ d) ++ e) ++ f) v ≡ v
+six k a b c d e f v ha hb hc hd he hf =
+    both k ((((a ++ b) ++ c) ++ d) ++ e) f v (both k (((a ++ b) ++ c) ++ d) e v
+    (both k ((a ++ b) ++ c) d v (both k (a ++ b) c v (both k a b v ha hb) hc) hd) he) hf
+
 -- ---- spans
 
 module _ (k : Counter) (place : ℕ) (lane : Lane) (v : ℕ) where
@@ -43,8 +50,10 @@ module _ (k : Counter) (place : ℕ) (lane : Lane) (v : ℕ) where
       let outer = not (same_spans a.outer b.outer) in
       let middle = outer || not (same_spans a.middle b.middle) in
       let inner = middle || not (same_spans a.inner b.inner) in
-      both k _ _ v (both k _ _ v (both k _ _ v (both k _ _ v (both k _ _ v (by_ends inner a.inner) (by_ends middle a.middle))
-      (by_ends outer a.outer)) (by_begins outer b.outer)) (by_begins middle b.middle)) (by_begins inner b.inner)
+      six k (ends place lane inner a.inner) (ends place lane middle a.middle) (ends place lane outer a.outer)
+      (begins place lane outer b.outer) (begins place lane middle b.middle) (begins place lane inner b.inner) v
+      (by_ends inner a.inner) (by_ends middle a.middle) (by_ends outer a.outer) (by_begins outer b.outer)
+      (by_begins middle b.middle) (by_begins inner b.inner)
 
 by_lane : (k : Counter) (past : List Entry) (e : Entry) (lane : Option Lane) (v : ℕ) → read_value k (steps_on past e lane) v ≡ v
 by_lane k past e None v = refl
@@ -53,9 +62,13 @@ by_lane k past e (Some lane) v = by_steps k (length past) lane v (open_on past l
 by_entry : (k : Counter) (past : List Entry) (e : Entry) (v : ℕ) → read_value k (events_after past e) v ≡ v
 by_entry k past e v =
     let pages = pages_by past (change_after past e) in
-    both k _ _ v (both k _ _ v (both k _ _ v (by_lane k past e (Some (lane_of e.actor)) v)
-    (by_lane k past e (frame_lane (frame_in e.event)) v)) (by_lane k past e (page_lane pages.former) v))
-    (by_lane k past e (page_lane pages.named) v)
+    let actor = steps_on past e (Some (lane_of e.actor)) in
+    let frame = steps_on past e (frame_lane (frame_in e.event)) in
+    let former = steps_on past e (page_lane pages.former) in
+    let named = steps_on past e (page_lane pages.named) in
+    both k ((actor ++ frame) ++ former) named v (both k (actor ++ frame) former v
+    (both k actor frame v (by_lane k past e (Some (lane_of e.actor)) v) (by_lane k past e (frame_lane (frame_in e.event)) v))
+    (by_lane k past e (page_lane pages.former) v)) (by_lane k past e (page_lane pages.named) v)
 
 -- ---- counters
 

@@ -114,7 +114,7 @@ events_after past e =
 
 -- a frame has a page, or awaits one
 abbrev pub in_use : Open → Bool
-in_use open = is_some open.outer
+in_use on = is_some on.outer
 
 abbrev pub is_sealed : Option Span → Bool
 is_sealed (Some (spans.Sealed version)) = true
@@ -122,7 +122,7 @@ is_sealed _ = false
 
 -- a page is outside
 abbrev pub is_outside : Open → Bool
-is_outside open = is_sealed open.outer
+is_outside on = is_sealed on.outer
 
 -- one more where something counts from now on, and one less where it counts no more
 abbrev pub more_or_less : Bool → Bool → ℕ → ℕ

@@ -65,17 +65,17 @@ fn more_or_less(before: bool, after: bool, count: u64) -> u64
 }
 
 // Whether a frame has a page, or awaits one.
-fn in_use(open: &Open) -> bool
-    ensures { result ≡ in_use open.now }
+fn in_use(on: &Open) -> bool
+    ensures { result ≡ in_use on.now }
 {
-    open.outer.is_some()
+    on.outer.is_some()
 }
 
 // Whether a page is outside.
-fn is_outside(open: &Open) -> bool
-    ensures { result ≡ is_outside open.now }
+fn is_outside(on: &Open) -> bool
+    ensures { result ≡ is_outside on.now }
 {
-    matches!(open.outer, Some(Span::Sealed { .. }))
+    matches!(on.outer, Some(Span::Sealed { .. }))
 }
 
 // The version that was drawn last.
