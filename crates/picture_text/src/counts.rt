@@ -41,11 +41,7 @@ pub(crate) fn counts_after(counts: Counts, event: &Event, before: &Seen, after: 
         counts.pages,
     );
     Counts {
-        frames: more_or_less(
-            in_use(&before.frame),
-            in_use(&after.frame),
-            counts.frames,
-        ),
+        frames: more_or_less(in_use(&before.frame), in_use(&after.frame), counts.frames),
         pages: more_or_less(is_outside(&before.named), is_outside(&after.named), former),
         version: version_after(event, counts.version),
     }
@@ -123,5 +119,10 @@ fn push_count(
     if before == value {
         return Ok(());
     }
-    push_mark(place, Lane::Counters, Mark::Counts { counter, value }, events)
+    push_mark(
+        place,
+        Lane::Counters,
+        Mark::Counts { counter, value },
+        events,
+    )
 }

@@ -41,14 +41,7 @@ pub fn events_of(alloc: Global, entries: &[Entry]) -> Result<Vec<PictureEvent>, 
     let mut counts = Counts::ZERO;
     let mut events = Vec::new(alloc);
     for (place, entry) in entries.iter().enumerate() {
-        push_entry(
-            alloc,
-            place,
-            entry,
-            &mut spans,
-            &mut counts,
-            &mut events,
-        )?;
+        push_entry(alloc, place, entry, &mut spans, &mut counts, &mut events)?;
     }
     Ok(events)
 }

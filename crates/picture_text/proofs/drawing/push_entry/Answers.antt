@@ -1,6 +1,6 @@
-use Rattle.std.proofs.Common.{◌≡◌, ◌∷◌, ◌++◌, List, ap, sym, ◌∙◌, append_assoc}
+use Rattle.std.proofs.Common.{◌∷◌, ◌++◌, List, ap, ◌∙◌, append_assoc}
 use Rattle.picture_text.specs.declared.events.PictureEvent.{PictureEvent}
-use Rattle.picture_text.specs.Events.{counts_of, counts_to, events_after, events_by}
+use Rattle.picture_text.specs.Events.{counts_to, events_after}
 use Rattle.picture_text.specs.inner.Steps.{counts_by, drawn, seen_on}
 use Rattle.picture_text.proofs.FollowLaws.{counted_after, drawn_after}
 use Rattle.picture_text.proofs.drawing.push_entry.Goals as goal
