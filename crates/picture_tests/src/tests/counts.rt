@@ -14,6 +14,7 @@ struct Counts {
     begins: u32,
     ends: u32,
     entries: u32,
+    counters: u32,
 }
 
 // Another program counted these.
@@ -21,19 +22,21 @@ const ROWS: [(&[u8], Counts); 3] = [
     (
         BUS_PUT,
         Counts {
-            lanes: 20,
+            lanes: 21,
             begins: 45,
             ends: 27,
             entries: 51,
+            counters: 29,
         },
     ),
     (
         KICK,
         Counts {
-            lanes: 19,
+            lanes: 20,
             begins: 89,
             ends: 73,
             entries: 131,
+            counters: 55,
         },
     ),
     (
@@ -43,6 +46,7 @@ const ROWS: [(&[u8], Counts); 3] = [
             begins: 16,
             ends: 16,
             entries: 32,
+            counters: 0,
         },
     ),
 ];
@@ -55,12 +59,14 @@ fn count(alloc: Global, trace: &[u8]) -> Result<Counts, Fail> {
         begins: 0,
         ends: 0,
         entries: 0,
+        counters: 0,
     };
     for event in &events {
         match event.mark {
             Mark::Begins(_) => counts.begins = counts.begins.saturating_add(1),
             Mark::Ends => counts.ends = counts.ends.saturating_add(1),
             Mark::Does => counts.entries = counts.entries.saturating_add(1),
+            Mark::Counts { .. } => counts.counters = counts.counters.saturating_add(1),
         }
     }
     Ok(counts)

@@ -6,7 +6,7 @@ use std::alloc::Global;
 use std::test::Fail;
 
 // The words, with a space between two, and the command.
-const ROWS: [(&str, Option<Command>); 32] = [
+const ROWS: [(&str, Option<Command>); 35] = [
     ("run t", Some(Command::Run)),
     ("run ", None),
     ("Run t", None),
@@ -54,6 +54,9 @@ const ROWS: [(&str, Option<Command>); 32] = [
     ("Audit t", None),
     ("migrate t", Some(Command::Migrate)),
     ("migrate ", None),
+    ("picture t", Some(Command::Picture)),
+    ("picture ", None),
+    ("pictures t", None),
 ];
 
 // What stands between the spaces of a text.
