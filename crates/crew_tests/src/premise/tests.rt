@@ -2,7 +2,9 @@
 //! unverified program with the same command line.
 
 use crate::premise::forging::Forging;
-use crate::premise::jobs::{ARRAY_LEFT, ARRAYS, Gifts, NEWEST, NO_ROOM, OLDER, Row, SHORT, text_of};
+use crate::premise::jobs::{
+    ARRAY_LEFT, ARRAYS, Gifts, NEWEST, NO_ROOM, OLDER, Row, SHORT, text_of,
+};
 use crate::premise::records::records_of;
 use crate::premise::report::{Report, report_of};
 use crate::premise::runs::by_rounds;
