@@ -1,5 +1,8 @@
-// Tests of the gate that processors enter, leave and use with no lock. They go along rows, which are constants.
+// Tests of the gate that processors enter, leave and use with no lock, and of the tracking words that processors and the reclaimer's worker
+// share. They go along rows, which are constants.
 #![tactic(auto)]
 
 #[cfg(test)]
-mod tests;
+mod epochs;
+#[cfg(test)]
+mod gates;

@@ -1,5 +1,8 @@
-// Tests of types and layouts, of processors and of tracks.
+// Tests of types and layouts, of processors and of tracks, and of a driver's tables: the list of pages that may be written out, the holds,
+// states and records of pages, and the slots that are handed out.
 #![tactic(auto)]
 
 #[cfg(test)]
-mod tests;
+mod tables;
+#[cfg(test)]
+mod types;
