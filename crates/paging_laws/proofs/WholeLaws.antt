@@ -32,7 +32,7 @@ use Rattle.seal_record.specs.Cipher.{cipher}
 use Rattle.paging_laws.specs.inner.Shape.{ShapeWithRules}
 use Rattle.paging_laws.specs.inner.Stands.{HasEnclaves, IsSound, StandsWithRules}
 use Rattle.paging_laws.specs.inner.State.{State, after_failed_eld, fresh, making_of}
-use Rattle.paging_laws.specs.inner.Steps.{CanApply, CanBring, IsReloaded, IsStep, IsWrittenOut, commit_row, did_by, refused_by}
+use Rattle.paging_laws.specs.inner.Steps.{CanApply, CanEnd, IsReloaded, IsStep, IsWrittenOut, commit_row, did_by, refused_by}
 use Rattle.paging_laws.proofs.ShapeSteps.{fresh_shaped, reloaded_arrays, reloaded_shaped, step_arrays, step_shaped, written_arrays}
 use Rattle.paging_laws.proofs.ShapeSteps.{back_arrays, written_shaped}
 use Rattle.paging_laws.proofs.OutsideLaws.{outside_more, step_keeps}
@@ -139,7 +139,7 @@ written_all s t made past records a f e rec sound guarded sound' guarded' sealin
 
 -- the commit of a load, where the record that it allows brings the page back
 pub reloaded_back : (s t : State) (made : Making) (past : List Entry) (records : List Made) (a : Actor) (f : Frame) (rec : Sealed)
-    (e : Entry) → IsSound s → IsGuarded s → IsSound t → IsGuarded t → is_loading (s.content f.0) ≡ true → CanBring s f.0
+    (e : Entry) → IsSound s → IsGuarded s → IsSound t → IsGuarded t → is_loading (s.content f.0) ≡ true → CanEnd s f.0 rec
     → (back : IsReloaded s a f rec e t) → StandsWithAllRules made s past records
     → (first_of_row (commit_row s f.0 back.coming rec) ≡ None
     → BringsBack made.key past f.0 back.coming.page back.coming.start.version rec)
@@ -177,7 +177,7 @@ reloaded_back s t made past records a f rec e sound guarded sound' guarded' load
 
 -- .. as every record does where none is forged
 pub reloaded_all : (s t : State) (made : Making) (past : List Entry) (records : List Made) (a : Actor) (f : Frame) (rec : Sealed)
-    (e : Entry) → IsSound s → IsGuarded s → IsSound t → IsGuarded t → is_loading (s.content f.0) ≡ true → CanBring s f.0
+    (e : Entry) → IsSound s → IsGuarded s → IsSound t → IsGuarded t → is_loading (s.content f.0) ≡ true → CanEnd s f.0 rec
     → IsReloaded s a f rec e t → StandsWithAllRules made s past records → (given : List Given)
     → Unforged made.key records (given ++ looked_at s f.0 records rec) → StandsWithAllRules made t (e ∷ past) records
 reloaded_all s t made past records a f rec e sound guarded sound' guarded' loading bring back h given unforged =
@@ -186,7 +186,7 @@ reloaded_all s t made past records a f rec e sound guarded sound' guarded' loadi
 
 -- .. or the record of the page that the frame waits for does
 pub reloaded_told : (s t : State) (made : Making) (past : List Entry) (records : List Made) (a : Actor) (f : Frame) (rec : Sealed)
-    (e : Entry) → IsSound s → IsGuarded s → IsSound t → IsGuarded t → is_loading (s.content f.0) ≡ true → CanBring s f.0
+    (e : Entry) → IsSound s → IsGuarded s → IsSound t → IsGuarded t → is_loading (s.content f.0) ≡ true → CanEnd s f.0 rec
     → IsReloaded s a f rec e t → StandsWithAllRules made s past records
     → (IsDone e.event → BringsIn made.key past s f.0 rec) → StandsWithAllRules made t (e ∷ past) records
 reloaded_told s t made past records a f rec e sound guarded sound' guarded' loading bring back h brings =

@@ -249,9 +249,17 @@ pub record IsComing (s : State) (f : ℕ) : Type 0 where
   pub header : Header
   pub headed : header_in s page ≡ Some header
 
+-- .. and its header
+abbrev pub IsComingHeader : State → ℕ → Header → Type 0
+IsComingHeader s f header = (coming : IsComing s f) × (header ≡ coming.header)
+
 -- the row of the commit of ELDU, where this record was brought
 abbrev pub commit_row : (s : State) (f : ℕ) → IsComing s f → Sealed → List Case
 commit_row s f coming rec = eld_row rec (tag s.key coming.start.version rec.header rec.cipher) (Some coming.header)
+
+-- the load into a frame may end with a record: it does not bring a version array page that a frame holds
+abbrev pub CanEnd : State → ℕ → Sealed → Type 0
+CanEnd s f rec = (coming : IsComing s f) → first_of_row (commit_row s f coming rec) ≡ None → CanBring s f
 
 -- the commit of ELDU: the page is back with the bytes of the record, or the record is none of its own
 pub record IsReloaded (s : State) (actor : Actor) (f : Frame) (rec : Sealed) (e : Entry) (s' : State) : Type 0 where

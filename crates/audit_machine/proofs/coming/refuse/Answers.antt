@@ -5,6 +5,9 @@ use Rattle.audit_machine.specs.inner.Asked.{is_unfit, other_number}
 use Rattle.audit_machine.proofs.ComeLaws.{reason_fits, turned_away}
 use Rattle.audit_machine.proofs.coming.refuse.Goals as goal
 
+pub eld_commit-requires-clause-can_end : goal.eld_commit-requires-clause-can_end
+eld_commit-requires-clause-can_end c = λ coming allowed. c.requires.can_bring
+
 pub returns-then-not-is_unfit-clause-takes : goal.returns-then-not-is_unfit-clause-takes
 returns-then-not-is_unfit-clause-takes c =
     reason_fits _ c.args.actor c.args.frame c.args.work.rec c.args.why.now

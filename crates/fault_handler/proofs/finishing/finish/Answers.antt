@@ -8,8 +8,8 @@ use Rattle.fault_handler.specs.inner.Finishing.{CarriesLoad}
 use Rattle.fault_handler.proofs.FinishLaws.{finished_as}
 use Rattle.fault_handler.proofs.finishing.finish.Goals as goal
 
-pub eld_commit-entry-requires-clause-can_bring : goal.eld_commit-entry-requires-clause-can_bring
-eld_commit-entry-requires-clause-can_bring c =
+pub eld_commit-entry-requires-clause-can_end : goal.eld_commit-entry-requires-clause-can_end
+eld_commit-entry-requires-clause-can_end c = λ coming allowed.
     let can = c.requires in
     let same : states.Loading can.frame can.slot ≡ states.Loading c.in-Loading.frame c.in-Loading.slot =
     sym can.tables.loading ∙ sym c.state.ensures.value ∙ c.in-Loading.is in

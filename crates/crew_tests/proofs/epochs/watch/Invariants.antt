@@ -1,5 +1,5 @@
 use Rattle.std.proofs.Common.{◌≡◌}
-use Rattle.gate_tests.proofs.epochs.watch.Given as goal
+use Rattle.crew_tests.proofs.epochs.watch.Given as goal
 
 abbrev pub invariant-loop : goal.invariant-loop
 invariant-loop l = l.pass.words ≡ l.words
