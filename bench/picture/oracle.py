@@ -27,6 +27,7 @@ def main(text):
             elif g in gone: st[('page',g)]=['sealed %s'%gone[g]]
         return st
     before=state()
+    version='0'; counts=[0,0,'0']
     for n,line in enumerate(es):
         w=line.split(' ')
         actor=w[0]
@@ -53,7 +54,7 @@ def main(text):
         elif op=='eld': put(int(ops[1]),(0,ops[2]+' '+ops[3]))
         elif op=='ewb':
             put(int(ops[1]),None); sealing.discard(int(ops[1])); g=ops[2]+' '+ops[3]; gone[g]=ops[4]; first.append(('page',g))
-        elif op=='ewbstart': sealing.add(int(ops[1]))
+        elif op=='ewbstart': sealing.add(int(ops[1])); version=ops[-1]
         elif op=='block': blocked.add(int(ops[1]))
         elif op in('enter','resume') and lane[0]=='processor': seat[lane[1]]=(ops[1],ops[2])
         elif op in('exit','aex') and lane[0]=='processor': seat.pop(lane[1],None)
@@ -68,6 +69,10 @@ def main(text):
             for _ in a[i:]: events.append((n,k,'E',''))
             for s in b[i:]: events.append((n,k,'B',s))
         before=after
+        now=[len(tenant),sum(1 for k,v in after.items() if k[0]=='page' and v[0].startswith('sealed')),version]
+        for name,a,b in zip(['frames in use','pages outside','version'],counts,now):
+            if a!=b: events.append((n,('driver',0),'C',(name,b)))
+        counts=now
     seen=[]; 
     for e in events:
         if e[1] not in seen_set:
@@ -79,7 +84,7 @@ def main(text):
         return k[1]
     def lname(k):
         if k[0]=='page': return k[1]
-        if k[0]=='driver': return {1:'builder',2:'reclaimer'}[k[1]]
+        if k[0]=='driver': return {0:'counters',1:'builder',2:'reclaimer'}[k[1]]
         return '%s %d'%k
     out=['{"traceEvents":[']
     for i,nm in enumerate(['processors','frames','pages','driver']): out.append('{"ph":"M","pid":%d,"tid":0,"name":"process_name","args":{"name":"%s"}},'%(i+1,nm))
@@ -87,6 +92,7 @@ def main(text):
     for n,k,ph,nm in events:
         h='{"ph":"%s","pid":%d,"tid":%d'%(ph,P[k[0]],tid(k)); c=',"args":{"line":"%s","place":%d}},'%(es[n],n)
         if ph=='X': out.append(h+',"ts":%d,"dur":1,"name":"%s"'%(n,nm)+c)
+        elif ph=='C': out.append(h+',"ts":%d,"name":"%s","args":{"n":%s}},'%((n+1,)+nm))
         elif ph=='B': out.append(h+',"ts":%d,"name":"%s"'%(n+1,nm)+c)
         else: out.append(h+',"ts":%d},'%(n+1))
     out.append('{"ph":"I","pid":4,"tid":1,"ts":%d,"s":"g","name":"end"}'%len(es)); out.append(']}')

@@ -1,6 +1,6 @@
 //! Laws of what an auditor keeps. A law is the contract of a function without arguments.
 
-ghost use Rattle.std.specs.Prelude.{ℕ, ◌≡◌, ◌≤◌, ◌∷◌, List, Some};
+ghost use Rattle.std.specs.Prelude.{ℕ, ◌≤◌, ◌∷◌, List};
 ghost use Rattle.sgx_types.specs.Making.{Making};
 ghost use Rattle.sgx_rules.specs.Rules.{RefusalRule};
 ghost use Rattle.sgx_rules.specs.inner.Starts.{LoadsAreApart};
@@ -8,7 +8,6 @@ ghost use Rattle.sgx_rules.specs.declared.entries.Action.{Action};
 ghost use Rattle.sgx_rules.specs.declared.entries.Entry.{Entry};
 ghost use Rattle.job_grammar.specs.Jobs.{JobView};
 ghost use Rattle.turn_rules.specs.Machines.{machine_of};
-ghost use Rattle.turn_rules.specs.Script.{action_of};
 ghost use Rattle.paging_laws.specs.inner.Steps as steps;
 ghost use Rattle.paging_machine.specs.inner.Parts.{Parts, state_of};
 ghost use Rattle.driver_rules.specs.Scripts.{ScriptRule};
@@ -43,11 +42,10 @@ pub fn lawful_entries_can_move()
     ensures starts { (j : JobView) (past : List Entry) (e : Entry) → 1 ≤ j.start_version → GoesOn j (e ∷ past) → StartTells past e.event }
 {}
 
-/// The machine may be asked for each entry that its actor may make next: fewer than 2^32 version array pages were made where it makes one,
-/// and no frame holds or loads a version array page that is loaded.
+/// The machine may be asked for any instruction: fewer than 2^32 version array pages were made.
 pub fn asked_entries_can_move()
-    ensures { (j : JobView) (past : List Entry) (d : Driver) (m : Parts) (t : Turns) (e : Entry) (action : Action)
-        → ShowsTrace j past d m t → ScriptRule j past e → action_of e.event ≡ Some action → steps.CanMove (state_of m) action }
+    ensures { (j : JobView) (past : List Entry) (d : Driver) (m : Parts) (t : Turns) (action : Action)
+        → ShowsTrace j past d m t → steps.CanMove (state_of m) action }
 {}
 
 /// No frame holds a page that is being loaded, and no page is loaded twice, where places and frames are sound.

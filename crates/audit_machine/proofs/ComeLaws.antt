@@ -1,6 +1,6 @@
 -- The end of a load.
 use Rattle.std.specs.Prelude.{MatchOption, not, bytes_eq, ◌&&◌}
-use Rattle.std.proofs.Common.{◌≡◌, ℕ, ◌==◌, true, false, refl, sym, ap, subst, ◌∙◌, ◌⊎◌}
+use Rattle.std.proofs.Common.{◌≡◌, ℕ, ◌<◌, ◌==◌, true, false, refl, sym, ap, subst, ◌∙◌, ◌⊎◌}
 use Rattle.std.proofs.Common.{inl, inr, List, [], ◌∷◌, Option, Some, None}
 use Rattle.std.proofs.lemmas.Bool.{eqb-true, eq-eqb, and_from, false≢true}
 use Rattle.std.proofs.lemmas.Slice.Eq.{bytes_eq-Decides}
@@ -18,10 +18,13 @@ use Rattle.sgx_types.specs.declared.record.Header.{Header}
 use Rattle.sgx_rules.specs.declared.refusals.Refusal.{Refusal}
 use Rattle.sgx_rules.specs.declared.refusals.Refusal.TheVariants as why
 use Rattle.sgx_rules.specs.Ends.{DoesNotFit, EndsIn, IsBack, IsNotBack}
+use Rattle.sgx_rules.specs.Frames.{IsLoading, IsVa, content, stands}
+use Rattle.sgx_types.specs.Pages.{is_va_page}
 use Rattle.sgx_rules.specs.PageBytes.{header_at}
 use Rattle.sgx_types.specs.Making.{Making}
 use Rattle.sgx_rules.specs.Rules.{RefusalRule}
 use Rattle.sgx_types.specs.Sealed.{Sealed}
+use Rattle.sgx_rules.specs.Slots.{version_in}
 use Rattle.sgx_rules.specs.Starts.{Start}
 use Rattle.sgx_rules.specs.inner.Starts.{BareStart, bare_start, without_place}
 use Rattle.sgx_rules.specs.Table.{first_of_row, is_loading}
@@ -30,13 +33,18 @@ use Rattle.seal_record.specs.Cipher.{tag}
 use Rattle.seal_record.specs.Records.{Made}
 use Rattle.seal_record.specs.inner.Row.{same_header}
 use Rattle.job_grammar.specs.Jobs.{JobView}
+use Rattle.page_history.specs.inner.Copies.{InFrame, InSlot, OneLiveCopy, copy}
+use Rattle.page_history.specs.inner.Once.{IsGone, KeepsMoves, StartsApart}
+use Rattle.page_history.proofs.ArrayLaws.{va_stands}
+use Rattle.page_history.proofs.CopyLaws.{live_copies, out_is_gone, whose_copy}
+use Rattle.page_history.proofs.DrawnLaws.{drawn_once}
 use Rattle.page_history.proofs.StartLaws.{starts_apart}
 use Rattle.turn_rules.specs.Machines.{machine_of}
 use Rattle.turn_rules.specs.Script.{action_of}
 use Rattle.paging_laws.specs.inner.Histories.{BringsBack, BringsIn, StandsWithAllRules}
 use Rattle.paging_laws.specs.inner.Notes.{IsDone}
 use Rattle.paging_laws.specs.inner.State.{State}
-use Rattle.paging_laws.specs.inner.Steps.{IsComing, IsReloaded, commit_row, did_by, refused_by}
+use Rattle.paging_laws.specs.inner.Steps.{CanBring, CanEnd, IsComing, IsComingHeader, IsReloaded, commit_row, did_by, header_in, refused_by}
 use Rattle.paging_laws.proofs.ColumnLaws.{content_is, start_is}
 use Rattle.paging_laws.proofs.MoveEnds.{coming_header, ends_refused}
 use Rattle.paging_laws.proofs.ReloadLaws.{keeps_moves, row_allows}
@@ -48,9 +56,8 @@ use Rattle.audit_rules.proofs.OrderLaws.{refusal_fails}
 use Rattle.audit_rules.proofs.SameLaws.{ends_apart}
 use Rattle.audit_rules.specs.inner.Rivals.{AreRivals, is_load_refused}
 use Rattle.audit_rules.specs.inner.Same.{same_end}
-use Rattle.seal_record.specs.declared.unseal.UnsealedWork.{UnsealedWork}
 use Rattle.audit_machine.specs.inner.Asked.{Breaks, GoesOnWith, IsDoneBack, IsOwnRecord, made_for}
-use Rattle.audit_machine.specs.inner.Reasons.{IsUnder, header_told, is_refused, tells_two_tags, unfit_header}
+use Rattle.audit_machine.specs.inner.Reasons.{is_unfit, other_number}
 use Rattle.audit_machine.proofs.AskLaws.{IsMadeOf, Tells, alike, made_of_it, with_none}
 use Rattle.audit_machine.proofs.KeptLaws.{last_kept}
 use Rattle.audit_machine.proofs.OtherRefusal.{other_refusal}
@@ -83,9 +90,26 @@ none_comes s e f own idle j cpus past records h = refusal_fails j past e (no-end
 
 -- ---- headers
 
+header-same : (a b : Header) → same_header a b ≡ true → a ≡ b
+header-same a b is =
+    let first = both_true ((a.enclave == b.enclave) && (a.address == b.address)) (a.flags == b.flags) is in
+    let second = both_true (a.enclave == b.enclave) (a.address == b.address) first.0 in
+    λ i. record {
+      enclave = eqb-true a.enclave b.enclave second.0 i;
+      address = eqb-true a.address b.address second.1 i;
+      flags = eqb-true a.flags b.flags first.1 i;
+    }
+
 header-own : (a : Header) → same_header a a ≡ true
 header-own a =
     and_from _ _ (and_from _ _ (eq-eqb a.enclave a.enclave refl) (eq-eqb a.address a.address refl)) (eq-eqb a.flags a.flags refl)
+
+number-apart : (n : ℕ) → other_number n ≡ n → ⊥
+number-apart n e = by_test (tested (n == 0))
+  where
+    by_test : ((n == 0) ≡ true) ⊎ ((n == 0) ≡ false) → ⊥
+    by_test (inl is) = let f : 1 ≡ n = rw is at e in let g : 1 ≡ 0 = f ∙ eqb-true n 0 is in absurd cc
+    by_test (inr differs) = let f : 0 ≡ n = rw differs at e in false≢true (sym differs ∙ eq-eqb n 0 (sym f))
 
 -- ---- the page that a frame waits for, and its own record
 
@@ -102,6 +126,39 @@ module _ (k : Making) (s : State) (past : List Entry) (records : List Made) (f :
       let page : own.page ≡ g = same_Some _ _ (sym own.loads ∙ ap (λ (x : BareStart). x.loads) same ∙ loads) in
       subst (λ (x : BareStart). BringsBack k.key past f.0 g x.version rec) same
       (subst (λ p. BringsBack k.key past f.0 p own.start.version rec) page own.brings)
+
+  -- the page is in its slot, so that no frame holds it
+  pub can_bring : CanBring s f.0
+  can_bring = record { away = away }
+    where
+      moves : KeepsMoves k past
+      moves = keeps_moves k s past records h
+
+      starts : StartsApart k.frames past
+      starts = starts_apart k past moves
+
+      live : OneLiveCopy past
+      live = live_copies k past h.positive moves
+
+      found : (version_in past own.start.slot ≡ own.start.version) × (0 < own.start.version)
+      found = starts.found f.0 own.start own.page own.opened own.loads
+
+      in_slot : copy past own.page ≡ Some (InSlot own.start.slot (version_in past own.start.slot))
+      in_slot =
+          let gone = out_is_gone past own.page _ own.brings.last.last in
+          let under = subst (λ v. IsGone past (record { page = own.page; version = v })) (sym found.0) gone in
+          whose_copy k.first_version past live (drawn_once k past moves) own.start.slot own.page (rw found.0 found.1) under
+
+      away : (page : Page) → s.content f.0 ≡ IsLoading page → is_va_page page ≡ true → (n : ℕ) → s.content n ≡ IsVa page.number → ⊥
+      away page waits va n held =
+          let columns = h.shaped.shape.columns in
+          let both : IsLoading page ≡ IsLoading own.page =
+          sym waits ∙ content_is columns f.0 ∙ starts.loading f.0 own.start own.page own.opened own.loads in
+          let same : page ≡ own.page = cc both in
+          let stood : stands (content past n) page ≡ true = va_stands (content past n) page va (sym (content_is columns n) ∙ held) in
+          let framed : copy past own.page ≡ Some (InFrame n) = ap (copy past) (sym same) ∙ live.framed n page stood in
+          let twice : Some (InFrame n) ≡ Some (InSlot own.start.slot (version_in past own.start.slot)) = sym framed ∙ in_slot in
+          cc twice
 
   own-page : (coming : IsComing s f.0) → own.page ≡ coming.page
   own-page coming = same_Some _ _ (sym own.loads ∙ ap (λ (x : BareStart). x.loads) (own-start coming.start coming.opened) ∙ coming.loads)
@@ -178,115 +235,78 @@ module _ (s t : State) (e made : Entry) (f : Frame) (rec : Sealed) (done : IsDon
         differ = ends_apart e.event made.event (Eld f) (done-event e.event f done).0 unlike;
       }
 
--- ---- reasons
-
--- a reason that tells a header is that one
-pub header-reason : (reason : Refusal) (header : Header) → header_told reason ≡ Some header → reason ≡ unfit_header header
-header-reason (why.BadHeader enclave address flags) header h = ap unfit_header (same_Some _ _ h)
-header-reason reason header h = absurd cc
-
--- .. and one that tells no header fits no page where its tags differ, and else is none
-pub two-tags : (reason : Refusal) → tells_two_tags reason ≡ true → (past : List Entry) (g : Page) → DoesNotFit past g reason
-two-tags (why.MacFail given computed) h past g = λ same.
-    let is : bytes_eq given computed ≡ true = (bytes_eq-Decides given computed).1 same in
-    false≢true (sym (ap not is) ∙ h)
-two-tags reason h past g = absurd cc
-
-pub no-reason : (reason : Refusal) → header_told reason ≡ None → tells_two_tags reason ≡ false → (past : List Entry) (g : Page)
-    → DoesNotFit past g reason → ⊥
-no-reason (why.MacFail given computed) headless equal past g unfit = unfit ((bytes_eq-Decides given computed).0 (not_false _ equal))
-no-reason (why.BadHeader enclave address flags) headless equal past g unfit = cc
-no-reason reason headless equal past g unfit = unfit
-
-pub no_reason : (s : State) (actor : Actor) (f : Frame) (reason : Refusal)
-    → ((past : List Entry) (g : Page) → DoesNotFit past g reason → ⊥) → Breaks s (refused_by actor (Eld f) reason) rules.Refusal
-no_reason s actor f reason none j cpus past records h =
-    refusal_fails j past (refused_by actor (Eld f) reason) (λ (back : IsNotBack past f.0 reason). none past back.page back.unfit)
-
 -- ---- a load that is told as refused
 
--- the tag that is computed of a record that was opened under the machine's key and the version of the start
-pub computed_is : (s : State) (f : Frame) (work : UnsealedWork) → IsUnder s f work → (coming : IsComing s f.0)
-    → work.computed ≡ tag s.key coming.start.version work.rec.header work.rec.cipher
-computed_is s f work under coming =
-    let version : work.version ≡ coming.start.version = rw coming.opened at under.version in
-    work.is_computed ∙ (λ i. tag (under.key i) (version i) work.rec.header work.rec.cipher)
+does-not-fit : (past : List Entry) (g : Page) (own : Header) (reason : Refusal) → header_at past g ≡ Some own → is_unfit own reason ≡ true
+    → DoesNotFit past g reason
+does-not-fit past g own (why.MacFail given computed) headed unfit = λ same.
+    let is : bytes_eq given computed ≡ true = (bytes_eq-Decides given computed).1 same in
+    false≢true (sym (ap not is) ∙ unfit)
+does-not-fit past g own (why.BadHeader enclave address flags) headed unfit = λ told.
+    let same : own ≡ record { enclave = enclave; address = address; flags = flags } = same_Some _ _ (sym headed ∙ told) in
+    let is : same_header own (record { enclave = enclave; address = address; flags = flags }) ≡ true =
+    subst (λ x. same_header own x ≡ true) same (header-own own) in
+    false≢true (sym (ap not is) ∙ unfit)
+does-not-fit past g own reason headed unfit = absurd cc
 
-module _ (s t : State) (actor : Actor) (f : Frame) (rec : Sealed) (made : Entry) (step : IsReloaded s actor f rec made t)
-    (back : (k : Making) (past : List Entry) (records : List Made) → StandsWithAllRules k s past records
-    → (IsDone made.event → BringsIn k.key past s f.0 rec) → StandsWithAllRules k t (made ∷ past) records) where
-  computed : List ℕ
-  computed = tag s.key step.coming.start.version rec.header rec.cipher
+fits : (past : List Entry) (g : Page) (own : Header) (reason : Refusal) → header_at past g ≡ Some own → is_unfit own reason ≡ false
+    → DoesNotFit past g reason → ⊥
+fits past g own (why.MacFail given computed) headed fit unfit = unfit ((bytes_eq-Decides given computed).0 (not_false _ fit))
+fits past g own (why.BadHeader enclave address flags) headed fit unfit = unfit (headed ∙ ap Some (header-same own _ (not_false _ fit)))
+fits past g own reason headed fit unfit = unfit
 
-  -- the refusal that the machine made
-  goes-refused : (found : Refusal) → first_of_row (commit_row s f.0 step.coming rec) ≡ Some found → (k : Making) (past : List Entry)
-      (records : List Made) → StandsWithAllRules k s past records
-      → StandsWithAllRules k t (refused_by actor (Eld f) found ∷ past) records
-  goes-refused found refused k past records h =
-      let row = rw refused at step.row in
-      subst (λ x. StandsWithAllRules k t (x ∷ past) records) row.0
-      (back k past records h (λ was_done. absurd (subst (λ (x : Entry). IsDone x.event) row.0 was_done)))
+-- a reason that cannot be so
+pub reason_fits : (s : State) (actor : Actor) (f : Frame) (own : Header) (reason : Refusal) → IsComingHeader s f.0 own
+    → is_unfit own reason ≡ false → Breaks s (refused_by actor (Eld f) reason) rules.Refusal
+reason_fits s actor f own reason waits fit j cpus past records h =
+    refusal_fails j past (refused_by actor (Eld f) reason) (λ (told : IsNotBack past f.0 reason).
+    let coming = waits.0 in
+    let started : Some coming.start ≡ bare_start (Some told.ends.start) =
+    sym coming.opened ∙ start_is h.shaped.shape.columns f.0 ∙ ap bare_start told.ends.opened in
+    let page : told.page ≡ coming.page = same_Some _ _ (sym told.ends.loads
+    ∙ ap (λ (x : BareStart). x.loads) (sym (same_Some coming.start (without_place told.ends.start) started)) ∙ coming.loads) in
+    fits past told.page own reason (ap (header_at past) page ∙ coming_header s past f.0 h.standing.stands coming ∙ ap Some (sym waits.1)) fit
+    told.unfit)
 
-  -- .. stands for each other reason for which no page fits
-  turned : (found reason : Refusal) → first_of_row (commit_row s f.0 step.coming rec) ≡ Some found
-      → ((past : List Entry) (g : Page) → DoesNotFit past g reason) → GoesOnWith s (refused_by actor (Eld f) reason) [] t
-  turned found reason refused unfit = with_none s t (refused_by actor (Eld f) reason) (λ k past records h.
-      let own = ends_refused s past f.0 step.coming rec found h.shaped.shape.columns h.standing.stands refused in
-      other_refusal past actor f found reason k t records (goes-refused found refused k past records h)
-      (record { page = own.page; ends = own.ends; unfit = unfit past own.page }))
+-- a record with another header's number is refused, and the machine may be asked for the end of the load with it
+module _ (s : State) (f : Frame) (own : Header) (other : Sealed) (waits : IsComingHeader s f.0 own)
+    (apart : other.header.enclave ≡ other_number own.enclave) where
+  -- the page for which a frame waits, and its header, are one
+  one-page : (coming : IsComing s f.0) → waits.0.page ≡ coming.page
+  one-page coming =
+      let started : waits.0.start ≡ coming.start = same_Some _ _ (sym waits.0.opened ∙ coming.opened) in
+      same_Some _ _ (sym waits.0.loads ∙ ap (λ (x : BareStart). x.loads) started ∙ coming.loads)
 
-  pub tag_refused : (rec.tag ≡ computed → ⊥) → (reason : Refusal) → ((past : List Entry) (g : Page) → DoesNotFit past g reason)
-      → GoesOnWith s (refused_by actor (Eld f) reason) [] t
-  tag_refused apart reason unfit = by_test (tested (bytes_eq rec.tag computed))
-    where
-      by_test : (bytes_eq rec.tag computed ≡ true) ⊎ (bytes_eq rec.tag computed ≡ false)
-          → GoesOnWith s (refused_by actor (Eld f) reason) [] t
-      by_test (inl same) = absurd (apart ((bytes_eq-Decides rec.tag computed).0 same))
-      by_test (inr differs) = turned (why.MacFail rec.tag computed) reason (rw differs refl) unfit
+  own-header-is : (coming : IsComing s f.0) → own ≡ coming.header
+  own-header-is coming = waits.1 ∙ same_Some _ _ (sym waits.0.headed ∙ ap (header_in s) (one-page coming) ∙ coming.headed)
 
-  -- where the tag fits, only the header can refuse the record
-  found-is : bytes_eq rec.tag computed ≡ true → (found : Refusal) → first_of_row (commit_row s f.0 step.coming rec) ≡ Some found
-      → found ≡ unfit_header rec.header
-  found-is fits found refused = by_test (tested (same_header rec.header step.coming.header))
-    where
-      by_test : (same_header rec.header step.coming.header ≡ true) ⊎ (same_header rec.header step.coming.header ≡ false)
-          → found ≡ unfit_header rec.header
-      by_test (inl same) = absurd (none-some _ (sym (let e : first_of_row (commit_row s f.0 step.coming rec) ≡ None = rw (fits, same) refl in e)
-          ∙ refused))
-      by_test (inr differs) =
-          let e : first_of_row (commit_row s f.0 step.coming rec) ≡ Some (unfit_header rec.header) = rw (fits, differs) refl in
-          same_Some _ _ (sym refused ∙ e)
+  not-allowed : (coming : IsComing s f.0) → first_of_row (commit_row s f.0 coming other) ≡ None → ⊥
+  not-allowed coming allowed =
+      let headed : other.header ≡ own = (row_allows s f.0 coming other allowed).header ∙ sym (own-header-is coming) in
+      number-apart own.enclave (sym apart ∙ ap (λ (x : Header). x.enclave) headed)
 
-  pub header_told_right : rec.tag ≡ computed → is_refused made.event ≡ true
-      → GoesOnWith s (refused_by actor (Eld f) (unfit_header rec.header)) [] t
-  header_told_right tagged refused = by_row (first_of_row (commit_row s f.0 step.coming rec)) refl
-    where
-      fits : bytes_eq rec.tag computed ≡ true
-      fits = (bytes_eq-Decides rec.tag computed).1 tagged
+  pub can_end : CanEnd s f.0 other
+  can_end coming allowed = absurd (not-allowed coming allowed)
 
-      by_row : (o : Option Refusal) → first_of_row (commit_row s f.0 step.coming rec) ≡ o
-          → GoesOnWith s (refused_by actor (Eld f) (unfit_header rec.header)) [] t
-      by_row None allowed =
-          let row = rw allowed at step.row in
-          absurd (false≢true (ap (λ (x : Entry). is_refused x.event) (sym row.0) ∙ refused))
-      by_row (Some found) at = with_none s t (refused_by actor (Eld f) (unfit_header rec.header)) (λ k past records h.
-          subst (λ r. StandsWithAllRules k t (refused_by actor (Eld f) r ∷ past) records) (found-is fits found at)
-          (goes-refused found at k past records h))
-
-  pub header_told_wrong : is_refused made.event ≡ false → Breaks s (refused_by actor (Eld f) (unfit_header rec.header)) rules.Refusal
-  header_told_wrong done j cpus past records h =
-      refusal_fails j past (refused_by actor (Eld f) (unfit_header rec.header)) (λ (told : IsNotBack past f.0 (unfit_header rec.header)).
-      let started : Some step.coming.start ≡ bare_start (Some told.ends.start) =
-      sym step.coming.opened ∙ start_is h.shaped.shape.columns f.0 ∙ ap bare_start told.ends.opened in
-      let page : told.page ≡ step.coming.page = same_Some _ _ (sym told.ends.loads
-      ∙ ap (λ (x : BareStart). x.loads) (sym (same_Some step.coming.start (without_place told.ends.start) started)) ∙ step.coming.loads) in
-      told.unfit (ap (header_at past) page ∙ coming_header s past f.0 h.standing.stands step.coming ∙ ap Some (sym headed)))
-    where
-      headed : rec.header ≡ step.coming.header
-      headed = by_row (first_of_row (commit_row s f.0 step.coming rec)) refl
-        where
-          by_row : (o : Option Refusal) → first_of_row (commit_row s f.0 step.coming rec) ≡ o → rec.header ≡ step.coming.header
-          by_row None allowed = (row_allows s f.0 step.coming rec allowed).header
-          by_row (Some found) at =
-              let row = rw at at step.row in
-              absurd (false≢true (sym done ∙ ap (λ (x : Entry). is_refused x.event) row.0))
+  module _ (t : State) (actor : Actor) (made : Entry) (step : IsReloaded s actor f other made t)
+      (back : (k : Making) (past : List Entry) (records : List Made) → StandsWithAllRules k s past records
+      → (IsDone made.event → BringsIn k.key past s f.0 other) → StandsWithAllRules k t (made ∷ past) records) where
+    -- the refusal that the machine made stands for each other one that can be so
+    pub turned_away : (reason : Refusal) → is_unfit own reason ≡ true → GoesOnWith s (refused_by actor (Eld f) reason) [] t
+    turned_away reason unfit =
+        with_none s t (refused_by actor (Eld f) reason) (λ k past records h. by_row k past records h
+        (first_of_row (commit_row s f.0 step.coming other)) refl)
+      where
+        by_row : (k : Making) (past : List Entry) (records : List Made) → StandsWithAllRules k s past records → (o : Option Refusal)
+            → first_of_row (commit_row s f.0 step.coming other) ≡ o
+            → StandsWithAllRules k t (refused_by actor (Eld f) reason ∷ past) records
+        by_row k past records h None allowed = absurd (not-allowed step.coming allowed)
+        by_row k past records h (Some found) refused =
+            let row = rw refused at step.row in
+            let ended = ends_refused s past f.0 step.coming other found h.shaped.shape.columns h.standing.stands refused in
+            let headed : header_at past step.coming.page ≡ Some own =
+            coming_header s past f.0 h.standing.stands step.coming ∙ ap Some (sym (own-header-is step.coming)) in
+            other_refusal past actor f found reason k t records
+            (subst (λ x. StandsWithAllRules k t (x ∷ past) records) row.0
+            (back k past records h (λ was_done. absurd (subst (λ (x : Entry). IsDone x.event) row.0 was_done))))
+            (record { page = step.coming.page; ends = ended.ends; unfit = does-not-fit past step.coming.page own reason headed unfit })

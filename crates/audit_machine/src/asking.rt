@@ -17,7 +17,7 @@ use std::alloc::Global;
 
 /// Asks a machine for the instruction of an entry. None where it makes this very entry, which then keeps each rule of the machine; else the
 /// rule that the entry breaks first, and nothing is said of the machine any more. Memory may be refused to `epa` and `create` alone. Fewer
-/// than 2^32 version array pages were made, and none is to be loaded that a frame holds, or for which one waits.
+/// than 2^32 version array pages were made.
 pub fn ask(
     alloc: Global,
     machine: &mut Machine,

@@ -1,24 +1,20 @@
 //! The end of a load.
 
-ghost use Rattle.std.specs.Prelude.{◌≡◌, true, List, [], IfOk, OnErr, length};
-ghost use Rattle.audit_machine.specs.inner.Asked.{GoesOnWith, IsDoneBack, Takes, TakesBack};
-ghost use Rattle.audit_machine.specs.inner.Reasons.{IsUnder, header_told, is_refused, rule_unless, tells_two_tags, unfit_header};
+ghost use Rattle.std.specs.Prelude.{◌≡◌, true, IfOk, OnErr, length};
+ghost use Rattle.audit_machine.specs.inner.Asked.{IsDoneBack, Takes, TakesBack};
+ghost use Rattle.audit_machine.specs.inner.Reasons.{is_unfit, other_number};
 ghost use Rattle.paging_laws.specs.inner.State.{making_of};
-ghost use Rattle.paging_laws.specs.inner.Steps.{refused_by};
+ghost use Rattle.paging_laws.specs.inner.Steps.{CanBring, refused_by};
 ghost use Rattle.paging_machine.specs.inner.Parts.{state_of};
 ghost use Rattle.sgx_rules.specs.declared.entries.Action.TheVariants as actions;
-ghost use Rattle.sgx_rules.specs.declared.entries.Entry.{Entry};
-ghost use Rattle.sgx_rules.specs.declared.refusals.Refusal.{Refusal};
-ghost use Rattle.sgx_rules.specs.Ends.{DoesNotFit};
 ghost use Rattle.sgx_rules.specs.Table.{is_loading};
-ghost use Rattle.sgx_types.specs.declared.names.Page.{Page};
 
 use audit_rules::rivals::first_broken;
 use audit_rules::same::same_end;
 use paging_machine::machine::Machine;
 use run_history::rules::Rule;
 use seal_record::unseal::{UnsealWork, UnsealedWork, unseal};
-use sgx_rules::entries::{Entry, Event};
+use sgx_rules::entries::Entry;
 use sgx_rules::refusals::Refusal;
 use sgx_types::names::{Actor, Frame, Memory};
 use sgx_types::record::{Header, Record};
@@ -26,7 +22,8 @@ use std::alloc::Global;
 
 /// Asks a machine for the `eld` of an entry that tells that it was done, where `work` is the record with which the page went out last that
 /// the frame waits for, opened. Takes no SHA-256, since the work was opened before. None where the machine makes this very entry; else
-/// the rule that it breaks first.
+/// the rule that it breaks first. A version array page for which the frame waits is in no frame, as it is where `work` is its own record
+/// (`own_records_can_come`).
 pub fn bring(
     machine: &mut Machine,
     entry: &Entry,
@@ -34,6 +31,7 @@ pub fn bring(
     work: UnsealedWork,
 ) -> Option<Rule>
     requires coming { is_loading ((state_of machine.old).content frame.0) ≡ true }
+    requires can_bring { CanBring (state_of machine.old) frame.0 }
     requires done { IsDoneBack entry.now.event frame }
     ensures takes { TakesBack (state_of machine.old) entry.now frame work.rec (state_of machine.new) result }
     ensures making { making_of (state_of machine.new) ≡ making_of (state_of machine.old) }
@@ -47,9 +45,8 @@ pub fn bring(
 }
 
 /// Asks a machine for an `eld` that was refused for this reason. Which record was given the entry does not tell, so the machine is given one
-/// that it refuses for the same reason, if there is one: a reason is right where the two tags that it tells differ, or where the header
-/// that it tells is not the page's. None where it is right; then the frame is free, and the slot keeps its version. Else Refusal is
-/// broken.
+/// that it refuses too. None where the reason can be right: the two tags that it tells differ, or the header that it tells is not the
+/// page's; then the frame is free, and the slot keeps its version. Else Refusal is broken.
 ///
 /// Refused memory leaves the machine as it was.
 pub fn turn_away(
@@ -65,117 +62,56 @@ pub fn turn_away(
     ensures cpus { length machine.new.cpus ≡ length machine.old.cpus }
     ensures refused { OnErr result (machine.new ≡ machine.old) }
 {
-    if let Some(header) = header_told(why) {
-        let work = opened(alloc, machine, frame, header)?;
-        let right = refuses_header(machine, actor, frame, work);
-        return Ok(rule_unless(right));
-    }
-    if !tells_two_tags(why) {
+    let own = machine.coming_header(frame);
+    if !is_unfit(&own, why) {
         return Ok(Some(Rule::Refusal));
     }
-    let work = opened(alloc, machine, frame, NO_HEADER)?;
-    refuse_tag(machine, actor, frame, work);
+    let mut other = UnsealWork::new(alloc, of_other_page(alloc, &own)?)?;
+    machine.unseal_input(frame, &mut other);
+    let opened = unseal(other);
+    machine.eld_commit(actor, frame, opened);
     Ok(None)
 }
 
-const NO_HEADER: Header = Header {
-    enclave: 0,
-    address: 0,
-    flags: 0,
-};
-
-fn rule_unless(right: bool) -> Option<Rule>
-    ensures { result ≡ rule_unless right }
-{
-    if right { None } else { Some(Rule::Refusal) }
-}
-
-// The header that a reason tells.
-fn header_told(why: &Refusal) -> Option<Header>
-    ensures { result ≡ header_told why.now }
+// Whether a record can have been refused for this reason of which the header was to be this one.
+fn is_unfit(own: &Header, why: &Refusal) -> bool
+    ensures { result ≡ is_unfit own.now why.now }
 {
     match *why {
+        Refusal::MacFail { given, computed } => given != computed,
         Refusal::BadHeader {
             enclave,
             address,
             flags,
-        } => Some(Header {
-            enclave,
-            address,
-            flags,
-        }),
-        _ => None,
-    }
-}
-
-// Whether a reason tells two tags that differ.
-fn tells_two_tags(why: &Refusal) -> bool
-    ensures { result ≡ tells_two_tags why.now }
-{
-    match *why {
-        Refusal::MacFail { given, computed } => given != computed,
+        } => {
+            *own != Header {
+                enclave,
+                address,
+                flags,
+            }
+        }
         _ => false,
     }
 }
 
-// A record with this header, opened under what the load into the frame has started with.
-fn opened(
-    alloc: Global,
-    machine: &Machine,
-    frame: Frame,
-    header: Header,
-) -> Result<UnsealedWork, Memory>
-    requires { is_loading ((state_of machine.now).content frame.0) ≡ true }
-    ensures under { IfOk result (λ work. IsUnder (state_of machine.now) frame work) }
-    ensures header { IfOk result (λ work. work.rec.header ≡ header) }
+// A record with another header.
+fn of_other_page(alloc: Global, own: &Header) -> Result<Record, Memory>
+    ensures { IfOk result (λ rec. rec.header.enclave ≡ other_number own.now.enclave) }
 {
-    let rec = Record {
+    let header = Header {
+        enclave: other_number(own.enclave),
+        address: own.address,
+        flags: own.flags,
+    };
+    Ok(Record {
         header,
         cipher: vec![in alloc; 0; 4096]?,
         tag: [0; 32],
-    };
-    let mut work = UnsealWork::new(alloc, rec)?;
-    machine.unseal_input(frame, &mut work);
-    Ok(unseal(work))
+    })
 }
 
-// Ends a load by this record with a tag that does not fit.
-fn refuse_tag(machine: &mut Machine, actor: Actor, frame: Frame, work: UnsealedWork)
-    requires coming { is_loading ((state_of machine.old).content frame.0) ≡ true }
-    requires under { IsUnder (state_of machine.old) frame work }
-    ensures goes_on { (reason : Refusal) → ((past : List Entry) (g : Page) → DoesNotFit past g reason)
-        → GoesOnWith (state_of machine.old) (refused_by actor (actions.Eld frame) reason) [] (state_of machine.new) }
-    ensures making { making_of (state_of machine.new) ≡ making_of (state_of machine.old) }
-    ensures cpus { length machine.new.cpus ≡ length machine.old.cpus }
+fn other_number(number: u64) -> u64
+    ensures { result ≡ other_number number }
 {
-    let mut work = work;
-    work.rec.tag = other_tag(work.computed);
-    machine.eld_commit(actor, frame, work);
-}
-
-// Ends a load by this record with the tag that fits, and tells whether its header is not the page's.
-fn refuses_header(machine: &mut Machine, actor: Actor, frame: Frame, work: UnsealedWork) -> bool
-    requires coming { is_loading ((state_of machine.old).content frame.0) ≡ true }
-    requires under { IsUnder (state_of machine.old) frame work }
-    ensures takes { Takes (state_of machine.old) (refused_by actor (actions.Eld frame) (unfit_header work.rec.header))
-        (state_of machine.new) (rule_unless result) }
-    ensures making { making_of (state_of machine.new) ≡ making_of (state_of machine.old) }
-    ensures cpus { length machine.new.cpus ≡ length machine.old.cpus }
-{
-    let mut work = work;
-    work.rec.tag = work.computed;
-    let made = machine.eld_commit(actor, frame, work);
-    is_refused(&made.event)
-}
-
-fn is_refused(event: &Event) -> bool
-    ensures { result ≡ is_refused event.now }
-{
-    matches!(event, Event::Refused { .. })
-}
-
-fn other_tag(tag: [u8; 32]) -> [u8; 32]
-    ensures { result ≡ tag → ⊥ }
-{
-    if tag == [0; 32] { [1; 32] } else { [0; 32] }
+    if number == 0 { 1 } else { 0 }
 }

@@ -4,5 +4,6 @@
 
 pub mod asking;
 pub mod coming;
+pub mod laws;
 pub mod leaving;
 pub mod outside;

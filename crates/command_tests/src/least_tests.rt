@@ -210,7 +210,7 @@ fn a_fault_of_the_output_cuts_the_text(rt: HostRuntime) -> Result<(), Fail> {
 const MIGRATE: &[&str] = &["migrate", "t"];
 
 /// The trace of the job in the first edition.
-const OLD: &[u8] =
+pub const OLD: &[u8] =
     b"trace 1\nb epa 0\nb create A 1 0x10000 0x10000\nb add A 0 2 tcs - tcs 1 1\nb add A 1 3 reg rw words 0\n\
 b add A 2 4 reg rw words 7\nb init A - 006d518bbd8825da4a0e7d35d418aaf16b7749c62854a6f40d8d58db415a8c31\n\
 p0 enter A 0 2 3 0\np0 fill 2 4\np0 load 0x2000 7\np0 exit\nend 10\n";

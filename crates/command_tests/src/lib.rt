@@ -25,6 +25,8 @@ mod meeting_tests;
 #[cfg(test)]
 mod paged_jobs;
 #[cfg(test)]
+mod picture_tests;
+#[cfg(test)]
 mod question_tests;
 #[cfg(test)]
 mod reply_tests;

@@ -69,6 +69,9 @@ const NO_COMMANDS: &[&[&str]] = &[
     &["moves", "", "A", "2"],
     &["moves", "t", "A", "SECS"],
     &["moves", "t", "9", "A", "2"],
+    &["picture"],
+    &["picture", ""],
+    &["picture", "t", "t"],
     &["migrate"],
     &["gate", "0"],
     &["gate", "100001"],
@@ -138,7 +141,7 @@ const ENDINGS: &[(Status, u8, Option<&str>, Option<&str>)] = &[
         None,
         Some(
             "usage: sgxpage run PATH | audit PATH | make NUMBER SIZE | demo NUMBER SIZE | least PATH | \
-            query PATH PLACE L PAGE | moves PATH L PAGE | migrate PATH | gate ROUNDS",
+            query PATH PLACE L PAGE | moves PATH L PAGE | picture PATH | migrate PATH | gate ROUNDS",
         ),
     ),
     (

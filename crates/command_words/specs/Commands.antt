@@ -25,9 +25,10 @@ path_by name =
     else if bytes_eq name (codes "least") then Some commands.Least
     else if bytes_eq name (codes "audit") then Some commands.Audit
     else if bytes_eq name (codes "migrate") then Some commands.Migrate
+    else if bytes_eq name (codes "picture") then Some commands.Picture
     else None
 
--- `run PATH`, `least PATH`, `audit PATH` and `migrate PATH`, where PATH is any word that is not empty
+-- `run PATH`, `least PATH`, `audit PATH`, `migrate PATH` and `picture PATH`, where PATH is any word that is not empty
 abbrev pub with_path : List ℕ → List ℕ → Option Command
 with_path name path = if nat_lt 0 (length path) then path_by name else None
 

@@ -34,6 +34,9 @@ pub enum Command {
     /// `migrate PATH`: the text in the second edition of a trace in the first, which is the file at the path, which is not empty.
     Migrate,
 
+    /// `picture PATH`: the picture of a trace, which is the file at the path, which is not empty.
+    Picture,
+
     /// `query PATH PLACE L PAGE` or `moves PATH L PAGE`: what is asked of a trace of a job, which is the file at the path, which is not
     /// empty.
     Ask { question: Question },
@@ -92,6 +95,8 @@ fn path_command_by(name: &str) -> Option<Command>
         Some(Command::Audit)
     } else if name == "migrate" {
         Some(Command::Migrate)
+    } else if name == "picture" {
+        Some(Command::Picture)
     } else {
         None
     }

@@ -2,7 +2,7 @@
 
 ghost use Rattle.std.specs.Prelude.{◌≡◌, length};
 ghost use Rattle.paging_machine.specs.inner.Parts.{state_of};
-ghost use Rattle.paging_laws.specs.inner.Steps.{CanApply, CanMove, IsStep, MayNeedMemory};
+ghost use Rattle.paging_laws.specs.inner.Steps.{CanApply, IsStep, MayNeedMemory};
 ghost use Rattle.driver_rules.specs.inner.Reclaims.{is_refused};
 ghost use Rattle.driver_steps.specs.inner.Carried.{Carries};
 
@@ -11,11 +11,9 @@ use sgx_rules::entries::{Action, Entry, Event};
 use sgx_types::names::Actor;
 use std::alloc::Global;
 
-/// One instruction, by its row of this project's instruction table. None of `epa` and `create`, which take memory. A version array page
-/// that is loaded is in no frame, and none waits for it.
+/// One instruction, by its row of this project's instruction table. None of `epa` and `create`, which take memory.
 pub fn step(alloc: Global, machine: &mut Machine, actor: Actor, action: Action) -> Entry
     requires can { CanApply (length machine.old.cpus) actor action }
-    requires moves { CanMove (state_of machine.old) action }
     requires sure { MayNeedMemory action → ⊥ }
     ensures step { IsStep (state_of machine.old) actor action result (state_of machine.new) }
     ensures carries { Carries (state_of machine.old) result (state_of machine.new) }

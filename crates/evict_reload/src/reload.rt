@@ -162,7 +162,8 @@ pub fn eld_commit(
     requires known { is_some (kind_in secs.old page) ≡ true }
     requires kinds { IfSome (kind_in secs.old page) (λ x. is_own_page page ≡ is_kind_own x.0) }
     requires pages { AreVaPages epc.old va.old.pages }
-    requires room { is_va_page page ≡ true → pages_made va.old.pages < va.old.made }
+    requires room { first_of_row (eld_row work.now.rec work.now.computed (header_in secs.old page)) ≡ None
+        → is_va_page page ≡ true → pages_made va.old.pages < va.old.made }
     requires counted { AreCountedIn epc.old secs.old }
     requires small { length epc.old ≤ MOST_FRAMES }
     requires places { length secs.old ≡ 8 }

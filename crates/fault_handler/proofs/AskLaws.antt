@@ -1,31 +1,26 @@
 -- Where tables and machine stand for the same entries, what a fault step for a page asks of them is there.
 use Rattle.std.proofs.Common.{◌≡◌, ℕ, ◌+◌, ◌-◌, ◌<◌, Bool, true, false, if◌then◌else◌, refl, sym, ap, subst}
 use Rattle.std.proofs.Common.{◌∙◌, List, Some, None, length, arith}
-use Rattle.std.proofs.lemmas.Bool.{eqb-true, false≢true, ltb-true}
-use Rattle.std.proofs.lemmas.Option.{same_Some}
-use Rattle.sgx_types.proofs.Pages.{same_page-refl}
+use Rattle.std.proofs.lemmas.Bool.{false≢true, ltb-true}
 use Rattle.sgx_rules.specs.declared.entries.Entry.{Entry}
 use Rattle.sgx_types.specs.declared.names.Page.{Page}
 use Rattle.sgx_types.specs.declared.names.VaSlot.{VaSlot}
 use Rattle.sgx_types.specs.Making.{Making}
-use Rattle.sgx_types.specs.Pages.{is_own_page, is_va_page, same_page, secs_page, va_page}
-use Rattle.sgx_rules.specs.Frames.{Content, content, Free, Holds, IsLoading, IsVa, least_free, SecsOf, stands, vas_made}
+use Rattle.sgx_types.specs.Pages.{is_own_page, is_va_page, secs_page, va_page}
+use Rattle.sgx_rules.specs.Frames.{content, least_free, vas_made}
 use Rattle.sgx_rules.specs.Starts.{open_start}
 use Rattle.job_grammar.specs.Jobs.{JobView}
 use Rattle.active_list.specs.declared.page_states.PageState.{PageState}
 use Rattle.active_list.specs.declared.page_states.PageState.TheVariants as states
 use Rattle.active_list.specs.inner.Places.{IsPlaced}
 use Rattle.active_list.specs.inner.States.{state_of as page_state}
-use Rattle.page_history.specs.inner.Away.{array_in}
-use Rattle.paging_laws.proofs.ColumnLaws.{content_is}
-use Rattle.paging_machine.specs.inner.Parts.{Parts, state_of}
+use Rattle.paging_machine.specs.inner.Parts.{Parts}
 use Rattle.driver_rules.specs.Places.{Absent, Away, Here, is_here, Leaving, Loading, Place, frame_here, place}
 use Rattle.driver_rules.specs.Targets.{at_frame, slot_here, target_by, target_from}
 use Rattle.driver_rules.specs.inner.Slotted.{fixed_slot}
 use Rattle.driver_rules.specs.Turns.{fetch, fetch_by}
 use Rattle.driver_laws.specs.inner.Agrees.{drivers, Keeping}
-use Rattle.driver_laws.specs.inner.Sound.{is_absent, IsSound, slot_at, slot_of, stands_in, waiting}
-use Rattle.driver_laws.proofs.LoadLaws.{loading_place}
+use Rattle.driver_laws.specs.inner.Sound.{is_absent, IsSound, slot_at, slot_of}
 use Rattle.driver_laws.proofs.OwnLaws.{FetchIs, IsAsk, target_is as target_asked}
 use Rattle.driver_tables.specs.declared.driver.Driver.{Driver}
 use Rattle.driver_tables.specs.inner.Tables.{ShowsTables, place_in}
@@ -55,41 +50,6 @@ target_placed k j d past t page slot sound placed at = by_own (is_own_page page)
     by_own : (b : Bool) → is_own_page page ≡ b → IsPlaced d.states.counts (if b then target_from past page slot else page)
     by_own true own = by_secs (is_here (place past (secs_page page.enclave))) own
     by_own false other = placed
-
--- ---- no frame has a page that is away
-
--- a version array page by its number
-array_page : (g : Page) → is_va_page g ≡ true → va_page g.number ≡ g
-array_page g is = λ i. record { enclave = sym (eqb-true g.enclave 0 is) i; number = g.number }
-
-no_array : (past : List Entry) (g : Page) (slot : VaSlot) (n : ℕ) → IsSound past → place past g ≡ Away slot → is_va_page g ≡ true
-    → array_in (content past n) ≡ Some g.number → ⊥
-no_array past g slot n sound at is = by_content (content past n) refl
-  where
-    apart : (h : Page) (m : ℕ) (t : VaSlot) → h ≡ g → place past h ≡ Loading m t → ⊥
-    apart h m t same loading = other (sym loading ∙ ap (place past) same ∙ at)
-      where
-        other : Loading m t ≡ Away slot → ⊥
-        other k = cc
-
-    by_load : (page : Page) (b : Bool) → is_va_page page ≡ b → content past n ≡ IsLoading page
-        → (if b then Some page.number else None) ≡ Some g.number → ⊥
-    by_load page false va held h = cc
-    by_load page true va held h =
-        let same : page ≡ g = sym (array_page page va) ∙ ap va_page (same_Some page.number g.number h) ∙ array_page g is in
-        let loads = loading_place past n page sound (sound.places.waits n ∙ ap waiting held) in
-        apart page n loads.0 same loads.1
-
-    by_content : (c : Content) → content past n ≡ c → array_in c ≡ Some g.number → ⊥
-    by_content (IsVa k) held h =
-        let same : va_page k ≡ g = ap va_page (same_Some k g.number h) ∙ array_page g is in
-        let stood : stands (content past n) g ≡ true =
-        ap (λ c. stands c g) held ∙ subst (λ p. same_page p g ≡ true) (sym same) (same_page-refl g) in
-        false≢true (sym (sound.places.frames g n ∙ ap (λ p. stands_in p n) at) ∙ stood)
-    by_content (IsLoading page) held h = by_load page (is_va_page page) refl held h
-    by_content Free held h = cc
-    by_content (SecsOf e) held h = cc
-    by_content (Holds page kind perm) held h = cc
 
 -- ---- a fault step
 
@@ -204,7 +164,7 @@ module _ (made : Making) (j : JobView) (past : List Entry) (d : Driver) (m : Par
     asked_array slot is = array_of (drivers j) j d past r.shows (asked_in d page) slot r.sound (asked_at slot is)
 
     -- a fault step for a page that has its place can be made
-    pub can_resolve : CanResolve d m page
+    pub can_resolve : CanResolve d page
     can_resolve = record {
       ask = record {
         placed = here;
@@ -212,14 +172,7 @@ module _ (made : Making) (j : JobView) (past : List Entry) (d : Driver) (m : Par
         array = λ slot is own. array_of (drivers j) j d past r.shows page slot r.sound (place_is (states.Away slot) is);
       };
       asked = asked_placed;
-      apart = λ slot is f to va n. apart slot is va n;
       slot = asked_array;
       here = λ slot is.
           found_here slot (asked_array slot is) (ask_here (asked_in d page) slot (asked_needs slot is) (asked_at slot is));
     }
-      where
-        apart : (slot : VaSlot) → page_state d.states (asked_in d page) ≡ states.Away slot → is_va_page (asked_in d page) ≡ true → (n : ℕ)
-            → array_in ((state_of m).content n) ≡ Some (asked_in d page).number → ⊥
-        apart slot is va n held =
-            no_array past (asked_in d page) slot n r.sound (asked_at slot is) va
-            (sym (ap array_in (content_is r.follows.shape.columns n)) ∙ held)

@@ -2,7 +2,7 @@
 use Rattle.std.proofs.Common.{◌≡◌, ℕ, not, Bool, true, false, if◌then◌else◌, List, ◌∷◌, Option, None}
 use Rattle.std.proofs.Common.{Some, MatchOption, ⊎_elim, ◌⊎◌, inl, inr, length, is_some, refl, sym, ap, subst, ◌∙◌}
 use Rattle.std.proofs.Common.{◌<◌, nat_lt, nat_le, slice_set, arith, ◌&&◌, ◌||◌, ◌==◌}
-use Rattle.std.proofs.lemmas.Bool.{eq-eqb}
+use Rattle.std.proofs.lemmas.Bool.{eq-eqb, false≢true}
 use Rattle.std.specs.Str.{bytes_eq}
 use Rattle.std.proofs.lemmas.Option.{same_Some}
 use Rattle.sgx_rules.specs.declared.entries.Action.TheVariants.{Eld}
@@ -19,7 +19,7 @@ use Rattle.slot_keeper.specs.inner.Keeper.{is_ours}
 use Rattle.driver_rules.specs.inner.Slotted.{fixed_count}
 use Rattle.sgx_rules.specs.declared.refusals.Refusal.{Refusal}
 use Rattle.sgx_rules.specs.declared.refusals.Refusal.TheVariants as why
-use Rattle.sgx_rules.specs.Frames.{reloaded, vas_made}
+use Rattle.sgx_rules.specs.Frames.{IsLoading, content, reloaded, vas_made}
 use Rattle.sgx_types.specs.Making.{Making}
 use Rattle.sgx_types.specs.Sealed.{Sealed}
 use Rattle.sgx_rules.specs.Starts.{Start, open_start}
@@ -35,7 +35,8 @@ use Rattle.active_list.specs.declared.page_states.PageState.TheVariants as state
 use Rattle.seal_record.specs.Cipher.{cipher, tag}
 use Rattle.seal_record.specs.inner.Row.{eld_row, is_header}
 use Rattle.paging_laws.specs.inner.State.{State, after_eld, after_failed_eld}
-use Rattle.paging_laws.specs.inner.Steps.{commit_row, did_by, refused_by}
+use Rattle.paging_laws.specs.inner.Steps.{CanBring, commit_row, did_by, refused_by}
+use Rattle.page_history.proofs.ArrayLaws.{va_stands}
 use Rattle.paging_laws.proofs.ColumnLaws.{content_is}
 use Rattle.paging_laws.proofs.SlotLaws.{started_as}
 use Rattle.paging_machine.specs.inner.Parts.{Parts, state_of}
@@ -45,7 +46,7 @@ use Rattle.driver_rules.specs.inner.Reclaims.{is_refused}
 use Rattle.driver_rules.specs.Turns.{Fails, Loads, fails_with, last_of, load_of}
 use Rattle.driver_laws.specs.inner.Agrees.{drivers, first_kept, loaded_by}
 use Rattle.driver_laws.specs.inner.Kinds.{CanMove}
-use Rattle.driver_laws.specs.inner.Sound.{slot_of, is_absent, is_load_start, once_listed, slot_at}
+use Rattle.driver_laws.specs.inner.Sound.{slot_of, is_absent, is_load_start, once_listed, slot_at, stands_in, waiting}
 use Rattle.driver_laws.proofs.LoadLaws.{loading_place}
 use Rattle.driver_tables.specs.declared.driver.Driver.{Driver}
 use Rattle.driver_tables.specs.inner.Tables.{ShowsTables, place_in}
@@ -160,6 +161,18 @@ module _ (made : Making) (j : JobView) (past : List Entry) (d : Driver) (m : Par
       by_start None h = cc
       by_start (Some x) h = ap is_some h
 
+  -- no frame holds a page for which one waits
+  elsewhere : CanBring (state_of m) n
+  elsewhere = record {
+    away = λ g comes va k held.
+        let waited = waiting_place g (sym (content_is r.follows.shape.columns n) ∙ comes) in
+        let stood = va_stands (content past k) g va (sym (content_is r.follows.shape.columns k) ∙ held) in
+        false≢true (sym (r.sound.places.frames g k ∙ ap (λ p. stands_in p k) waited.1) ∙ stood);
+  }
+    where
+      waiting_place : (g : Page) → content past n ≡ IsLoading g → (t : VaSlot) × (place past g ≡ Loading n t)
+      waiting_place g comes = loading_place past n g r.sound (r.sound.places.waits n ∙ ap waiting comes)
+
   -- a processor that has a load to end can end it
   pub can_finish : cpu.0 < length d.kept → CanFinish cpu page d m
   can_finish room = record {
@@ -178,6 +191,7 @@ module _ (made : Making) (j : JobView) (past : List Entry) (d : Driver) (m : Par
     kept = copy.rec;
     copy = copy.kept;
     waits = subst (λ k. is_loading ((state_of m).content k) ≡ true) (sym state_is.number) waits;
+    apart = subst (CanBring (state_of m)) (sym state_is.number) elsewhere;
   }
 
 -- ---- the entry

@@ -43,7 +43,7 @@ pub fn answers_are_right()
 /// Where tables and machine stand for the same entries, a fault step for a page that has its place can be made.
 pub fn pages_can_be_asked()
     ensures { (made : Making) (j : JobView) (past : List Entry) (d : Driver) (m : Parts) (page : Page) → Agrees made j past d m
-        → IsPlaced d.states.counts page → CanResolve d m page }
+        → IsPlaced d.states.counts page → CanResolve d page }
 {}
 
 /// What ends the load that a processor has still to end is right, for whatever entries tables and machine stand for: its entry is the end

@@ -5,7 +5,7 @@ ghost use Rattle.active_list.specs.inner.Places.{IsPlaced};
 ghost use Rattle.active_list.specs.inner.States.{state_of as page_state};
 ghost use Rattle.std.specs.Result.{IsOkAnd};
 ghost use Rattle.io_edges.specs.inner.Faults.{HasCause};
-ghost use Rattle.fault_handler.specs.inner.Resolving.{CanAsk, CanResolve, IsNoArray, TellsFault, IsFetch, IsResolved, IsStarted, asked_in};
+ghost use Rattle.fault_handler.specs.inner.Resolving.{CanAsk, CanResolve, TellsFault, IsFetch, IsResolved, IsStarted, asked_in};
 ghost use Rattle.paging_machine.specs.inner.Parts.{state_of};
 ghost use Rattle.sgx_rules.specs.Frames.{least_free};
 ghost use Rattle.sgx_types.specs.Pages.{va_page};
@@ -45,7 +45,7 @@ pub fn resolve<B: Backing>(
     page: Page,
 ) -> Result<FaultAnswer, Memory>
     requires room { cpu.0 < length driver.old.kept }
-    requires can { CanResolve driver.old machine.old page }
+    requires can { CanResolve driver.old page }
     ensures does { IfOk result (λ answer. IsResolved cpu (asked_in driver.old page)
         (page_state driver.old.states (asked_in driver.old page)) driver.old machine.old (B.told store.old)
         answer driver.new machine.new (B.told store.new)) }
@@ -91,7 +91,6 @@ fn fetch<B: Backing>(
 ) -> Result<FaultAnswer, Memory>
     requires room { cpu.0 < length driver.old.kept }
     requires placed { IsPlaced driver.old.states.counts page }
-    requires apart { IsNoArray machine.old page }
     requires array { IsPlaced driver.old.states.counts (va_page slot.va) }
     requires found { slot_here_in driver.old slot ≡ None → ⊥ }
     ensures does { IfOk result (λ answer. IsFetch cpu page slot (slot_here_in driver.old slot)
@@ -137,7 +136,6 @@ fn start(
 ) -> FaultAnswer
     requires room { cpu.0 < length driver.old.kept }
     requires placed { IsPlaced driver.old.states.counts page }
-    requires apart { IsNoArray machine.old page }
     ensures does { IsStarted cpu page slot at frame rec driver.old machine.old result driver.new machine.new }
     ensures cpus { length machine.new.cpus ≡ length machine.old.cpus }
 {

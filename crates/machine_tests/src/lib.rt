@@ -1,5 +1,8 @@
-// Tests of the machine. Each plays rows, which are constants, through one loop: a further test or row costs the check little.
+// Tests of the machine, and of its instructions, each over a world of its own. Each plays rows, which are constants, through one loop: a
+// further test or row costs the check little.
 #![tactic(auto)]
 
 #[cfg(test)]
-mod tests;
+mod instructions;
+#[cfg(test)]
+mod machines;

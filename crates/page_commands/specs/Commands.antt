@@ -25,6 +25,14 @@ ReadsOld command = (command ≡ Some commands.Least) ⊎ (command ≡ Some comma
 abbrev pub Migrates : Option Command → Type 0
 Migrates command = command ≡ Some commands.Migrate
 
+-- the command gives the picture of an old trace
+abbrev pub Pictures : Option Command → Type 0
+Pictures command = command ≡ Some commands.Picture
+
+-- the command reads an old trace, and no job
+abbrev pub ReadsAlone : Option Command → Type 0
+ReadsAlone command = Migrates command ⊎ Pictures command
+
 -- the command reads a job
 abbrev pub ReadsJob : Option Command → Type 0
 ReadsJob command = (command ≡ Some commands.Run) ⊎ ReadsOld command
@@ -69,6 +77,7 @@ abbrev pub IsLeastEnd : Status → Type 0
 IsLeastEnd statuses.Done = Unit {0}
 IsLeastEnd status = IsUntraced status
 
+-- how `migrate` may end, and `picture`
 abbrev pub IsMigrateEnd : Status → Type 0
 IsMigrateEnd statuses.Done = Unit {0}
 IsMigrateEnd statuses.BadTrace = Unit {0}

@@ -1,4 +1,5 @@
--- What a command says of an old trace: its numbers for a job, the verdict on it, its text in the second edition, or its first faulty line.
+-- What a command says of an old trace: its numbers for a job, the verdict on it, its picture, its text in the second edition, or its
+-- first faulty line.
 use Rattle.std.specs.Prelude.{ℕ, ◌≡◌, List, Option, Ok, Err, reverse}
 use Rattle.io_edges.specs.Sinks.{followed_by, GivesPart}
 use Rattle.sgx_rules.specs.declared.entries.Entry.{Entry}
@@ -13,6 +14,7 @@ use Rattle.audit_command.specs.Judged.{Judges}
 use Rattle.audit_command.specs.VerdictText.{verdict_text}
 use Rattle.command_words.specs.declared.question.Question.{Question}
 use Rattle.least_command.specs.Fewest.{IsLeastText}
+use Rattle.picture_text.specs.PictureText.{picture_of}
 use Rattle.query_command.specs.AnswerText.{answer_text}
 use Rattle.trace_migrate.specs.Migrated.{numbered}
 use Rattle.trace_text.specs.declared.edition.Edition.{Edition}
@@ -85,6 +87,12 @@ pub record HalfJudged (bytes old_bytes : List ℕ) (out out' : Option (List ℕ)
   pub verdict : Verdict
   pub judged : TracedBy bytes old_bytes (λ j whole. Judges j whole verdict)
   pub told : GivesPart out out' (verdict_text verdict)
+
+-- the bytes spell a trace, and something was given of the text of its picture
+pub record PicturedBy (old_bytes : List ℕ) (Given : List ℕ → Type 0) : Type 0 where
+  pub entries : List Entry
+  pub reads : Reads editions.Two old_bytes (Ok entries)
+  pub given : Given (picture_of (reverse entries))
 
 -- the bytes spell a trace in the first edition, and something was given of the text in the second of its entries, whose version array
 -- pages are numbered

@@ -14,11 +14,11 @@ ghost use Rattle.job_print.specs.JobText.{job_text};
 ghost use Rattle.run_summary.specs.Summary.{summary_of};
 ghost use Rattle.old_trace.specs.Reading.{OfRead};
 ghost use Rattle.page_commands.specs.Commands.{Asks, HasEnded, IsAuditEnd, IsDemoEnd, IsLeastEnd, IsMigrateEnd, MayStandIn, Migrates};
-ghost use Rattle.page_commands.specs.Commands.{NoFault, ReadsJob, ReadsOld};
+ghost use Rattle.page_commands.specs.Commands.{NoFault, Pictures, ReadsAlone, ReadsJob, ReadsOld};
 ghost use Rattle.page_commands.specs.Commands.{status_of};
 ghost use Rattle.page_commands.specs.Runs.{BothGiven, DemoBy, HalfGiven, HalfTold, HasFault, HasJob, IsTextGiven, RanBy, Told};
 ghost use Rattle.page_commands.specs.Traces.{AnsweredBy, HalfJudged, HalfLineTold, HasTrace, HasWrongLine, IsRight, IsWrong, LeastBy};
-ghost use Rattle.page_commands.specs.Traces.{LineTold, MigratedBy, NoTold};
+ghost use Rattle.page_commands.specs.Traces.{LineTold, MigratedBy, NoTold, PicturedBy};
 ghost use Rattle.page_commands.specs.Traces.{YesTold};
 ghost use Rattle.run_jobs.specs.declared.ends.End.{End};
 
@@ -29,6 +29,7 @@ use crate::gates::rounds_command;
 use crate::least::least_command;
 use crate::making::{demo_command, make_command};
 use crate::migrate::migrate_command;
+use crate::picture::picture_command;
 use crate::running::run_command;
 use crate::status::Status;
 use backing_store::backing::Backing;
@@ -61,6 +62,9 @@ use turn_gate::gate::Gate;
 /// to `out` where the page was behind so many entries, which processors cached it there, and its first word. The other gives a line for
 /// each move of the page.
 ///
+/// `picture PATH` reads a trace from `old`, without a job and whoever made it, and gives to `out` the text of its picture: lanes of
+/// processors, frames, pages and the driver, in the Trace Event Format.
+///
 /// `migrate PATH` reads a trace in the first edition from `old`, without a job, and gives to `out` the text of its entries in the second,
 /// whose version array pages are numbered. The other commands read and write the second edition alone.
 ///
@@ -92,14 +96,14 @@ pub fn sgxpage<
 
     ensures reads { TakesAtMost (2 ^ 24 + 1) (J.left job.old) (J.left job.new) }
     ensures reads_old { TakesAtMost (2 ^ 30 + 1) (O.left old.old) (O.left old.new) }
-    // An old trace is read by its commands alone, and behind a job but for `migrate`.
+    // An old trace is read by its commands alone, and behind a job but for `migrate` and `picture`.
     ensures behind { ReadsOld (command_in (map string_bytes words.now)) × OfRead (J.left job.old) HasJob
-        ⊎ Migrates (command_in (map string_bytes words.now)) ⊎ (old.new ≡ old.old) }
+        ⊎ ReadsAlone (command_in (map string_bytes words.now)) ⊎ (old.new ≡ old.old) }
     ensures read_fault { result.status ≡ Status.ReadFault →
         (HasRisen (J.faults job.old) (J.faults job.new) × (old.new ≡ old.old)
         ⊎ ReadsOld (command_in (map string_bytes words.now)) × OfRead (J.left job.old) HasJob
         × HasRisen (O.faults old.old) (O.faults old.new)
-        ⊎ Migrates (command_in (map string_bytes words.now)) × HasRisen (O.faults old.old) (O.faults old.new))
+        ⊎ ReadsAlone (command_in (map string_bytes words.now)) × HasRisen (O.faults old.old) (O.faults old.new))
         × (out.new ≡ out.old) × (trace.new ≡ trace.old) × (result.store ≡ None) }
 
     ensures bad_job { result.status ≡ Status.BadJob →
@@ -110,6 +114,8 @@ pub fn sgxpage<
 
     ensures bad_trace { result.status ≡ Status.BadTrace →
         (ReadsOld (command_in (map string_bytes words.now)) × OfRead (J.left job.old) HasJob
+        × OfRead (O.left old.old) (λ bytes. LineTold Edition.Two bytes (K.given out.old) (K.given out.new))
+        ⊎ Pictures (command_in (map string_bytes words.now))
         × OfRead (O.left old.old) (λ bytes. LineTold Edition.Two bytes (K.given out.old) (K.given out.new))
         ⊎ Migrates (command_in (map string_bytes words.now))
         × OfRead (O.left old.old) (λ bytes. LineTold Edition.One bytes (K.given out.old) (K.given out.new)))
@@ -219,6 +225,22 @@ pub fn sgxpage<
     ensures ask_else { Asks (command_in (map string_bytes words.now)) →
         IsLeastEnd result.status × (trace.new ≡ trace.old) × (result.store ≡ None) }
 
+    // The picture of the old trace.
+    ensures picture { Pictures (command_in (map string_bytes words.now)) → result.status ≡ Status.Done →
+        OfRead (O.left old.old) (λ bytes. PicturedBy bytes (λ text. K.given out.new ≡ followed_by (K.given out.old) text)) }
+    ensures picture_no_trace { Pictures (command_in (map string_bytes words.now)) →
+        IsSomeAnd (O.left old.old) (HasWrongLine Edition.Two) → (result.status ≡ Status.BadTrace) ⊎ MayStandIn result.status }
+    ensures picture_complete { Pictures (command_in (map string_bytes words.now)) →
+        IsSomeAnd (O.left old.old) (HasTrace Edition.Two) →
+        NoFault (O.faults old.old) (O.faults old.new) →
+        NoFault (K.faults out.old) (K.faults out.new) →
+        (result.status ≡ Status.Done) ⊎ (result.status ≡ Status.Memory) }
+    ensures picture_broke { Pictures (command_in (map string_bytes words.now)) → result.status ≡ Status.WriteFault →
+        OfRead (O.left old.old) (λ bytes. HalfLineTold Edition.Two bytes (K.given out.old) (K.given out.new))
+        ⊎ OfRead (O.left old.old) (λ bytes. PicturedBy bytes (λ text. GivesPart (K.given out.old) (K.given out.new) text)) }
+    ensures picture_else { Pictures (command_in (map string_bytes words.now)) →
+        IsMigrateEnd result.status × (job.new ≡ job.old) × (trace.new ≡ trace.old) × (result.store ≡ None) }
+
     // The old trace of the first edition in the second.
     ensures migrate { Migrates (command_in (map string_bytes words.now)) → result.status ≡ Status.Done →
         OfRead (O.left old.old) (λ bytes. MigratedBy bytes (λ text. K.given out.new ≡ followed_by (K.given out.old) text)) }
@@ -256,6 +278,7 @@ pub fn sgxpage<
         Some(Command::Least) => unrun(least_command(alloc, job, old, out)),
         Some(Command::Audit) => unrun(audit_command(alloc, job, old, out)),
         Some(Command::Ask { question }) => unrun(ask_command(alloc, question, job, old, out)),
+        Some(Command::Picture) => unrun(picture_command(alloc, old, out)),
         Some(Command::Migrate) => unrun(migrate_command(alloc, old, out)),
         Some(Command::Gate { rounds }) => unrun(rounds_command(rt, alloc, rounds, out)),
     }

@@ -9,7 +9,7 @@ pub fn complain(to: &impl Eprint, status: Status, failed: Option<&str>) -> io::R
     match (status, failed) {
         (Status::BadWords, _) => eprintln!(to;
             "usage: sgxpage run PATH | audit PATH | make NUMBER SIZE | demo NUMBER SIZE | least PATH | \
-            query PATH PLACE L PAGE | moves PATH L PAGE | migrate PATH | gate ROUNDS"
+            query PATH PLACE L PAGE | moves PATH L PAGE | picture PATH | migrate PATH | gate ROUNDS"
         ),
         (Status::ReadFault, Some(path)) => eprintln!(to; "sgxpage: cannot read the trace: {path}"),
         (Status::ReadFault, None) => eprintln!(to;

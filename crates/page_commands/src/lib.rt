@@ -12,6 +12,7 @@ mod jobs;
 mod least;
 mod making;
 mod migrate;
+mod picture;
 mod running;
 pub mod status;
 mod traces;

@@ -16,15 +16,14 @@ use Rattle.sgx_types.specs.declared.names.Perm.{Perm}
 use Rattle.sgx_types.specs.declared.names.TheConstants.{SECS_NUMBER}
 use Rattle.sgx_types.specs.declared.names.VaSlot.{VaSlot}
 use Rattle.sgx_rules.specs.Frames.{Content, Free, IsVa, SecsOf, Holds, IsLoading, added, content, is_sealing}
-use Rattle.sgx_rules.specs.Frames.{reloaded}
-use Rattle.sgx_types.specs.Pages.{page_at, same_page, va_page}
-use Rattle.sgx_rules.specs.Frames.{reloaded_as, vas_made}
+use Rattle.sgx_rules.specs.Frames.{reloaded, reloaded_as, stands, vas_made}
+use Rattle.sgx_types.specs.Pages.{is_va_page, page_at, same_page, va_page}
 use Rattle.sgx_rules.specs.PageBytes.{va_words}
 use Rattle.sgx_rules.specs.inner.Arrays.{ArraysRest, words_out}
 use Rattle.sgx_types.specs.Pages.{same_slot}
 use Rattle.sgx_rules.specs.Slots.{is_va_of, names_slot, open_slot, slot_of, version_in}
 use Rattle.sgx_rules.specs.Starts.{Start, open_start}
-use Rattle.sgx_types.proofs.Pages.{same_slots}
+use Rattle.sgx_types.proofs.Pages.{same_page-refl, same_slots}
 use Rattle.sgx_types.proofs.Truths.{apart}
 use Rattle.page_history.specs.inner.Away.{ArraysApart, EndsRight, EndsRightIn, EndsRightOut, array_in}
 use Rattle.page_history.specs.inner.Once.{IsFound}
@@ -37,6 +36,14 @@ va_is Free k is = cc is
 va_is (SecsOf enclave) k is = cc is
 va_is (Holds page kind perm) k is = cc is
 va_is (IsLoading page) k is = cc is
+
+-- a version array page by its number
+pub array_page : (g : Page) → is_va_page g ≡ true → va_page g.number ≡ g
+array_page g is = λ i. record { enclave = sym (eqb-true g.enclave 0 is) i; number = g.number }
+
+-- .. stands where a frame holds the one of its number
+pub va_stands : (c : Content) (g : Page) → is_va_page g ≡ true → c ≡ IsVa g.number → stands c g ≡ true
+va_stands c g is held = ap (λ x. stands x g) held ∙ subst (λ p. same_page p g ≡ true) (sym (array_page g is)) (same_page-refl g)
 
 -- what comes back as a version array page is one
 reloaded_va : (page : Page) (kinds : Option (Kind × Perm)) (k : ℕ) → is_va_of (reloaded page kinds) k ≡ true
@@ -105,10 +112,6 @@ module _ (past : List Entry) (a : Actor) (f : Frame) (arrays : ArraysApart (vas_
   unmade_not_named x k index is high = not_named x k index is (λ here.
       let low = arrays.below x.at.frame.0 k (ap array_in here) in omega (arith, low, high))
 
-  -- a frame that holds a page that another holds is that one
-  held_once : (m n k : ℕ) → content past m ≡ IsVa k → content past n ≡ IsVa k → m ≡ n
-  held_once m n k here there = arrays.once m n k (ap array_in here) (ap array_in there)
-
   -- a version array page goes out as it is, and others rest
   ewb_rest : (page : Page) (version : ℕ) (tag : List ℕ) → EndsRightOut past f.0 (Moved page version tag)
       → ArraysRest (entry_of a (Did (Ewb f) (Moved page version tag)) ∷ past)
@@ -134,7 +137,7 @@ module _ (past : List Entry) (a : Actor) (f : Frame) (arrays : ArraysApart (vas_
           → names_slot (open_slot past f.0) (record { va = k; index = index }) ≡ false
       not_its_own k index is = not_named x k index right.ends.opened (λ there.
           false≢true (sym (found f.0 x right.ends.opened).stays
-          ∙ ap (is_sealing past) (held_once x.at.frame.0 f.0 k there (here k is)) ∙ right.leaves))
+          ∙ ap (is_sealing past) (arrays.once x.at.frame.0 f.0 k there (here k is)) ∙ right.leaves))
 
       still : (k : ℕ) → ((index : ℕ) → names_slot (open_slot past f.0) (record { va = k; index = index }) ≡ false)
           → va_words (entry_of a (Did (Ewb f) (Moved page version tag)) ∷ past) k ≡ va_words past k
@@ -160,7 +163,7 @@ module _ (past : List Entry) (a : Actor) (f : Frame) (arrays : ArraysApart (vas_
           by_held : (f.0 == n) ≡ false → (d : Bool) → is_va_of (content past n) k ≡ d → d ≡ false
           by_held other false there = refl
           by_held other true there =
-              absurd (false≢true (sym other ∙ eq-eqb f.0 n (held_once f.0 n k (here k e) (va_is (content past n) k there))))
+              absurd (false≢true (sym other ∙ eq-eqb f.0 n (arrays.once f.0 n k (here k e) (va_is (content past n) k there))))
 
       below : (k : ℕ) (words : List ℕ) (b : Bool) → same_page page (va_page k) ≡ b
           → cond b (Some (va_words past k)) (words_out past k) ≡ Some words → k < vas_made past

@@ -1,9 +1,10 @@
--- Frames that hold or load version array pages are no more than the pages that were made.
+-- Frames that hold version array pages are no more than the pages that were made.
 use Rattle.std.proofs.Common.{◌≡◌, ℕ, zero, suc, ◌+◌, ◌-◌, ◌<◌, ◌≤◌, ◌==◌, Bool, true, false, cond, refl, sym, ap, ◌∙◌, subst}
 use Rattle.std.proofs.Common.{Option, Some, None, is_some, option_map, nat_lt, arith}
 use Rattle.std.proofs.lemmas.Bool.{eqb-true, eqb-false, eq-eqb, ltb-true, ltb-false}
 use Rattle.sgx_types.specs.Counts.{count_below}
-use Rattle.sgx_rules.specs.Frames.{Content}
+use Rattle.sgx_rules.specs.Frames.{Content, Free, Holds, IsLoading, IsVa, SecsOf}
+use Rattle.sgx_rules.specs.Table.{is_va}
 use Rattle.page_history.specs.inner.Away.{ArraysApart, array_in}
 
 -- below a number of places, each number is below another one, and stands at one place
@@ -88,23 +89,42 @@ few_places (suc n) made at h = by_last (at n) refl (λ less at'. few_places n le
               inner.once i j from.0 low less from.1 (also.1 ∙ ap Some (sym same));
         }
 
--- so where a version array page that was made is in no frame, and no frame waits for it, fewer frames hold or load one than were made
-pub fewer_arrays : (frames made k : ℕ) (held : ℕ → Content) → ArraysApart made held → k < made
-    → ((n : ℕ) → array_in (held n) ≡ Some k → ⊥) → count_below (λ n. is_some (array_in (held n))) frames < made
+-- the version array page that a frame holds
+abbrev array_of : Content → Option ℕ
+array_of (IsVa number) = Some number
+array_of _ = None
+
+array_there : (c : Content) (k : ℕ) → array_of c ≡ Some k → c ≡ IsVa k
+array_there (IsVa number) k is = let same : number ≡ k = cc is in ap IsVa same
+array_there Free k is = cc is
+array_there (SecsOf enclave) k is = cc is
+array_there (Holds page kind perm) k is = cc is
+array_there (IsLoading page) k is = cc is
+
+is_some-array : (c : Content) → is_some (array_of c) ≡ is_va c
+is_some-array (IsVa number) = refl
+is_some-array Free = refl
+is_some-array (SecsOf enclave) = refl
+is_some-array (Holds page kind perm) = refl
+is_some-array (IsLoading page) = refl
+
+-- so where a version array page that was made is in no frame, fewer frames hold one than were made
+pub fewer_arrays : (frames made k : ℕ) (held : ℕ → Content) → ArraysApart made held → k < made → ((n : ℕ) → held n ≡ IsVa k → ⊥)
+    → count_below (λ n. is_va (held n)) frames < made
 unfolding count_below
 fewer_arrays frames made k held h low away =
     let few = few_places (suc frames) made at apart in
-    let same = same_count (λ n. is_some (at n)) (λ n. is_some (array_in (held n))) frames
-    (λ i less. ap is_some (elsewhere i less)) in
+    let same = same_count (λ n. is_some (at n)) (λ n. is_va (held n)) frames
+    (λ i less. ap is_some (elsewhere i less) ∙ is_some-array (held i)) in
     omega (arith, rw (eq-eqb frames frames refl) at few, same)
   where
     at : ℕ → Option ℕ
-    at n = cond (frames == n) (Some k) (array_in (held n))
+    at n = cond (frames == n) (Some k) (array_of (held n))
 
-    elsewhere : (i : ℕ) → i < frames → at i ≡ array_in (held i)
+    elsewhere : (i : ℕ) → i < frames → at i ≡ array_of (held i)
     elsewhere i less = by_test (frames == i) refl
       where
-        by_test : (b : Bool) → (frames == i) ≡ b → cond b (Some k) (array_in (held i)) ≡ array_in (held i)
+        by_test : (b : Bool) → (frames == i) ≡ b → cond b (Some k) (array_of (held i)) ≡ array_of (held i)
         by_test true e = let same = eqb-true frames i e in absurd (omega (arith, same, less))
         by_test false e = refl
 
@@ -114,15 +134,15 @@ fewer_arrays frames made k held h low away =
       once = λ i j v less more. by_once i j v (frames == i) refl (frames == j) refl;
     }
       where
-        by_below : (i j : ℕ) (b : Bool) → (frames == i) ≡ b → cond b (Some k) (array_in (held i)) ≡ Some j → j < made
+        by_below : (i j : ℕ) (b : Bool) → (frames == i) ≡ b → cond b (Some k) (array_of (held i)) ≡ Some j → j < made
         by_below i j true e is = subst (λ v. v < made) (let same : k ≡ j = cc is in same) low
-        by_below i j false e is = h.below i j is
+        by_below i j false e is = h.below i j (ap array_in (array_there (held i) j is))
 
         by_once : (i j v : ℕ) (b : Bool) → (frames == i) ≡ b → (d : Bool) → (frames == j) ≡ d
-            → cond b (Some k) (array_in (held i)) ≡ Some v → cond d (Some k) (array_in (held j)) ≡ Some v → i ≡ j
+            → cond b (Some k) (array_of (held i)) ≡ Some v → cond d (Some k) (array_of (held j)) ≡ Some v → i ≡ j
         by_once i j v true e true d there too = sym (eqb-true frames i e) ∙ eqb-true frames j d
-        by_once i j v false e false d there too = h.once i j v there too
+        by_once i j v false e false d there too = h.once i j v (array_there (held i) v there) (array_there (held j) v too)
         by_once i j v true e false d there too =
-            absurd (away j (too ∙ ap Some (let same : v ≡ k = cc there in same)))
+            absurd (away j (array_there (held j) k (too ∙ ap Some (let same : v ≡ k = cc there in same))))
         by_once i j v false e true d there too =
-            absurd (away i (there ∙ ap Some (let same : v ≡ k = cc too in same)))
+            absurd (away i (array_there (held i) k (there ∙ ap Some (let same : v ≡ k = cc too in same))))

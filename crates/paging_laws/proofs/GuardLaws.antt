@@ -74,36 +74,35 @@ opened_still s t held sealing start known h n =
 pub kept_put : (frames vas : ℕ) (content : ℕ → Content) (sealing : ℕ → Bool) (f : ℕ) (c : Content) → f < frames
     → ((e : ℕ) → is_secs_of (content f) e ≡ false) → sealing f ≡ false
     → ((e : ℕ) → is_child c e ≡ true → SecsIsIn frames content sealing e)
-    → ((k : ℕ) → array_in c ≡ Some k → (k < vas) × ((n : ℕ) → array_in (content n) ≡ Some k → f ≡ n)) → IsNamedRight c
+    → ((k : ℕ) → array_in c ≡ Some k → k < vas) → ((k n : ℕ) → c ≡ IsVa k → content n ≡ IsVa k → f ≡ n) → IsNamedRight c
     → FramesKept frames vas content sealing → FramesKept frames vas (λ n. cond (f == n) c (content n)) sealing
-kept_put frames vas content sealing f c low none settled comes arrays named h = record {
+kept_put frames vas content sealing f c low none settled comes made alone named h = record {
   covered = put_covers frames content sealing f c low none settled comes h.covered;
   bounded = λ n high. cond_both (f == n) c (content n) (λ v. v ≡ Free)
       (λ same. let here = eqb-true f n same in absurd (omega (arith, low, high, here))) (λ _. h.bounded n high);
   arrays = record {
-    below = λ n k. cond_both (f == n) c (content n) (λ v. array_in v ≡ Some k → k < vas) (λ _ is. (arrays k is).0)
-        (λ _. h.arrays.below n k);
+    below = λ n k. cond_both (f == n) c (content n) (λ v. array_in v ≡ Some k → k < vas) (λ _. made k) (λ _. h.arrays.below n k);
     once = λ m n k. by_tests m n k (f == m) refl (f == n) refl;
   };
   named = λ n. cond_both (f == n) c (content n) IsNamedRight (λ _. named) (λ _. h.named n);
 }
   where
-    by_tests : (m n k : ℕ) (a : Bool) → (f == m) ≡ a → (b : Bool) → (f == n) ≡ b → array_in (cond a c (content m)) ≡ Some k
-        → array_in (cond b c (content n)) ≡ Some k → m ≡ n
+    by_tests : (m n k : ℕ) (a : Bool) → (f == m) ≡ a → (b : Bool) → (f == n) ≡ b → cond a c (content m) ≡ IsVa k
+        → cond b c (content n) ≡ IsVa k → m ≡ n
     by_tests m n k true e true d here there = sym (eqb-true f m e) ∙ eqb-true f n d
-    by_tests m n k true e false d here there = sym (eqb-true f m e) ∙ (arrays k here).1 n there
-    by_tests m n k false e true d here there = sym (sym (eqb-true f n d) ∙ (arrays k there).1 m here)
+    by_tests m n k true e false d here there = sym (eqb-true f m e) ∙ alone k n here there
+    by_tests m n k false e true d here there = sym (sym (eqb-true f n d) ∙ alone k m there here)
     by_tests m n k false e false d here there = h.arrays.once m n k here there
 
--- .. in one that is taken, what is a page of no other enclave and no other version array page than what was there
+-- .. in one that is taken, what is a page of no other enclave than what was there, no other version array page, and none that is elsewhere
 pub kept_less : (frames vas : ℕ) (content : ℕ → Content) (sealing : ℕ → Bool) (f : ℕ) (c : Content) → f < frames
     → ((e : ℕ) → is_secs_of (content f) e ≡ false) → sealing f ≡ false
     → ((e : ℕ) → is_child c e ≡ true → is_child (content f) e ≡ true)
-    → ((k : ℕ) → array_in c ≡ Some k → array_in (content f) ≡ Some k) → IsNamedRight c
-    → FramesKept frames vas content sealing → FramesKept frames vas (λ n. cond (f == n) c (content n)) sealing
-kept_less frames vas content sealing f c low none settled child array named h =
+    → ((k : ℕ) → array_in c ≡ Some k → array_in (content f) ≡ Some k) → ((k n : ℕ) → c ≡ IsVa k → content n ≡ IsVa k → f ≡ n)
+    → IsNamedRight c → FramesKept frames vas content sealing → FramesKept frames vas (λ n. cond (f == n) c (content n)) sealing
+kept_less frames vas content sealing f c low none settled child array alone named h =
     kept_put frames vas content sealing f c low none settled (λ e is. h.covered e f (child e is))
-    (λ k is. (h.arrays.below f k (array k is), λ n there. h.arrays.once f n k (array k is) there)) named h
+    (λ k is. h.arrays.below f k (array k is)) alone named h
 
 -- .. and what a frame held is gone
 pub kept_out : (frames vas : ℕ) (content : ℕ → Content) (sealing : ℕ → Bool) (f : ℕ) → sealing f ≡ true
@@ -115,8 +114,8 @@ kept_out frames vas content sealing f leaves h = record {
   arrays = record {
     below = λ n k. cond_both (f == n) Free (content n) (λ v. array_in v ≡ Some k → k < vas) (λ _ is. cc is) (λ _. h.arrays.below n k);
     once = λ m n k. cond_both (f == m) Free (content m)
-        (λ v. array_in v ≡ Some k → array_in (cond (f == n) Free (content n)) ≡ Some k → m ≡ n) (λ _ is. cc is)
-        (λ _ here. cond_both (f == n) Free (content n) (λ v. array_in v ≡ Some k → m ≡ n) (λ _ is. cc is)
+        (λ v. v ≡ IsVa k → cond (f == n) Free (content n) ≡ IsVa k → m ≡ n) (λ _ is. cc is)
+        (λ _ here. cond_both (f == n) Free (content n) (λ v. v ≡ IsVa k → m ≡ n) (λ _ is. cc is)
         (λ _ there. h.arrays.once m n k here there));
   };
   named = λ n. cond_both (f == n) Free (content n) IsNamedRight (λ _. tt) (λ _. h.named n);
@@ -379,11 +378,11 @@ guarded_put s f c words h free settled kept =
 -- .. which takes the SECS of no enclave away
 pub free_kept : (s : State) (f : ℕ) (c : Content) → f < s.frames → IsGuarded s → s.content f ≡ Free
     → ((e : ℕ) → is_child c e ≡ true → SecsIsIn s.frames s.content s.is_sealing e)
-    → ((k : ℕ) → array_in c ≡ Some k → (k < s.vas_made) × ((n : ℕ) → array_in (s.content n) ≡ Some k → f ≡ n)) → IsNamedRight c
+    → ((k : ℕ) → array_in c ≡ Some k → k < s.vas_made) → ((k n : ℕ) → c ≡ IsVa k → s.content n ≡ IsVa k → f ≡ n) → IsNamedRight c
     → FramesKept s.frames s.vas_made (with_content s f c).content s.is_sealing
-free_kept s f c low h free comes arrays named =
+free_kept s f c low h free comes made alone named =
     kept_put s.frames s.vas_made s.content s.is_sealing f c low (λ e. rw free refl) (stays_in s f h (rw free refl)) comes
-    arrays named h.kept
+    made alone named h.kept
 
 -- the slots of a frame that held none are named by no start
 pub guarded_empty : (s : State) (f : ℕ) → IsGuarded s → ((x : BareStart) → IsOpen s x → f ≡ x.at.frame.0 → ⊥)
@@ -426,8 +425,9 @@ guarded_epa s f h low free =
     guarded_beside (with_content there f (IsVa k)) s.words s.enclaves s.measure s.acc t.version_in s.next_version (λ e is. is)
     (guarded_put there f (IsVa k) s.words h'' free (λ g waits. cc waits)
     (free_kept there f (IsVa k) low h'' free (λ e is. cc is)
-    (λ n is. let same : k ≡ n = cc is in
-    (omega (arith, same), λ m old. let below = h.kept.arrays.below m n old in absurd (omega (arith, below, same)))) tt))
+    (λ n is. let same : k ≡ n = cc is in omega (arith, same))
+    (λ n m here old. let same : k ≡ n = cc here in
+    let below = h.kept.arrays.below m n (ap array_in old) in absurd (omega (arith, below, same))) tt))
 
 -- a free frame that comes to hold an SECS page
 pub guarded_create : (s : State) (enclave f base size : ℕ) (begun : Measure) → IsGuarded s → f < s.frames → s.content f ≡ Free
@@ -439,7 +439,7 @@ guarded_create s enclave f base size begun h low free numbered =
     (λ e. cond_both (e == enclave) (Some (record { base = base; size = size; is_init = false })) (s.enclaves e)
     (λ o. is_made (enclave_sight_of (s.enclaves e)) ≡ true → is_made (enclave_sight_of o) ≡ true) (λ _ is. refl) (λ _ is. is))
     (guarded_put s f (SecsOf enclave) s.words h free (λ g waits. cc waits)
-    (free_kept s f (SecsOf enclave) low h free (λ e is. cc is) (λ k is. cc is) numbered))
+    (free_kept s f (SecsOf enclave) low h free (λ e is. cc is) (λ k is. cc is) (λ k n here there. cc here) numbered))
 
 -- a page more that was added, of a kind for pages
 guarded_added : (s : State) (g : Page) (kind : Kind) (perm : Perm) → IsGuarded s → IsPaged kind → is_own_page g ≡ true
@@ -477,4 +477,5 @@ guarded_add s g f kind perm init longer h low free paged own secs =
     (guarded_added (with_content s f (Holds g kind perm)) g kind perm
     (guarded_put s f (Holds g kind perm) s.words h free (λ q waits. cc waits)
     (free_kept s f (Holds g kind perm) low h free
-    (λ e is. subst (SecsIsIn s.frames s.content s.is_sealing) (eqb-true g.enclave e is) secs) (λ k is. cc is) own)) paged own)
+    (λ e is. subst (SecsIsIn s.frames s.content s.is_sealing) (eqb-true g.enclave e is) secs) (λ k is. cc is)
+    (λ k n here there. cc here) own)) paged own)

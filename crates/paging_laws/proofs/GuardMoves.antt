@@ -37,6 +37,7 @@ use Rattle.paging_laws.specs.inner.State.{after_failed_eld}
 use Rattle.paging_laws.specs.inner.Stands.{IsTranslation, IsSeated, IsSound}
 use Rattle.paging_laws.specs.inner.Guarded.{FramesKept, IsNamedRight, IsNoEarlier, HasNoted}
 use Rattle.paging_laws.specs.inner.Guarded.{IsDrainedAt, IsOpen, WritesOut, Loads, IsGuarded}
+use Rattle.paging_laws.specs.inner.Steps.{CanBring}
 use Rattle.paging_laws.proofs.TestLaws.{there_at, there_then, equal, each_there}
 use Rattle.paging_laws.proofs.SoundLaws.{seat_at}
 use Rattle.paging_laws.proofs.GuardCpus.{noted_at, unblocked}
@@ -353,12 +354,11 @@ guarded_ewbstart s f slot allowed h = record {
         by_number (inl low) = low
         by_number (inr high) = absurd (false≢true (ap (λ c. is_child c e) (sym (h.kept.bounded m high)) ∙ is))
 
--- a free frame starts to wait for a page, which is in no frame if it is a version array page
+-- a free frame starts to wait for a page
 pub guarded_eldstart : (s : State) (f : ℕ) (page : Page) (slot : SlotAt)
     → first_of_row (eldstart_row (sight s f) (load_sight s page) (slot_sight s slot)) ≡ None
-    → (is_va_page page ≡ true → (n : ℕ) → array_in (s.content n) ≡ Some page.number → ⊥)
     → IsGuarded s → IsGuarded (after_eldstart s f page slot)
-guarded_eldstart s f page slot allowed away h =
+guarded_eldstart s f page slot allowed h =
     let t = after_eldstart s f page slot in
     let k = starts_in s f page slot allowed in
     let found = found_slot (s.content slot.frame.0) slot.index k.paged in
@@ -379,17 +379,15 @@ guarded_eldstart s f page slot allowed away h =
       kept = free_kept s f (IsLoading page) k.low h k.free
           (λ e is. let both = both_true (is_own_page page) (page.enclave == e) is in
           subst (SecsIsIn s.frames s.content s.is_sealing) (eqb-true page.enclave e both.1) (k.secs both.0))
-          (λ number. by_kind number _ (page.enclave == 0) refl k.known) tt;
+          (λ number. by_kind number _ (page.enclave == 0) k.known) (λ number n here there. cc here) tt;
     }))
   where
-    by_kind : (number : ℕ) (otherwise_known va : Bool) → (page.enclave == 0) ≡ va
-        → cond va (nat_lt page.number s.vas_made) otherwise_known ≡ true → cond va (Some page.number) None ≡ Some number
-        → (number < s.vas_made) × ((n : ℕ) → array_in (s.content n) ≡ Some number → f ≡ n)
-    by_kind number b false e known is = cc is
-    by_kind number b true e known is =
+    by_kind : (number : ℕ) (otherwise_known va : Bool) → cond va (nat_lt page.number s.vas_made) otherwise_known ≡ true
+        → cond va (Some page.number) None ≡ Some number → number < s.vas_made
+    by_kind number b false known is = cc is
+    by_kind number b true known is =
         let same : page.number ≡ number = cc is in
-        let low = ltb-true page.number s.vas_made known in
-        (omega (arith, low, same), λ n there. absurd (away e n (there ∙ ap Some (sym same))))
+        let low = ltb-true page.number s.vas_made known in omega (arith, low, same)
 
 -- a frame that waits for a page has no slots for open starts
 waits_apart : (s : State) (f : ℕ) (g : Page) → s.content f ≡ IsLoading g → IsGuarded s → (x : BareStart) → IsOpen s x → f ≡ x.at.frame.0 → ⊥
@@ -459,12 +457,13 @@ guarded_failed_eld s f start g is waits h =
     freed s f start is (waits_apart s f g waits h)
     (kept_settled s.frames s.vas_made (λ n. cond (f == n) Free (s.content n)) s.is_sealing f
     (kept_less s.frames s.vas_made s.content s.is_sealing f Free (h.apart.below f start is) (λ e. rw waits refl)
-    (stays_in s f h (rw waits refl)) (λ e is. cc is) (λ k is. cc is) tt h.kept)) h
+    (stays_in s f h (rw waits refl)) (λ e is. cc is) (λ k is. cc is) (λ k n here there. cc here) tt h.kept)) h
 
 -- what a page is in a frame when it is back
 record ComesAs (page : Page) (c : Content) : Type 0 where
   pub child : (e : ℕ) → is_child c e ≡ true → is_child (IsLoading page) e ≡ true
   pub array : (number : ℕ) → array_in c ≡ Some number → array_in (IsLoading page) ≡ Some number
+  pub held : (number : ℕ) → c ≡ IsVa number → (is_va_page page ≡ true) × (page.number ≡ number)
   pub named : IsNamedRight c
   pub done : (g : Page) → c ≡ IsLoading g → ⊥
 
@@ -475,21 +474,32 @@ comes_as s page known = by_name (page.enclave == 0) refl (page.number == SECS_NU
         → cond va (nat_lt page.number s.vas_made) (cond (not va && last) (is_made (enclave_sight_of (s.enclaves page.enclave)))
         (is_made (enclave_sight_of (s.enclaves page.enclave)) && is_some o)) ≡ true
         → ComesAs page (cond va (IsVa page.number) (cond (not va && last) (SecsOf page.enclave) (reloaded_as page o)))
-    by_name true e last d o known =
-        record { child = λ n is. cc is; array = λ number is. rw e is; named = tt; done = λ g is. cc is }
+    by_name true e last d o known = record {
+      child = λ n is. cc is;
+      array = λ number is. rw e is;
+      held = λ number is. (e, cc is);
+      named = tt;
+      done = λ g is. cc is;
+    }
     by_name false e true d o known =
-        record { child = λ n is. cc is; array = λ number is. cc is; named = e; done = λ g is. cc is }
+        record { child = λ n is. cc is; array = λ number is. cc is; held = λ number is. cc is; named = e; done = λ g is. cc is }
     by_name false e false d None known =
         absurd (false≢true (both_true (is_made (enclave_sight_of (s.enclaves page.enclave))) false known).1)
     by_name false e false d (Some x) known =
         let own : is_own_page page ≡ true = rw (e, d) refl in
-        record { child = λ n is. rw (own, is) refl; array = λ number is. cc is; named = own; done = λ g is. cc is }
+        record {
+          child = λ n is. rw (own, is) refl;
+          array = λ number is. cc is;
+          held = λ number is. cc is;
+          named = own;
+          done = λ g is. cc is;
+        }
 
--- a page is back
+-- a page is back, which no frame holds if it is a version array page
 pub guarded_eld : (s : State) (f : ℕ) (start : BareStart) (page : Page) (plain : List ℕ)
-    → s.start f ≡ Some start → s.content f ≡ IsLoading page → is_known s page ≡ true
+    → s.start f ≡ Some start → s.content f ≡ IsLoading page → is_known s page ≡ true → CanBring s f
     → IsGuarded s → IsGuarded (after_eld s f start (reloaded page (s.added page)) plain)
-guarded_eld s f start page plain is waits known h =
+guarded_eld s f start page plain is waits known bring h =
     let t = after_eld s f start (reloaded page (s.added page)) plain in
     let here : (f == f) ≡ true = equal f f refl in
     let k = comes_as s page known in
@@ -498,4 +508,6 @@ guarded_eld s f start page plain is waits known h =
     (ended s f t.content t.blocked s.is_sealing start is h (λ n e. (rw e refl, rw e refl, refl)) (waits_apart s f page waits h)
     (rw here refl) (stays_in s f h (rw waits refl)) (λ w again. k.done w (rw here at again))
     (kept_less s.frames s.vas_made s.content s.is_sealing f (reloaded page (s.added page)) (h.apart.below f start is) (λ e. rw waits refl)
-    (stays_in s f h (rw waits refl)) (λ e is. rw waits (k.child e is)) (λ number is. rw waits (k.array number is)) k.named h.kept))
+    (stays_in s f h (rw waits refl)) (λ e is. rw waits (k.child e is)) (λ number is. rw waits (k.array number is))
+    (λ number n here there. let its = k.held number here in absurd (bring.away page waits its.0 n (there ∙ ap IsVa (sym its.1)))) k.named
+    h.kept))

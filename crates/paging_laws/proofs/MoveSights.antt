@@ -29,7 +29,6 @@ use Rattle.sgx_rules.proofs.Keystone.{epochs_tell}
 use Rattle.sgx_types.proofs.CountLaws.{any_below-found, any_below-some}
 use Rattle.sgx_rules.specs.Sights.{children_under, drain_sight_at, is_in_use, is_known, load_sight_at, row_at, secs_seen, secs_sight_at}
 use Rattle.sgx_rules.specs.Sights.{sight_at, slot_sight_at, track_sight_at, use_sight_at}
-use Rattle.page_history.specs.inner.Away.{array_in}
 use Rattle.paging_laws.specs.inner.State.{making_of}
 use Rattle.paging_laws.specs.inner.State.{State, drain_sight, is_version_spent, load_sight}
 use Rattle.paging_laws.specs.inner.State.{number_up_to, place_at, row_of, secs_sight, sight}
@@ -135,7 +134,7 @@ in_use_is s past h guarded n = rw (content_is h n) (by_content (content past n) 
             by_start m (Some x) opened k =
                 let place = found_as s past h guarded m x opened in
                 let frame : x.at.frame.0 ≡ n = (arrays_as s past h guarded).once x.at.frame.0 n number
-                (ap array_in (place.held ∙ ap IsVa (eqb-true x.slot.va number k))) (ap array_in there) in
+                (place.held ∙ ap IsVa (eqb-true x.slot.va number k)) there in
                 let bare : s.start m ≡ Some (without_place x) = start_is h m ∙ ap bare_start opened in
                 let is_open : IsOpen s (without_place x) = rw bare at (guarded.opened m) in
                 any_below-some (λ index. s.is_slot_named (place_at n index)) 512 x.at.index is_open.within

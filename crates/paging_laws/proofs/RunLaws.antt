@@ -31,7 +31,7 @@ every_run x all records looks (step s t past made given a action e run old new f
 every_run x all records looks (written s t past made given a f rec e run old new sealing k) =
     shaped_made s t (e ∷ past) (written_shaped s t (making_of s) past a f e rec old.sound old.guarded new.sound new.guarded sealing k
     (every_run s past made given run))
-every_run x all records looks (comes_back s t past made given a f rec e run old new loading k) =
+every_run x all records looks (comes_back s t past made given a f rec e run old new loading bring k) =
     shaped_made s t (e ∷ past) (reloaded_shaped s t (making_of s) past a f e rec old.sound old.guarded new.sound new.guarded loading k
     (every_run s past made given run))
 every_run x all records looks (noted s past made given e run old note) =
@@ -60,7 +60,7 @@ all_early x all records looks (nothing frames cpus key first_epoch first_version
 all_early x all records looks (step s t past made given a action e run old new few can k) = all_early s past made given run
 all_early x all records looks (written s t past made given a f rec e run old new sealing k) =
     early_more made (given_out e.event rec) given (all_early s past made given run)
-all_early x all records looks (comes_back s t past made given a f rec e run old new loading k) =
+all_early x all records looks (comes_back s t past made given a f rec e run old new loading bring k) =
     All-append (λ (one : Given). one.made ≤ length made) given (looked_at s f.0 made rec) (all_early s past made given run)
     (early_look (s.start f.0) made rec)
 all_early x all records looks (noted s past made given e run old note) = all_early s past made given run
@@ -101,7 +101,7 @@ every_stands x all records looks (written s t past made given a f rec e run old 
     stands_made s t (e ∷ past) (made ++ more)
     (written_all s t (making_of s) past made a f e rec old.sound old.guarded new.sound new.guarded sealing k
     (every_stands s past made given run (version_as s t same low) before))
-every_stands x all records looks (comes_back s t past made given a f rec e run old new loading k) low unforged =
+every_stands x all records looks (comes_back s t past made given a f rec e run old new loading bring k) low unforged =
     let shaped = reloaded_shaped s t (making_of s) past a f e rec old.sound old.guarded new.sound new.guarded loading k
     (every_run s past made given run) in
     let same = shaped.shape.making in
@@ -111,7 +111,7 @@ every_stands x all records looks (comes_back s t past made given a f rec e run o
     Unforged-before s.key made [] given later (all_early s past made given run)
     (subst (λ list. Unforged s.key list (given ++ later)) (sym (append-nil made)) whole) in
     stands_made s t (e ∷ past) made
-    (reloaded_all s t (making_of s) past made a f rec e old.sound old.guarded new.sound new.guarded loading k
+    (reloaded_all s t (making_of s) past made a f rec e old.sound old.guarded new.sound new.guarded loading bring k
     (every_stands s past made given run (version_as s t same low) before) given whole)
 every_stands x all records looks (noted s past made given e run old note) low unforged =
     noted_all s (making_of s) past made e note old.sound old.guarded (every_stands s past made given run low unforged)

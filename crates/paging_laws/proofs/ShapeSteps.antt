@@ -40,7 +40,7 @@ use Rattle.paging_laws.specs.inner.Notes.{IsDone as IsDoneEvent}
 use Rattle.paging_laws.specs.inner.Shape.{ShapeWithRules}
 use Rattle.paging_laws.specs.inner.Stands.{IsSound}
 use Rattle.paging_laws.specs.inner.State.{State, fresh, after_eld, after_failed_eld, making_of}
-use Rattle.paging_laws.specs.inner.Steps.{did_by, refused_by, CanApply, IsStep, IsDone, IsWrittenOut, IsReloaded, commit_row}
+use Rattle.paging_laws.specs.inner.Steps.{did_by, refused_by, CanApply, CanEnd, IsStep, IsDone, IsWrittenOut, IsReloaded, commit_row}
 use Rattle.paging_laws.proofs.ShapeColumns.{back_named, is_eld}
 use Rattle.paging_laws.proofs.ColumnLaws.{content_is}
 use Rattle.paging_laws.proofs.SlotLaws.{arrays_as, back_versions, found_as, started_as}
@@ -236,9 +236,9 @@ module _ (s t : State) (made : Making) (past : List Entry) (a : Actor) (f : Fram
         back.coming.page waits (idle (s.is_sealing f.0) refl))
 
     -- a version array page comes back with what its record brings, which is right where it is what the entries say
-    pub back_arrays : (first_of_row (commit_row s f.0 back.coming rec) ≡ None → is_va_page back.coming.page ≡ true
+    pub back_arrays : CanEnd s f.0 rec → (first_of_row (commit_row s f.0 back.coming rec) ≡ None → is_va_page back.coming.page ≡ true
         → words_of (cipher s.key back.coming.start.version rec.cipher) ≡ va_words past back.coming.page.number) → HasBack t past e
-    back_arrays brings = right (first_of_row (commit_row s f.0 back.coming rec)) refl back.row
+    back_arrays bring brings = right (first_of_row (commit_row s f.0 back.coming rec)) refl back.row
       where
         x : IsBareOf (open_start past f.0) back.coming.start
         x = started_as s past h.shape.columns f.0 back.coming.start back.coming.opened
@@ -267,7 +267,8 @@ module _ (s t : State) (made : Making) (past : List Entry) (a : Actor) (f : Fram
                 (did_by a (Eld f) (answers.Moved page back.coming.start.version rec.tag) ∷ past) f.0 number) x.same
                 (back_versions s past a f x.start x.opened (found_as s past h.shape.columns guarded f.0 x.start x.opened)
                 (arrays_as s past h.shape.columns guarded) plain page back.coming.start.version rec.tag number
-                (sym (content_is h.shape.columns f.0) ∙ waits ∙ ap IsLoading same) words))
+                (λ n there. (bring back.coming allowed).away page waits va n
+                (content_is h.shape.columns n ∙ there ∙ ap (λ (g : Page). IsVa g.number) (sym same))) words))
 
     pub reloaded_brought : IsNextTo s t past e
     reloaded_brought = by_row (first_of_row (commit_row s f.0 back.coming rec)) back.row
@@ -278,11 +279,11 @@ module _ (s t : State) (made : Making) (past : List Entry) (a : Actor) (f : Fram
 
 -- .. or with what its record brings, where that is what last went out
 pub reloaded_arrays_told : (s t : State) (made : Making) (past : List Entry) (a : Actor) (f : Frame) (e : Entry) (rec : Sealed)
-    → IsSound s → IsGuarded s → is_loading (s.content f.0) ≡ true → IsReloaded s a f rec e t → ShapeWithRules made s past
+    → IsSound s → IsGuarded s → is_loading (s.content f.0) ≡ true → CanEnd s f.0 rec → IsReloaded s a f rec e t → ShapeWithRules made s past
     → HasAllVersions s past → (IsDoneEvent e.event → BringsArrayIn made.key past s f.0 rec) → HasAllVersions t (e ∷ past)
-reloaded_arrays_told s t made past a f e rec sound guarded loading back h all brings =
+reloaded_arrays_told s t made past a f e rec sound guarded loading bring back h all brings =
     reloaded_arrays s t made past a f e rec sound guarded loading back h
-    (back_arrays s t made past a f e rec sound guarded loading back h right) all
+    (back_arrays s t made past a f e rec sound guarded loading back h bring right) all
   where
     right : first_of_row (commit_row s f.0 back.coming rec) ≡ None → is_va_page back.coming.page ≡ true
         → words_of (cipher s.key back.coming.start.version rec.cipher) ≡ va_words past back.coming.page.number

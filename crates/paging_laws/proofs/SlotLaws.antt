@@ -1,6 +1,6 @@
 -- The slots of the version array pages that frames hold: which are busy, and which versions they have, whatever records are brought.
 use Rattle.std.proofs.Common.{◌≡◌, ℕ, ◌<◌, ◌==◌, ◌&&◌, ◌||◌, Bool, true, false, cond, refl, sym, ap, ◌∙◌, subst}
-use Rattle.std.proofs.Common.{Some, List, ◌∷◌, IfSome, get_or, nat_le, arith, ◌⊎◌, ⊎_elim}
+use Rattle.std.proofs.Common.{Some, List, ◌∷◌, IfSome, get_or, nat_le, arith, ⊎_elim}
 use Rattle.std.proofs.lemmas.Bool.{eqb-true, eq-eqb, false≢true, leb-false, leb-true}
 use Rattle.std.proofs.lemmas.List.FromFn.{get_or-map-range_with_len}
 use Rattle.sgx_rules.specs.declared.entries.Action.TheVariants.{Ewb, Eld}
@@ -11,8 +11,7 @@ use Rattle.sgx_rules.specs.declared.entries.Event.TheVariants.{Did}
 use Rattle.sgx_types.specs.declared.names.Frame.{Frame}
 use Rattle.sgx_types.specs.declared.names.Page.{Page}
 use Rattle.sgx_types.specs.declared.names.VaSlot.{VaSlot}
-use Rattle.sgx_types.specs.Pages.{va_page}
-use Rattle.sgx_rules.specs.Frames.{Content, Free, IsLoading, IsVa, content, is_sealing, vas_made}
+use Rattle.sgx_rules.specs.Frames.{Content, Free, IsVa, content, is_sealing, vas_made}
 use Rattle.sgx_rules.specs.PageBytes.{va_words}
 use Rattle.sgx_types.specs.Pages.{same_slot}
 use Rattle.sgx_types.specs.inner.Places.{same_place}
@@ -57,8 +56,7 @@ module _ (past : List Entry) (x : Start) (found : IsFound past x) (arrays : Arra
           refl))
       by_place false e true d =
           let at = both_true (x.slot.va == k) (x.slot.index == index) d in
-          let frame : x.at.frame.0 ≡ n = arrays.once x.at.frame.0 n k
-          (ap array_in (found.held ∙ ap IsVa (eqb-true x.slot.va k at.0))) (ap array_in held) in
+          let frame : x.at.frame.0 ≡ n = arrays.once x.at.frame.0 n k (found.held ∙ ap IsVa (eqb-true x.slot.va k at.0)) held in
           absurd (false≢true (sym e ∙ rw (
             eq-eqb x.at.frame.0 n frame,
             eq-eqb x.at.index index (found.index ∙ eqb-true x.slot.index index at.1),
@@ -95,11 +93,11 @@ module _ (s : State) (past : List Entry) (a : Actor) (f : Frame) (x : Start) (op
       gone true = refl
       gone false = refl
 
-  -- a version array page is back with the slots that its record brought, where these are those of the entries
-  pub back_versions : (plain : List ℕ) (page : Page) (version : ℕ) (tag : List ℕ) (k : ℕ) → content past f.0 ≡ IsLoading (va_page k)
+  -- a version array page is back with the slots that its record brought, where these are those of the entries and no frame held it
+  pub back_versions : (plain : List ℕ) (page : Page) (version : ℕ) (tag : List ℕ) (k : ℕ) → ((n : ℕ) → content past n ≡ IsVa k → ⊥)
       → words_of plain ≡ va_words past k
       → HasVersions (after_eld s f.0 (without_place x) (IsVa k) plain) (entry_of a (Did (Eld f) (Moved page version tag)) ∷ past) f.0 k
-  back_versions plain page version tag k waits brings index low =
+  back_versions plain page version tag k away brings index low =
       rw (eq-eqb f.0 f.0 refl, ap slot_of opened, elsewhere (same_slot x.slot (columns.slot_of k index)) refl)
       (ap (λ ws. get_or ws index 0) brings
       ∙ get_or-map-range_with_len (λ i. version_in past (columns.slot_of k i)) 0 512 index index 0 low (omega arith))
@@ -108,10 +106,7 @@ module _ (s : State) (past : List Entry) (a : Actor) (f : Frame) (x : Start) (op
       elsewhere false e = refl
       elsewhere true e =
           let va : x.slot.va ≡ k = ap (λ (y : VaSlot). y.va) (same_slots x.slot (columns.slot_of k index) e) in
-          let there : content past x.at.frame.0 ≡ IsVa k = found.held ∙ ap IsVa va in
-          let frame = arrays.once x.at.frame.0 f.0 k (ap array_in there) (ap array_in waits) in
-          let both : IsVa k ≡ IsLoading (va_page k) = sym there ∙ ap (content past) frame ∙ waits in
-          cc both
+          absurd (away x.at.frame.0 (found.held ∙ ap IsVa va))
 
 -- ---- which slots are busy
 
@@ -132,11 +127,11 @@ found_as s past h guarded n x is =
       stays = sym (sealing_is h x.at.frame.0) ∙ is_open.stays;
     }
 
--- each version array page stands once, by the entries too
+-- one frame at most holds a version array page, by the entries too
 pub arrays_as : (s : State) (past : List Entry) → HasColumns s past → IsGuarded s → ArraysApart (vas_made past) (content past)
 arrays_as s past h guarded = record {
   below = λ n k is. subst (λ v. k < v) (vas_is h) (guarded.kept.arrays.below n k (ap array_in (content_is h n) ∙ is));
-  once = λ m n k here there. guarded.kept.arrays.once m n k (ap array_in (content_is h m) ∙ here) (ap array_in (content_is h n) ∙ there);
+  once = λ m n k here there. guarded.kept.arrays.once m n k (content_is h m ∙ here) (content_is h n ∙ there);
 }
 
 -- a slot of the version array page in a frame is busy exactly where it is by the entries
@@ -200,7 +195,7 @@ busy_is s past h guarded n k index held low =
         from_out : (m : ℕ) → takes_out past k m ≡ true → (s.is_slot_named (place_at n index) || s.is_sealing n) ≡ true
         from_out m out =
             let both = both_true (is_va_of (content past m) k) (is_sealing past m) out in
-            let frame : m ≡ n = arrays.once m n k (ap array_in (va_is (content past m) k both.0)) (ap array_in there) in
+            let frame : m ≡ n = arrays.once m n k (va_is (content past m) k both.0) there in
             right_one (s.is_slot_named (place_at n index)) (s.is_sealing n)
             (sealing_is h n ∙ ap (is_sealing past) (sym frame) ∙ both.1)
           where

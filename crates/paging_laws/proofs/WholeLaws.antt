@@ -32,7 +32,7 @@ use Rattle.seal_record.specs.Cipher.{cipher}
 use Rattle.paging_laws.specs.inner.Shape.{ShapeWithRules}
 use Rattle.paging_laws.specs.inner.Stands.{HasEnclaves, IsSound, StandsWithRules}
 use Rattle.paging_laws.specs.inner.State.{State, after_failed_eld, fresh, making_of}
-use Rattle.paging_laws.specs.inner.Steps.{CanApply, IsReloaded, IsStep, IsWrittenOut, commit_row, did_by, refused_by}
+use Rattle.paging_laws.specs.inner.Steps.{CanApply, CanEnd, IsReloaded, IsStep, IsWrittenOut, commit_row, did_by, refused_by}
 use Rattle.paging_laws.proofs.ShapeSteps.{fresh_shaped, reloaded_arrays, reloaded_shaped, step_arrays, step_shaped, written_arrays}
 use Rattle.paging_laws.proofs.ShapeSteps.{back_arrays, written_shaped}
 use Rattle.paging_laws.proofs.OutsideLaws.{outside_more, step_keeps}
@@ -139,12 +139,12 @@ written_all s t made past records a f e rec sound guarded sound' guarded' sealin
 
 -- the commit of a load, where the record that it allows brings the page back
 pub reloaded_back : (s t : State) (made : Making) (past : List Entry) (records : List Made) (a : Actor) (f : Frame) (rec : Sealed)
-    (e : Entry) → IsSound s → IsGuarded s → IsSound t → IsGuarded t → is_loading (s.content f.0) ≡ true
+    (e : Entry) → IsSound s → IsGuarded s → IsSound t → IsGuarded t → is_loading (s.content f.0) ≡ true → CanEnd s f.0 rec
     → (back : IsReloaded s a f rec e t) → StandsWithAllRules made s past records
     → (first_of_row (commit_row s f.0 back.coming rec) ≡ None
     → BringsBack made.key past f.0 back.coming.page back.coming.start.version rec)
     → StandsWithAllRules made t (e ∷ past) records
-reloaded_back s t made past records a f rec e sound guarded sound' guarded' loading back h brings =
+reloaded_back s t made past records a f rec e sound guarded sound' guarded' loading bring back h brings =
     all_more s t made past records e h shaped reload
     (reloaded_brings s t past a f rec e back
     (λ allowed. (words allowed).own)
@@ -161,7 +161,7 @@ reloaded_back s t made past records a f rec e sound guarded sound' guarded' load
 
     -- a version array page comes back with its slots
     arrays : HasBack t past e
-    arrays = back_arrays s t made past a f e rec sound guarded loading back h.shaped (λ allowed. (words allowed).array)
+    arrays = back_arrays s t made past a f e rec sound guarded loading back h.shaped bring (λ allowed. (words allowed).array)
 
     shaped : ShapeWithRules made t (e ∷ past)
     shaped = reloaded_shaped s t made past a f e rec sound guarded sound' guarded' loading back h.shaped
@@ -177,20 +177,20 @@ reloaded_back s t made past records a f rec e sound guarded sound' guarded' load
 
 -- .. as every record does where none is forged
 pub reloaded_all : (s t : State) (made : Making) (past : List Entry) (records : List Made) (a : Actor) (f : Frame) (rec : Sealed)
-    (e : Entry) → IsSound s → IsGuarded s → IsSound t → IsGuarded t → is_loading (s.content f.0) ≡ true
+    (e : Entry) → IsSound s → IsGuarded s → IsSound t → IsGuarded t → is_loading (s.content f.0) ≡ true → CanEnd s f.0 rec
     → IsReloaded s a f rec e t → StandsWithAllRules made s past records → (given : List Given)
     → Unforged made.key records (given ++ looked_at s f.0 records rec) → StandsWithAllRules made t (e ∷ past) records
-reloaded_all s t made past records a f rec e sound guarded sound' guarded' loading back h given unforged =
-    reloaded_back s t made past records a f rec e sound guarded sound' guarded' loading back h
+reloaded_all s t made past records a f rec e sound guarded sound' guarded' loading bring back h given unforged =
+    reloaded_back s t made past records a f rec e sound guarded sound' guarded' loading bring back h
     (λ allowed. reload_back made s past records given f.0 back.coming rec allowed guarded h unforged)
 
 -- .. or the record of the page that the frame waits for does
 pub reloaded_told : (s t : State) (made : Making) (past : List Entry) (records : List Made) (a : Actor) (f : Frame) (rec : Sealed)
-    (e : Entry) → IsSound s → IsGuarded s → IsSound t → IsGuarded t → is_loading (s.content f.0) ≡ true
+    (e : Entry) → IsSound s → IsGuarded s → IsSound t → IsGuarded t → is_loading (s.content f.0) ≡ true → CanEnd s f.0 rec
     → IsReloaded s a f rec e t → StandsWithAllRules made s past records
     → (IsDone e.event → BringsIn made.key past s f.0 rec) → StandsWithAllRules made t (e ∷ past) records
-reloaded_told s t made past records a f rec e sound guarded sound' guarded' loading back h brings =
-    reloaded_back s t made past records a f rec e sound guarded sound' guarded' loading back h
+reloaded_told s t made past records a f rec e sound guarded sound' guarded' loading bring back h brings =
+    reloaded_back s t made past records a f rec e sound guarded sound' guarded' loading bring back h
     (λ allowed. brings (done allowed) back.coming.start back.coming.page back.coming.opened back.coming.loads)
   where
     done : first_of_row (commit_row s f.0 back.coming rec) ≡ None → IsDone e.event

@@ -4,7 +4,7 @@ use Rattle.std.proofs.Common.{◌⊎◌, inl, inr, Option, Some, None, is_some, 
 use Rattle.std.specs.Prelude.{slice_index, slice_index_or}
 use Rattle.std.specs.Int.{w64, from_le_bytes}
 use Rattle.std.specs.Simd.{first_chunks}
-use Rattle.std.proofs.lemmas.Bool.{cases_lt, eqb-true, false≢true}
+use Rattle.std.proofs.lemmas.Bool.{cases_lt, eqb-true}
 use Rattle.std.proofs.lemmas.List.{get_or-map, get_or_past}
 use Rattle.std.proofs.lemmas.List.FromFn.{get_or-map-range_with_len}
 use Rattle.sgx_types.specs.declared.names.Page.{Page}
@@ -16,7 +16,7 @@ use Rattle.sgx_types.specs.inner.Layouts.{long_at}
 use Rattle.sgx_types.proofs.Chunks.{chunk_of_chunks}
 use Rattle.sgx_types.proofs.CountLaws.{count_below-agrees}
 use Rattle.sgx_types.proofs.Truths.{both_true, eqb-swap}
-use Rattle.sgx_rules.specs.Frames.{Content, Free, Holds, IsLoading, IsVa, SecsOf}
+use Rattle.sgx_rules.specs.Frames.{Content, IsLoading}
 use Rattle.sgx_rules.specs.Table.{is_va}
 use Rattle.epcm_entry.specs.inner.Words.{words_of}
 use Rattle.epcm_entry.proofs.Words.{length-words_of}
@@ -26,8 +26,9 @@ use Rattle.version_array.specs.inner.Slots.{is_busy_at, page_at, page_slots, pag
 use Rattle.version_array.specs.inner.Slots.{slot_in, version_in}
 use Rattle.version_array.proofs.TableLaws.{IsVaTable-filled, length-filled, page_at-filled}
 use Rattle.evict_reload.specs.inner.Effects.{refilled}
-use Rattle.page_history.specs.inner.Away.{ArraysApart, array_in}
+use Rattle.page_history.specs.inner.Away.{array_in}
 use Rattle.page_history.proofs.PigeonLaws.{fewer_arrays}
+use Rattle.paging_laws.specs.inner.Steps.{CanBring}
 use Rattle.paging_machine.specs.declared.machine.Machine.TheInside.{Inside}
 use Rattle.paging_machine.specs.inner.Parts.{state_of}
 use Rattle.paging_machine.specs.inner.Whole.{IsWhole, parts_of}
@@ -122,44 +123,18 @@ module _ (table : List (Option (List SlotState))) (f : ℕ) (bytes : List ℕ) (
 
 -- ---- room
 
--- a version array page that is there, and nothing else
-abbrev arrays_only : Content → Content
-arrays_only c = cond (is_va c) c Free
-
-only_array : (c : Content) (k : ℕ) → array_in (arrays_only c) ≡ Some k → (array_in c ≡ Some k) × (is_va c ≡ true)
-only_array Free k at = cc at
-only_array (IsVa number) k at = (at, refl)
-only_array (SecsOf enclave) k at = cc at
-only_array (Holds page kind perm) k at = cc at
-only_array (IsLoading page) k at = cc at
-
-some_array : (c : Content) → is_va c ≡ is_some (array_in (arrays_only c))
-some_array Free = refl
-some_array (IsVa number) = refl
-some_array (SecsOf enclave) = refl
-some_array (Holds page kind perm) = refl
-some_array (IsLoading page) = refl
-
--- where a frame waits for a version array page, fewer are in frames than were made
-pub room : (m : Inside) → IsWhole m → (f : ℕ) (page : Page) → (state_of (parts_of m)).content f ≡ IsLoading page → is_va_page page ≡ true
-    → pages_made m.va.pages < m.va.made
-room m h f page waits va =
+-- where a frame waits for a version array page that none holds, fewer are in frames than were made
+pub room : (m : Inside) → IsWhole m → (f : ℕ) (page : Page) → (state_of (parts_of m)).content f ≡ IsLoading page
+    → CanBring (state_of (parts_of m)) f → is_va_page page ≡ true → pages_made m.va.pages < m.va.made
+room m h f page waits bring va =
     let d = parts_of m in
     let held : ℕ → Content = (state_of d).content in
     let arrays = h.guarded.kept.arrays in
     let here : array_in (held f) ≡ Some page.number = ap array_in waits ∙ (rw va refl) in
-    let only : ArraysApart m.va.made (λ n. arrays_only (held n)) = record {
-      below = λ n k at. arrays.below n k (only_array (held n) k at).0;
-      once = λ i j k at too. arrays.once i j k (only_array (held i) k at).0 (only_array (held j) k too).0;
-    } in
-    let few = fewer_arrays MOST_FRAMES m.va.made page.number (λ n. arrays_only (held n)) only (arrays.below f page.number here)
-    (λ n at. let k = only_array (held n) page.number at in
-    let same : n ≡ f = arrays.once n f page.number k.0 here in
-    false≢true (sym (ap is_va (ap held same ∙ waits)) ∙ k.1)) in
+    let few = fewer_arrays MOST_FRAMES m.va.made page.number held arrays (arrays.below f page.number here)
+    (bring.away page waits va) in
     let count : pages_made m.va.pages ≡ count_below (λ n. has_page m.va.pages n) MOST_FRAMES =
     count_places is_some None refl m.va.pages MOST_FRAMES (few_places m.va h.held.places) in
-    let same : count_below (λ n. has_page m.va.pages n) MOST_FRAMES
-    ≡ count_below (λ n. is_some (array_in (arrays_only (held n)))) MOST_FRAMES =
-    count_below-agrees (λ n. has_page m.va.pages n) (λ n. is_some (array_in (arrays_only (held n))))
-    (λ n. h.held.pages n ∙ some_array (held n)) MOST_FRAMES in
+    let same : count_below (λ n. has_page m.va.pages n) MOST_FRAMES ≡ count_below (λ n. is_va (held n)) MOST_FRAMES =
+    count_below-agrees (λ n. has_page m.va.pages n) (λ n. is_va (held n)) (λ n. h.held.pages n) MOST_FRAMES in
     rw (count, same) few

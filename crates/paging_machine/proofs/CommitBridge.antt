@@ -60,7 +60,7 @@ use Rattle.paging_laws.proofs.Contents.{waits_for}
 use Rattle.paging_laws.proofs.TestLaws.{none_there}
 use Rattle.paging_laws.specs.inner.Guarded.{IsOpen, IsPaged, Loads}
 use Rattle.paging_laws.specs.inner.State.{State, is_known, after_ewb, after_eld, after_failed_eld}
-use Rattle.paging_laws.specs.inner.Steps.{SealsPage, IsWrittenOut, IsComing, IsReloaded}
+use Rattle.paging_laws.specs.inner.Steps.{CanBring, CanEnd, SealsPage, IsWrittenOut, IsComing, IsReloaded}
 use Rattle.paging_laws.specs.inner.Steps.{commit_row, did_by, refused_by, header_by, header_in}
 use Rattle.paging_machine.specs.declared.machine.Machine.TheInside.{Inside}
 use Rattle.paging_machine.specs.declared.starts.Start as opened
@@ -436,8 +436,8 @@ array_held page kinds.Va perm = refl
 
 -- the frame, the words and the slots once a page is back
 pub eld_leaves : (m : Inside) → IsWhole m → (f : ℕ) (start : BareStart) (page : Page) (w : Waits (parts_of m) f page) (plain : List ℕ)
-    (secs : List (Option SecsState)) (d' : Parts) → (state_of (parts_of m)).start f ≡ Some start → length plain ≡ 4096
-    → SameBeside m.secs secs → AreCountedIn (with_kind m.epc f page w.kind w.perm plain) secs
+    (secs : List (Option SecsState)) (d' : Parts) → (state_of (parts_of m)).start f ≡ Some start → CanBring (state_of (parts_of m)) f
+    → length plain ≡ 4096 → SameBeside m.secs secs → AreCountedIn (with_kind m.epc f page w.kind w.perm plain) secs
     → d' ≡ record (parts_of m) {
       epc = with_kind m.epc f page w.kind w.perm plain;
       secs = secs;
@@ -445,10 +445,10 @@ pub eld_leaves : (m : Inside) → IsWhole m → (f : ℕ) (start : BareStart) (p
       starts = set m.starts.items f None;
     }
     → Leaves d' (after_eld (state_of (parts_of m)) f start (reloaded page ((state_of (parts_of m)).added page)) plain)
-eld_leaves m h f start page w plain secs d' at sized same counts done =
+eld_leaves m h f start page w plain secs d' at bring sized same counts done =
     rw done (record {
       state = beside_state there secs same ∙ state;
-      kept = kept_eld s f start page plain at w.waits w.known (length-words_of plain ∙ ap (λ n. n / 8) sized) (kept_of m h);
+      kept = kept_eld s f start page plain at w.waits w.known bring (length-words_of plain ∙ ap (λ n. n / 8) sized) (kept_of m h);
       processors = h.processors;
       places = h.places;
       table = table_beside m.secs secs same h.table;
@@ -504,7 +504,7 @@ eld_leaves m h f start page w plain secs d' at sized same counts done =
     vacant = none_there (page_at d.va.pages f) (h.held.pages f ∙ ap table.is_va w.waits)
 
     place : is_va_page page ≡ true → f < length d.va.pages
-    place va = placed m.va f h.held.places (omega (arith, room m h f page w.waits va)) (omega (arith, k.low, h.held.small))
+    place va = placed m.va f h.held.places (omega (arith, room m h f page w.waits bring va)) (omega (arith, k.low, h.held.small))
 
     table_R : IsVaTable R
     table_R = table_back d.va.pages f plain (is_va_page page) sized vacant place h.slots
@@ -603,8 +603,7 @@ pub record IsOpened (s : State) (f : ℕ) (work : UnsealedWork) (rec : Sealed) :
   pub version : IsSomeAnd (s.start f) (λ start. work.version ≡ start.version)
   pub rec_is : work.rec ≡ rec
 
-module _ (m : Inside) (h : IsWhole m) (a : Actor) (f : Frame) (work : UnsealedWork) (rec : Sealed) (start : opened.Start) (page : Page)
-    (epc : List EpcFrame) (secs : List (Option SecsState)) (va : VaArrays)
+module _ (m : Inside) (h : IsWhole m) (f : Frame) (work : UnsealedWork) (rec : Sealed) (start : opened.Start) (page : Page)
     (comes : table.is_loading ((state_of (parts_of m)).content f.0) ≡ true) (is : IsOpened (state_of (parts_of m)) f.0 work rec)
     (at : (state_of (parts_of m)).start f.0 ≡ start_of (Some start)) (loads : start.loads ≡ Some page)
   where
@@ -616,9 +615,6 @@ module _ (m : Inside) (h : IsWhole m) (a : Actor) (f : Frame) (work : UnsealedWo
 
     abbrev own : BareStart
     own = record { at = start.at; slot = start.slot; version = start.version; loads = start.loads }
-
-    abbrev d' : Parts
-    d' = record d { epc = epc; secs = secs; va = va; starts = set d.starts f.0 None }
 
     w : Waits d f.0 page
     w = waits m h f.0 own page comes at loads
@@ -642,47 +638,55 @@ module _ (m : Inside) (h : IsWhole m) (a : Actor) (f : Frame) (work : UnsealedWo
     plain_is : work.plain.items ≡ cipher s.key start.version rec.cipher
     plain_is = work.is_plain ∙ (λ i. cipher (is.key i) (version_is i) (let r : Sealed = is.rec_is i in r.cipher))
 
-    pub ended_back : (e : Entry) → None ≡ first_of_row (eld_row work.rec work.computed (effects.header_in d.secs page))
-        → epc ≡ with_reloaded d.epc d.secs f.0 page work.plain.items
-        → va ≡ record d.va { pages = with_in d.va.pages f.0 page work.plain.items start.at }
-        → SameBeside d.secs secs → AreCountedIn epc secs
-        → e ≡ did_by a (Eld f) (Moved page start.version work.rec.tag) → Ended m a f e rec d'
-    ended_back e row puts ends same counts told =
-        let put : epc ≡ with_kind d.epc f.0 page w.kind w.perm work.plain.items =
-        puts ∙ ap (λ o. with_plain d.epc f.0 page o work.plain.items) w.is in
-        let parts : d' ≡ record d {
-          epc = with_kind d.epc f.0 page w.kind w.perm work.plain.items;
-          secs = secs;
-          va = record d.va { pages = with_in d.va.pages f.0 page work.plain.items start.at };
-          starts = set d.starts f.0 None;
-        } = λ i. record d { epc = put i; secs = secs; va = ends i; starts = set d.starts f.0 None } in
-        let left = eld_leaves m h f.0 own page w work.plain.items secs d' at work.plain_size same
-        (subst (λ x. AreCountedIn x secs) put counts) parts in
-        record {
-          after = after_eld s f.0 own (reloaded page (s.added page)) work.plain.items;
-          leaves = left;
-          back = record {
-            coming = coming m f.0 own page at loads w.known;
-            row = done_step _ _ _ (sym row_is ∙ sym row) (
-              told ∙ ap (λ (r : Sealed). did_by a (Eld f) (Moved page start.version r.tag)) is.rec_is,
-              left.state ∙ ap (after_eld s f.0 own (reloaded page (s.added page))) plain_is,
-            );
-          };
-        }
+    -- what the premise says where the row allows the record
+    pub brings : CanEnd s f.0 rec → first_of_row (eld_row work.rec work.computed (effects.header_in d.secs page)) ≡ None → CanBring s f.0
+    brings can allowed = can (coming m f.0 own page at loads w.known) (sym row_is ∙ allowed)
 
-    pub ended_refused : (e : Entry) (refusal : Refusal)
-        → Some refusal ≡ first_of_row (eld_row work.rec work.computed (effects.header_in d.secs page)) → epc ≡ cleared d.epc f.0
-        → va ≡ record d.va { pages = with_busy d.va.pages start.at false } → SameBeside d.secs secs → AreCountedIn epc secs
-        → e ≡ refused_by a (Eld f) refusal → Ended m a f e rec d'
-    ended_refused e refusal row frees marks same counts told =
-        let parts : d' ≡ record (failed_parts d f.0 own) { secs = secs } =
-        λ i. record d { epc = frees i; secs = secs; va = marks i; starts = set d.starts f.0 None } in
-        let left = failed_leaves m h f.0 own page secs d' w.waits at same (subst (λ x. AreCountedIn x secs) frees counts) parts in
-        record {
-          after = after_failed_eld s f.0 own;
-          leaves = left;
-          back = record {
-            coming = coming m f.0 own page at loads w.known;
-            row = refused_step _ _ _ refusal (sym row_is ∙ sym row) (told, left.state);
-          };
-        }
+    module _ (a : Actor) (epc : List EpcFrame) (secs : List (Option SecsState)) (va : VaArrays) where
+      abbrev d' : Parts
+      d' = record d { epc = epc; secs = secs; va = va; starts = set d.starts f.0 None }
+
+      pub ended_back : (e : Entry) → CanEnd s f.0 rec → None ≡ first_of_row (eld_row work.rec work.computed (effects.header_in d.secs page))
+          → epc ≡ with_reloaded d.epc d.secs f.0 page work.plain.items
+          → va ≡ record d.va { pages = with_in d.va.pages f.0 page work.plain.items start.at }
+          → SameBeside d.secs secs → AreCountedIn epc secs
+          → e ≡ did_by a (Eld f) (Moved page start.version work.rec.tag) → Ended m a f e rec d'
+      ended_back e can row puts ends same counts told =
+          let put : epc ≡ with_kind d.epc f.0 page w.kind w.perm work.plain.items =
+          puts ∙ ap (λ o. with_plain d.epc f.0 page o work.plain.items) w.is in
+          let parts : d' ≡ record d {
+            epc = with_kind d.epc f.0 page w.kind w.perm work.plain.items;
+            secs = secs;
+            va = record d.va { pages = with_in d.va.pages f.0 page work.plain.items start.at };
+            starts = set d.starts f.0 None;
+          } = λ i. record d { epc = put i; secs = secs; va = ends i; starts = set d.starts f.0 None } in
+          let left = eld_leaves m h f.0 own page w work.plain.items secs d' at (brings can (sym row)) work.plain_size same
+          (subst (λ x. AreCountedIn x secs) put counts) parts in
+          record {
+            after = after_eld s f.0 own (reloaded page (s.added page)) work.plain.items;
+            leaves = left;
+            back = record {
+              coming = coming m f.0 own page at loads w.known;
+              row = done_step _ _ _ (sym row_is ∙ sym row) (
+                told ∙ ap (λ (r : Sealed). did_by a (Eld f) (Moved page start.version r.tag)) is.rec_is,
+                left.state ∙ ap (after_eld s f.0 own (reloaded page (s.added page))) plain_is,
+              );
+            };
+          }
+
+      pub ended_refused : (e : Entry) (refusal : Refusal)
+          → Some refusal ≡ first_of_row (eld_row work.rec work.computed (effects.header_in d.secs page)) → epc ≡ cleared d.epc f.0
+          → va ≡ record d.va { pages = with_busy d.va.pages start.at false } → SameBeside d.secs secs → AreCountedIn epc secs
+          → e ≡ refused_by a (Eld f) refusal → Ended m a f e rec d'
+      ended_refused e refusal row frees marks same counts told =
+          let parts : d' ≡ record (failed_parts d f.0 own) { secs = secs } =
+          λ i. record d { epc = frees i; secs = secs; va = marks i; starts = set d.starts f.0 None } in
+          let left = failed_leaves m h f.0 own page secs d' w.waits at same (subst (λ x. AreCountedIn x secs) frees counts) parts in
+          record {
+            after = after_failed_eld s f.0 own;
+            leaves = left;
+            back = record {
+              coming = coming m f.0 own page at loads w.known;
+              row = refused_step _ _ _ refusal (sym row_is ∙ sym row) (told, left.state);
+            };
+          }

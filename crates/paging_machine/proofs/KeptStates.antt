@@ -24,9 +24,10 @@ use Rattle.paging_laws.specs.inner.State.{after_ewbstart}
 use Rattle.paging_laws.specs.inner.State.{after_eldstart, after_ewb, after_eld, after_failed_eld}
 use Rattle.paging_laws.specs.inner.Stands.{IsSound, IsMeasured, IsFramed}
 use Rattle.paging_laws.specs.inner.Guarded.{IsPaged, IsGuarded}
+use Rattle.paging_laws.specs.inner.Steps.{CanBring}
 use Rattle.paging_machine.specs.inner.Whole.{IsWithin}
 use Rattle.epcm_entry.specs.inner.Words.{words_of}
-use Rattle.page_history.specs.inner.Away.{SecsIsIn, array_in}
+use Rattle.page_history.specs.inner.Away.{SecsIsIn}
 use Rattle.paging_laws.proofs.SoundLaws.{sound-put}
 use Rattle.paging_laws.proofs.BuildLaws.{sound_add}
 use Rattle.paging_laws.proofs.GuardLaws.{guarded_epa, guarded_create, guarded_add, guarded_extend, guarded_init}
@@ -157,14 +158,13 @@ kept_ewbstart s f slot allowed h = record {
 
 pub kept_eldstart : (s : State) (f : ℕ) (page : Page) (slot : SlotAt)
     → first_of_row (eldstart_row (sight s f) (load_sight s page) (slot_sight s slot)) ≡ None
-    → (is_va_page page ≡ true → (n : ℕ) → array_in (s.content n) ≡ Some page.number → ⊥) → IsKept s
-    → IsKept (after_eldstart s f page slot)
-kept_eldstart s f page slot allowed away h = record {
+    → IsKept s → IsKept (after_eldstart s f page slot)
+kept_eldstart s f page slot allowed h = record {
   measured = h.measured;
   framed = framed_put s f (IsLoading page) (λ g kind perm at. cc at) h.framed;
   within = h.within;
   sound = sound_eldstart s f page slot allowed h.sound;
-  guarded = guarded_eldstart s f page slot allowed away h.guarded;
+  guarded = guarded_eldstart s f page slot allowed h.guarded;
 }
 
 pub kept_ewb : (s : State) (f : ℕ) (start : BareStart) → s.start f ≡ Some start → s.is_sealing f ≡ true → IsKept s
@@ -178,16 +178,16 @@ kept_ewb s f start is leaving h = record {
 }
 
 pub kept_eld : (s : State) (f : ℕ) (start : BareStart) (page : Page) (plain : List ℕ) → s.start f ≡ Some start
-    → s.content f ≡ IsLoading page → is_known s page ≡ true → length (words_of plain) ≡ 512 → IsKept s
+    → s.content f ≡ IsLoading page → is_known s page ≡ true → CanBring s f → length (words_of plain) ≡ 512 → IsKept s
     → IsKept (after_eld s f start (reloaded page (s.added page)) plain)
-kept_eld s f start page plain is waits known long h = record {
+kept_eld s f start page plain is waits known bring long h = record {
   measured = h.measured;
   framed = λ n g k p.
       cond_both (f == n) (reloaded page (s.added page)) (s.content n) (λ v. v ≡ Holds g k p → is_some (s.added g) ≡ true)
       (λ _ at. back g k p at) (λ _. h.framed n g k p);
   within = h.within;
   sound = sound_eld s f start (reloaded page (s.added page)) plain page waits long h.sound;
-  guarded = guarded_eld s f start page plain is waits known h.guarded;
+  guarded = guarded_eld s f start page plain is waits known bring h.guarded;
 }
   where
     -- what is back as a page of an enclave was added to it

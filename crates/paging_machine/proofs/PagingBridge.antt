@@ -45,7 +45,6 @@ use Rattle.evict_reload.specs.inner.Effects.{with_next, with_tracked, with_ended
 use Rattle.evict_reload.specs.inner.Sights as parts
 use Rattle.evict_reload.specs.inner.Sights.{AreCountedIn, AreVaPages, IsNumbered, track_seen}
 use Rattle.evict_reload.proofs.PageLaws.{pages-with_entry, pages-with_slot, is_va-with_block, is_va-outgoing}
-use Rattle.page_history.specs.inner.Away.{array_in}
 use Rattle.paging_laws.specs.inner.Guarded.{IsGuarded, IsOpen}
 use Rattle.paging_laws.specs.inner.State.{epoch_in, slot_of_found, version_at, after_block}
 use Rattle.paging_laws.specs.inner.State.{after_track, after_ewbstart, after_eldstart, after_ewb}
@@ -666,10 +665,9 @@ load_owned d page known = by_name (is_va_page page) (is_secs_page page) known
 
 pub eldstart_leaves : (m : Inside) → IsWhole m → (f : ℕ) (page : Page) (slot : SlotAt) (secs : List (Option SecsState)) (d' : Parts)
     → first_of_row (eldstart_row (sight_in m.epc f) (parts.load_sight m.epc m.va.made m.secs page) (parts.slot_sight m.epc m.va.pages slot))
-    ≡ None → (is_va_page page ≡ true → (n : ℕ) → array_in ((state_of (parts_of m)).content n) ≡ Some page.number → ⊥)
-    → SameBeside m.secs secs → AreCountedIn (with_loading m.epc f page) secs
+    ≡ None → SameBeside m.secs secs → AreCountedIn (with_loading m.epc f page) secs
     → d' ≡ record (in_parts (parts_of m) f page slot) { secs = secs } → Leaves d' (after_eldstart (state_of (parts_of m)) f page slot)
-eldstart_leaves m h f page slot secs d' allowed away same counts done =
+eldstart_leaves m h f page slot secs d' allowed same counts done =
     let d = parts_of m in
     let load = parts.load_sight d.epc d.va.made d.secs page in
     let k = comes d f slot load h.held.pages h.start_places allowed in
@@ -678,7 +676,7 @@ eldstart_leaves m h f page slot secs d' allowed away same counts done =
     let v = views.Loading page in
     rw done (record {
       state = beside_state (in_parts d f page slot) secs same ∙ eldstart_state d f page slot h.slots w k.found.idle;
-      kept = kept_eldstart (state_of d) f page slot (sym (eldstart_row_at d f page slot h.held.pages) ∙ allowed) away (kept_of m h);
+      kept = kept_eldstart (state_of d) f page slot (sym (eldstart_row_at d f page slot h.held.pages) ∙ allowed) (kept_of m h);
       processors = h.processors;
       places = h.places;
       table = table_beside m.secs secs same h.table;

@@ -21,8 +21,7 @@ use std::alloc::Global;
 impl Machine {
     /// One instruction but the commits of EWB and ELDU: its entry says whether it was done, with its answer, or refused,
     /// with the first case of its row in this project's instruction table that holds. A refusal changes nothing. Memory
-    /// may be refused to `epa` and `create` alone. Fewer than 2^32 version array pages are made, and none is loaded that is in a
-    /// frame, or for which one waits.
+    /// may be refused to `epa` and `create` alone. Fewer than 2^32 version array pages are made.
     pub fn apply(&mut self, alloc: Global, actor: Actor, action: &Action) -> Result<Entry, Memory>
         requires can_apply { CanApply (length self.old.cpus) actor action.now }
         requires can_move { CanMove (state_of self.old) action.now }

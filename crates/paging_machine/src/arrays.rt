@@ -1,14 +1,15 @@
 //! What a driver that moves version array pages asks before it does.
 
-ghost use Rattle.std.specs.Prelude.{◌≡◌, true, false, Some, ℕ};
-ghost use Rattle.sgx_rules.specs.Table.{is_va};
+ghost use Rattle.std.specs.Prelude.{◌≡◌, true, false, ℕ, MatchOption};
+ghost use Rattle.sgx_rules.specs.Frames.{IsLoading, IsVa};
+ghost use Rattle.sgx_rules.specs.Table.{is_loading, is_va};
 ghost use Rattle.epcm_entry.specs.inner.Sights.{held};
-ghost use Rattle.page_history.specs.inner.Away.{array_in};
+ghost use Rattle.paging_laws.specs.inner.Steps.{CanBring};
 ghost use Rattle.paging_machine.specs.inner.Parts.{state_of};
 
 use crate::machine::Machine;
 use epcm_entry::entry_view::EntryView;
-use sgx_types::names::{Frame, Kind};
+use sgx_types::names::{Frame, Kind, Page};
 
 impl Machine {
     /// How many version array pages were made.
@@ -25,10 +26,10 @@ impl Machine {
         frame.0 < self.epc.frames() && self.epc.entry(frame).is_va()
     }
 
-    /// Whether a frame holds a version array page, by the page's number, or waits for it. Looks at each frame.
+    /// Whether a frame holds a version array page, by the page's number. Looks at each frame.
     pub fn has_array(&self, number: u32) -> bool
-        ensures there { result ≡ true → (n : ℕ) × (array_in ((state_of self.now).content n) ≡ Some number) }
-        ensures away { result ≡ false → (n : ℕ) → array_in ((state_of self.now).content n) ≡ Some number → ⊥ }
+        ensures there { result ≡ true → (n : ℕ) × ((state_of self.now).content n ≡ IsVa number) }
+        ensures away { result ≡ false → (n : ℕ) → (state_of self.now).content n ≡ IsVa number → ⊥ }
     {
         for frame in 0..self.epc.frames() {
             if is_array(self.epc.entry(Frame(frame)), number) {
@@ -37,12 +38,40 @@ impl Machine {
         }
         false
     }
+
+    /// Whether the load into a frame may end, whatever record is brought: no frame holds the version array page for which it waits.
+    pub fn can_bring(&self, frame: Frame) -> bool
+        ensures may { result ≡ true → CanBring (state_of self.now) frame.0 }
+        ensures may_not { result ≡ false → CanBring (state_of self.now) frame.0 → ⊥ }
+    {
+        let Some(page) = self.awaited(frame) else {
+            return true;
+        };
+        if page.enclave != 0 {
+            return true;
+        }
+        !self.has_array(page.number)
+    }
+
+    // The page for which a frame waits.
+    fn awaited(&self, frame: Frame) -> Option<Page>
+        ensures { MatchOption result (is_loading ((state_of self.now).content frame.0) ≡ false)
+            (λ page. (state_of self.now).content frame.0 ≡ IsLoading page) }
+    {
+        if frame.0 >= self.epc.frames() {
+            return None;
+        }
+        match self.epc.entry(frame) {
+            EntryView::Loading { page } => Some(page),
+            _ => None,
+        }
+    }
 }
 
-// An entry's frame holds this version array page, or waits for it.
+// An entry's frame holds this version array page.
 fn is_array(entry: EntryView, number: u32) -> bool
-    ensures there { result ≡ true → array_in (held entry) ≡ Some number }
-    ensures away { result ≡ false → array_in (held entry) ≡ Some number → ⊥ }
+    ensures there { result ≡ true → held entry ≡ IsVa number }
+    ensures away { result ≡ false → held entry ≡ IsVa number → ⊥ }
 {
     match entry {
         EntryView::Valid {
@@ -50,7 +79,6 @@ fn is_array(entry: EntryView, number: u32) -> bool
             kind: Kind::Va,
             ..
         } => page.number == number,
-        EntryView::Loading { page } => page.enclave == 0 && page.number == number,
         _ => false,
     }
 }

@@ -13,7 +13,8 @@ ghost use Rattle.seal_record.specs.Records.{Given, Made, Unforged};
 ghost use Rattle.paging_laws.specs.inner.Histories.{StandsWithAllRules, given_out, looked_at, BringsArrayIn, BringsIn, GivesArray};
 ghost use Rattle.paging_machine.specs.inner.Parts.{start_of, state_of};
 ghost use Rattle.paging_laws.specs.inner.Shape.{ShapeWithRules, FitsApart};
-ghost use Rattle.paging_laws.specs.inner.Steps.{HasBytesOf, HasSecsBytes, IsDigest, IsReloaded, IsWrittenOut, SealsPage, header_in};
+ghost use Rattle.paging_laws.specs.inner.Steps.{CanEnd, HasBytesOf, HasSecsBytes, IsComingHeader, IsDigest, IsReloaded, IsWrittenOut, SealsPage};
+ghost use Rattle.paging_laws.specs.inner.Steps.{header_in};
 ghost use Rattle.page_bytes.specs.inner.Bytes.{HasRoom};
 ghost use Rattle.evict_reload.specs.inner.Sights.{is_kind_own};
 
@@ -61,6 +62,16 @@ impl Machine {
         work.version = start.version;
     }
 
+    /// The header that the record of the page has for which a frame waits.
+    pub fn coming_header(&self, frame: Frame) -> Header
+        requires { is_loading ((state_of self.now).content frame.0) ≡ true }
+        ensures { IsComingHeader (state_of self.now) frame.0 result }
+    {
+        let start = self.start(frame);
+        let page = start.loads.unwrap();
+        header_in(&self.secs, page).unwrap()
+    }
+
     /// The commit of EWB (Intel SDM volume 3D): the page is out of its frame, its version stands in the slot of the start,
     /// and its record is given out. Never refused.
     pub fn ewb_commit(&mut self, actor: Actor, frame: Frame, work: SealedWork) -> (Entry, Record)
@@ -106,8 +117,11 @@ impl Machine {
     /// Refused, in this order, as MacFail where the record's tag is not the one of its header and cipher under the
     /// version that the start found, with both tags; and as BadHeader where its header is not the page's, with the record's
     /// numbers. After either the frame is free, and the slot keeps its version.
+    ///
+    /// Where the row allows the record of a version array page, no frame holds the page.
     pub fn eld_commit(&mut self, actor: Actor, frame: Frame, work: UnsealedWork) -> Entry
-        requires { is_loading ((state_of self.old).content frame.0) ≡ true }
+        requires loading { is_loading ((state_of self.old).content frame.0) ≡ true }
+        requires can_end { CanEnd (state_of self.old) frame.0 work.rec }
         ensures step { IsReloaded (state_of self.old) actor frame work.rec result (state_of self.new) }
         ensures shape { (making : Making) (past : List Entry) → ShapeWithRules making (state_of self.old) past
             → ShapeWithRules making (state_of self.new) (result ∷ past) }

@@ -4,7 +4,7 @@ ghost use Rattle.std.specs.Prelude.{◌≡◌, length};
 ghost use Rattle.sgx_rules.specs.declared.entries.Action.TheVariants as actions;
 ghost use Rattle.paging_machine.specs.inner.Parts.{state_of};
 ghost use Rattle.paging_laws.specs.inner.State.{slot_of_found};
-ghost use Rattle.paging_laws.specs.inner.Steps.{CanMove, IsStep};
+ghost use Rattle.paging_laws.specs.inner.Steps.{IsStep};
 ghost use Rattle.sgx_rules.specs.Starts.{slot_in};
 
 use crate::apply::{done, refused};
@@ -77,8 +77,7 @@ impl Machine {
         }
     }
 
-    /// A free frame starts to load the page whose version is in a slot (ELDU). A version array page that is loaded is in no frame, and
-    /// none waits for it.
+    /// A free frame starts to load the page whose version is in a slot (ELDU).
     #[inline(never)]
     pub(crate) fn eld_start(
         &mut self,
@@ -87,7 +86,6 @@ impl Machine {
         page: Page,
         slot: SlotAt,
     ) -> Entry
-        requires { CanMove (state_of self.old) (actions.EldStart frame page slot) }
         ensures step { IsStep (state_of self.old) actor (actions.EldStart frame page slot) result (state_of self.new) }
         ensures cpus { length self.new.cpus ≡ length self.old.cpus }
     {

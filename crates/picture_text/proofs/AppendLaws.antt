@@ -21,3 +21,12 @@ module _ {A : Type 0} where
     where
       all : ((((o ++ m ∷ []) ++ a) ++ b) ++ c) ++ d ≡ o ++ (m ∷ (((a ++ b) ++ c) ++ d))
       all = simp append_assoc
+
+  -- three parts
+  pub pushed_three : (o p q z a b c : List A) → p ≡ o ++ a → q ≡ p ++ b → z ≡ q ++ c → z ≡ o ++ ((a ++ b) ++ c)
+  pushed_three o p q z a b c ha hb hc =
+      hc ∙ ap (λ x. x ++ c) (hb ∙ ap (λ x. x ++ b) ha)
+      ∙ all
+    where
+      all : ((o ++ a) ++ b) ++ c ≡ o ++ ((a ++ b) ++ c)
+      all = simp append_assoc

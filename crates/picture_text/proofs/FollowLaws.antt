@@ -8,15 +8,16 @@ use Rattle.sgx_rules.specs.declared.entries.Entry.{Entry}
 use Rattle.sgx_rules.specs.Processors.{Stay, move_by, is_by, stay_after, stay}
 use Rattle.trace_places.specs.declared.change.Change.{Change}
 use Rattle.trace_places.specs.declared.places.Places.{Places}
-use Rattle.trace_places.specs.Places.{change_by, change_after, frame_changed}
-use Rattle.trace_places.specs.inner.Tables.{Stands, may_move, pages_if, page_at_frame, page_named, other_than}
+use Rattle.trace_places.specs.Places.{change_by, change_after, frame_changed, page_at_frame, page_named, other_than}
+use Rattle.trace_places.specs.inner.Tables.{Stands, may_move, pages_if}
 use Rattle.picture_text.specs.declared.events.Lane.{Lane}
 use Rattle.picture_text.specs.declared.open_spans.OpenSpans.{OpenSpans}
 use Rattle.picture_text.specs.declared.events.Mark.TheVariants as marks
-use Rattle.picture_text.specs.Events.{marked, pages_by, steps_on, events_after, events_of}
-use Rattle.picture_text.specs.Open.{inside}
-use Rattle.picture_text.specs.inner.Following.{leaving_in, leaving_after, seat_in, Follows, open_if}
-use Rattle.picture_text.specs.inner.Steps.{steps_if, touched_by, seen_on, drawn}
+use Rattle.picture_text.specs.declared.counts.Counts.{Counts}
+use Rattle.picture_text.specs.Events.{counts_of, counts_to, marked, pages_by, steps_on, events_after, events_by, events_of}
+use Rattle.picture_text.specs.Open.{inside, open_if}
+use Rattle.picture_text.specs.inner.Following.{leaving_in, leaving_after, seat_in, Follows}
+use Rattle.picture_text.specs.inner.Steps.{counts_by, steps_if, touched_by, seen_on, drawn}
 use Rattle.picture_text.proofs.FrameLaws.{leaving_more}
 
 -- one entry more
@@ -62,6 +63,12 @@ drawn_after past e =
     ++ steps_alike past e lanes.former i
     ++ steps_alike past e lanes.named i)
 
+-- the counters by what was seen are those behind the entry
+pub counted_after : (past : List Entry) (e : Entry) (counts : Counts) → counts ≡ counts_of past
+    → counts_by e.event (seen_on past (touched_by past e)) (seen_on (e ∷ past) (touched_by past e)) counts ≡ counts_of (e ∷ past)
+counted_after past e counts is =
+    ap (counts_by e.event (seen_on past (touched_by past e)) (seen_on (e ∷ past) (touched_by past e))) is
+
 -- the next of entries that stand oldest first
 pub follows_next : (known : OpenSpans) (entries : List Entry) (i : ℕ) (d : Entry) → i < length entries
     → Follows known (get_or entries i d ∷ reverse (take i entries)) → Follows known (reverse (take (i + 1) entries))
@@ -69,12 +76,16 @@ follows_next known entries i d within follows =
     let Are : List Entry → Type 0 = λ past. Follows known past in subst Are (sym (newest_more entries i d within)) follows
 
 pub events_next : (events before : List PictureEvent) (entries : List Entry) (i : ℕ) (d : Entry) → i < length entries
-    → before ≡ events_of (reverse (take i entries)) → events ≡ before ++ events_after (reverse (take i entries)) (get_or entries i d)
+    → before ≡ events_of (reverse (take i entries)) → events ≡ before ++ events_by (reverse (take i entries)) (get_or entries i d)
     → events ≡ events_of (reverse (take (i + 1) entries))
 events_next events before entries i d within was more =
-    more ∙ ap (λ (xs : List PictureEvent). xs ++ events_after (reverse (take i entries)) (get_or entries i d)) was
+    more ∙ ap (λ (xs : List PictureEvent). xs ++ events_by (reverse (take i entries)) (get_or entries i d)) was
     ∙ ap events_of (sym (newest_more entries i d within))
 
 -- so many entries stand before it
 pub place_next : (entries : List Entry) (i : ℕ) → i < length entries → i ≡ length (reverse (take i entries))
 place_next entries i within = omega (arith, length-reverse (take i entries), length-take i entries)
+
+pub counts_next : (counts : Counts) (entries : List Entry) (i : ℕ) (d : Entry) → i < length entries
+    → counts ≡ counts_of (get_or entries i d ∷ reverse (take i entries)) → counts ≡ counts_of (reverse (take (i + 1) entries))
+counts_next counts entries i d within is = is ∙ ap counts_of (sym (newest_more entries i d within))

@@ -8,6 +8,7 @@ pub mod TouchLaws
 pub mod ReadLaws
 pub mod MoveLaws
 pub mod TimeLaws
+pub mod ValueLaws
 pub mod FollowLaws
 pub mod LaneLaws
 pub mod PartLaws

@@ -1,5 +1,5 @@
 -- The spans that begin on a page's lane are the page's moves.
-use Rattle.std.proofs.Common.{◌≡◌, ℕ, ◌+◌, ◌||◌, not, Bool, true, false, if◌then◌else◌, List, [], ◌∷◌, ◌++◌, length, Option, Some, None}
+use Rattle.std.proofs.Common.{◌≡◌, ◌==◌, ℕ, ◌+◌, ◌||◌, not, Bool, true, false, if◌then◌else◌, List, [], ◌∷◌, ◌++◌, length, Option, Some, None}
 use Rattle.std.proofs.Common.{refl, sym, ap, ◌∙◌, inl, inr, append_assoc, append-nil}
 use Rattle.std.proofs.lemmas.Bool.{false≢true}
 use Rattle.sgx_rules.specs.declared.entries.Entry.{Entry}
@@ -11,8 +11,7 @@ use Rattle.sgx_types.proofs.Pages.{same_page-refl}
 use Rattle.sgx_types.proofs.Truths.{tested}
 use Rattle.trace_places.specs.declared.moves.Where.{Where}
 use Rattle.trace_places.specs.declared.moves.Where.TheVariants as wheres
-use Rattle.trace_places.specs.Places.{change_after, place_of, same_where, moved, moved_by}
-use Rattle.trace_places.specs.inner.Tables.{is_page}
+use Rattle.trace_places.specs.Places.{change_after, place_of, same_where, moved, moved_by, is_page}
 use Rattle.trace_places.proofs.MoveLaws.{stayed}
 use Rattle.picture_text.specs.declared.events.Lane.{Lane}
 use Rattle.picture_text.specs.declared.events.Lane.TheVariants as lanes
@@ -20,7 +19,11 @@ use Rattle.picture_text.specs.declared.events.Open.{Open}
 use Rattle.picture_text.specs.declared.events.PictureEvent.{PictureEvent}
 use Rattle.picture_text.specs.declared.events.Span.{Span}
 use Rattle.picture_text.specs.Events.{ends, begins, steps, lane_of, frame_in, frame_lane, page_lane, pages_by, steps_on}
-use Rattle.picture_text.specs.Events.{events_after, events_of}
+use Rattle.picture_text.specs.declared.counts.Counts.{Counts}
+use Rattle.picture_text.specs.declared.events.Counter.{Counter}
+use Rattle.picture_text.specs.declared.events.Counter.TheVariants as counters
+use Rattle.picture_text.specs.declared.events.Mark.TheVariants as marks
+use Rattle.picture_text.specs.Events.{count_to, counts_of, counts_to, events_after, events_by, events_of, marked}
 use Rattle.picture_text.specs.Lanes.{same_lane}
 use Rattle.picture_text.specs.Open.{same_spans, stands, only, open_on}
 use Rattle.picture_text.specs.Reading.{Begun, begun_by, begun_on, begun_if, begun_to, begun_by_moves}
@@ -174,8 +177,34 @@ module _ (past : List Entry) (e : Entry) (g : Page) where
       nothing true = refl
       nothing false = refl
 
+-- ---- counters begin nothing
+
+begun_count : (place : ℕ) (g : Page) (counter : Counter) (before value : ℕ)
+    → begun_on (lanes.Page g) (count_to place counter before value) ≡ []
+begun_count place g counter before value = by_test (before == value)
+  where
+    by_test : (b : Bool)
+        → begun_on (lanes.Page g) (if b then [] else marked place lanes.Counters (marks.Counts counter value) ∷ []) ≡ []
+    by_test true = refl
+    by_test false = refl
+
+begun_counts : (place : ℕ) (g : Page) (a b : Counts) → begun_on (lanes.Page g) (counts_to place a b) ≡ []
+begun_counts place g a b =
+    let l = lanes.Page g in
+    let frames = count_to place counters.Frames a.frames b.frames in
+    let pages = count_to place counters.Pages a.pages b.pages in
+    let version = count_to place counters.Version a.version b.version in
+    begun_append l (frames ++ pages) version
+    ∙ ap (λ (bs : List Begun). bs ++ begun_on l version) (begun_append l frames pages)
+    ∙ (λ i. (begun_count place g counters.Frames a.frames b.frames i ++ begun_count place g counters.Pages a.pages b.pages i)
+    ++ begun_count place g counters.Version a.version b.version i)
+
 pub spans_are_moves : (past : List Entry) (g : Page) → begun_on (lanes.Page g) (events_of past) ≡ begun_by_moves past g
 spans_are_moves [] g = refl
 spans_are_moves (e ∷ past) g =
-    begun_append (lanes.Page g) (events_of past) (events_after past e)
-    ∙ (λ i. spans_are_moves past g i ++ begun_after past e g i)
+    let l = lanes.Page g in
+    let counts = counts_to (length past) (counts_of past) (counts_of (e ∷ past)) in
+    let own = begun_append l (events_after past e) counts
+    ∙ (λ i. begun_after past e g i ++ begun_counts (length past) g (counts_of past) (counts_of (e ∷ past)) i)
+    ∙ append-nil (begun_to (length past + 1) (moved_by past e g)) in
+    begun_append l (events_of past) (events_by past e) ∙ (λ i. spans_are_moves past g i ++ own i)

@@ -1,5 +1,5 @@
 -- What is read back from a lane is what is open on it.
-use Rattle.std.proofs.Common.{◌≡◌, Bool, true, false, if◌then◌else◌, List, [], ◌∷◌, ◌++◌, Option, Some, None}
+use Rattle.std.proofs.Common.{◌≡◌, ◌==◌, ℕ, Bool, true, false, if◌then◌else◌, List, [], ◌∷◌, ◌++◌, Option, Some, None, length}
 use Rattle.std.proofs.Common.{refl, sym, ap, ◌∙◌, inl, inr}
 use Rattle.std.proofs.lemmas.Bool.{false≢true}
 use Rattle.sgx_rules.specs.declared.entries.Entry.{Entry}
@@ -10,8 +10,7 @@ use Rattle.sgx_types.specs.declared.names.Cpu.{Cpu}
 use Rattle.sgx_types.specs.declared.names.Frame.{Frame}
 use Rattle.sgx_types.specs.declared.names.Page.{Page}
 use Rattle.sgx_types.proofs.Truths.{tested}
-use Rattle.trace_places.specs.Places.{change_after, tenant}
-use Rattle.trace_places.specs.inner.Tables.{is_page, page_named}
+use Rattle.trace_places.specs.Places.{change_after, tenant, is_page, page_named}
 use Rattle.trace_places.specs.declared.change.Change.{Change}
 use Rattle.trace_places.specs.declared.moves.Where.{Where}
 use Rattle.trace_places.proofs.MoveLaws.{other_true, other_false}
@@ -20,10 +19,15 @@ use Rattle.picture_text.specs.declared.events.Lane.TheVariants as lanes
 use Rattle.picture_text.specs.declared.events.Open.{Open}
 use Rattle.picture_text.specs.declared.events.Span.{Span}
 use Rattle.picture_text.specs.declared.events.Span.TheVariants as spans
-use Rattle.picture_text.specs.Events.{lane_of, frame_in, frame_lane, page_lane, pages_by, steps_on, events_after, events_of}
+use Rattle.picture_text.specs.declared.counts.Counts.{Counts}
+use Rattle.picture_text.specs.declared.events.Counter.{Counter}
+use Rattle.picture_text.specs.declared.events.Counter.TheVariants as counters
+use Rattle.picture_text.specs.declared.events.Mark.TheVariants as marks
+use Rattle.picture_text.specs.Events.{lane_of, frame_in, frame_lane, marked, page_lane, pages_by, steps_on, events_after, events_by, events_of}
+use Rattle.picture_text.specs.Events.{count_to, counts_of, counts_to}
 use Rattle.picture_text.specs.Lanes.{same_lane}
-use Rattle.picture_text.specs.Open.{inside, sits, stands, when_so, only, open_on, stack_of}
-use Rattle.picture_text.specs.Reading.{read_events}
+use Rattle.picture_text.specs.Open.{inside, sits, stands, when_so, only, open_on}
+use Rattle.picture_text.specs.Reading.{read_events, stack_of}
 use Rattle.picture_text.specs.inner.Following.{is_on, leaving_of}
 use Rattle.picture_text.proofs.FrameLaws.{tenant_stays, leaving_stays, leaving_more, stay_stays}
 use Rattle.picture_text.proofs.StayLaws.{named_by, place_stays}
@@ -222,6 +226,7 @@ module _ (past : List Entry) (e : Entry) where
       (miss_frame past e (frame_in e.event) l (before g) (λ f. refl)) refl (on_page g)
   after_steps lanes.Builder = on_the_driver lanes.Builder refl (λ f. refl) (λ g. refl)
   after_steps lanes.Reclaimer = on_the_driver lanes.Reclaimer refl (λ f. refl) (λ g. refl)
+  after_steps lanes.Counters = on_the_driver lanes.Counters refl (λ f. refl) (λ g. refl)
 
   -- the events of an entry lead from what was open on a lane to what is
   pub read_after : (l : Lane)
@@ -234,6 +239,32 @@ module _ (past : List Entry) (e : Entry) where
       (read_does (lane_of e.actor) l (stack_of (open_on past l)))
       ∙ after_steps l
 
+-- ---- counters open and end nothing
+
+read_count : (l : Lane) (place : ℕ) (counter : Counter) (before value : ℕ) (st : List Span)
+    → read_events l (count_to place counter before value) (Some st) ≡ Some st
+read_count l place counter before value st = by_test (before == value)
+  where
+    same_if : (b : Bool) → (if b then Some st else Some st) ≡ Some st
+    same_if true = refl
+    same_if false = refl
+
+    by_test : (b : Bool)
+        → read_events l (if b then [] else marked place lanes.Counters (marks.Counts counter value) ∷ []) (Some st) ≡ Some st
+    by_test true = refl
+    by_test false = same_if (same_lane lanes.Counters l)
+
+read_counts : (l : Lane) (place : ℕ) (a b : Counts) (st : List Span) → read_events l (counts_to place a b) (Some st) ≡ Some st
+read_counts l place a b st =
+    let frames = count_to place counters.Frames a.frames b.frames in
+    let pages = count_to place counters.Pages a.pages b.pages in
+    let version = count_to place counters.Version a.version b.version in
+    read_append l (frames ++ pages) version (Some st)
+    ∙ ap (read_events l version) (read_append l frames pages (Some st)
+    ∙ ap (read_events l pages) (read_count l place counters.Frames a.frames b.frames st)
+    ∙ read_count l place counters.Pages a.pages b.pages st)
+    ∙ read_count l place counters.Version a.version b.version st
+
 -- what is read back from a lane is what is open on it
 pub read_back : (past : List Entry) (lane : Lane) → read_events lane (events_of past) (Some []) ≡ Some (stack_of (open_on past lane))
 read_back [] (lanes.Processor p) = refl
@@ -241,7 +272,11 @@ read_back [] (lanes.Frame f) = refl
 read_back [] (lanes.Page g) = refl
 read_back [] lanes.Builder = refl
 read_back [] lanes.Reclaimer = refl
+read_back [] lanes.Counters = refl
 read_back (e ∷ past) l =
-    read_append l (events_of past) (events_after past e) (Some [])
-    ∙ ap (read_events l (events_after past e)) (read_back past l)
-    ∙ read_after past e l
+    let counts = counts_to (length past) (counts_of past) (counts_of (e ∷ past)) in
+    read_append l (events_of past) (events_by past e) (Some [])
+    ∙ ap (read_events l (events_by past e)) (read_back past l)
+    ∙ read_append l (events_after past e) counts (Some (stack_of (open_on past l)))
+    ∙ ap (read_events l counts) (read_after past e l)
+    ∙ read_counts l (length past) (counts_of past) (counts_of (e ∷ past)) (stack_of (open_on (e ∷ past) l))

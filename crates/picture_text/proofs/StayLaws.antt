@@ -6,8 +6,7 @@ use Rattle.trace_places.specs.declared.change.Change.{Change}
 use Rattle.trace_places.specs.declared.change.Tenant.TheVariants.{Has, Awaits}
 use Rattle.trace_places.specs.Places.{change_after, frame_changed, tenant, frames_after, frames, least}
 use Rattle.trace_places.specs.Places.{gone_after, gone_last}
-use Rattle.trace_places.specs.Places.{where_by, place_of}
-use Rattle.trace_places.specs.inner.Tables.{is_page, page_at_frame, page_named}
+use Rattle.trace_places.specs.Places.{where_by, place_of, is_page, page_at_frame, page_named}
 use Rattle.trace_places.proofs.StandLaws.{frames_made}
 use Rattle.trace_places.proofs.MoveLaws.{frames_stay, not_gone}
 use Rattle.picture_text.specs.Events.{pages_by}

@@ -12,8 +12,8 @@ use Rattle.picture_text.specs.declared.events.Span.{Span}
 use Rattle.picture_text.specs.declared.events.Span.TheVariants as spans
 use Rattle.picture_text.specs.Events.{ends, begins, steps}
 use Rattle.picture_text.specs.Lanes.{same_lane}
-use Rattle.picture_text.specs.Open.{same_span, same_spans, stack_of}
-use Rattle.picture_text.specs.Reading.{read_events}
+use Rattle.picture_text.specs.Open.{same_span, same_spans}
+use Rattle.picture_text.specs.Reading.{read_events, stack_of}
 
 -- ---- spans that the test finds the same are equal
 

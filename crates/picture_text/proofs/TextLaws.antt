@@ -27,3 +27,8 @@ pictured entries drawn text is h = h ∙ (λ i. text_of (sym (reverse-reverse en
 pub line_parts : (a l b d c n k u : List ℕ)
     → ((((a ++ l) ++ (b ++ (d ++ c))) ++ n) ++ k) ++ u ≡ ((((((a ++ l) ++ b) ++ d) ++ c) ++ n) ++ k) ++ u
 line_parts a l b d c n k u = simp append_assoc
+
+-- .. of a counter's line
+pub count_parts : (a l b d c n g v z : List ℕ)
+    → (a ++ l) ++ (b ++ (d ++ (c ++ (n ++ (g ++ (v ++ z)))))) ≡ (((((((a ++ l) ++ b) ++ d) ++ c) ++ n) ++ g) ++ v) ++ z
+count_parts a l b d c n g v z = simp append_assoc

@@ -1,5 +1,5 @@
 -- The times of events never fall.
-use Rattle.std.proofs.Common.{◌≡◌, ℕ, ◌+◌, ◌≤◌, ◌||◌, not, Bool, true, false, List, [], ◌∷◌, ◌++◌, length, Option, Some, None, arith, subst}
+use Rattle.std.proofs.Common.{◌≡◌, ◌==◌, ℕ, ◌+◌, ◌≤◌, ◌||◌, not, Bool, true, false, if◌then◌else◌, List, [], ◌∷◌, ◌++◌, length, Option, Some, None, arith, subst}
 use Rattle.sgx_rules.specs.declared.entries.Entry.{Entry}
 use Rattle.trace_places.specs.Places.{change_after}
 use Rattle.picture_text.specs.declared.events.Lane.{Lane}
@@ -7,7 +7,12 @@ use Rattle.picture_text.specs.declared.events.Open.{Open}
 use Rattle.picture_text.specs.declared.events.PictureEvent.{PictureEvent}
 use Rattle.picture_text.specs.declared.events.Span.{Span}
 use Rattle.picture_text.specs.Events.{ends, begins, steps, lane_of, frame_in, frame_lane, page_lane, pages_by, steps_on}
-use Rattle.picture_text.specs.Events.{events_after, events_of}
+use Rattle.picture_text.specs.declared.counts.Counts.{Counts}
+use Rattle.picture_text.specs.declared.events.Counter.{Counter}
+use Rattle.picture_text.specs.declared.events.Counter.TheVariants as counters
+use Rattle.picture_text.specs.declared.events.Lane.TheVariants as lanes
+use Rattle.picture_text.specs.declared.events.Mark.TheVariants as marks
+use Rattle.picture_text.specs.Events.{count_to, counts_of, counts_to, events_after, events_by, events_of, marked}
 use Rattle.picture_text.specs.Open.{same_spans, open_on}
 use Rattle.picture_text.specs.Reading.{time_of, NeverFall}
 
@@ -70,10 +75,27 @@ after_lie past e =
     (on_lie past e (page_lane pages.former))) (on_lie past e (page_lane pages.named)) in
     (same n, lie_sooner (n + 1) n (n + 1) _ (omega arith) all)
 
+count_lie : (place : ℕ) (counter : Counter) (before value : ℕ) → Lie (place + 1) (place + 1) (count_to place counter before value)
+count_lie place counter before value = by_test (before == value)
+  where
+    by_test : (b : Bool) → Lie (place + 1) (place + 1) (if b then [] else marked place lanes.Counters (marks.Counts counter value) ∷ [])
+    by_test true = same (place + 1)
+    by_test false = (same (place + 1), same (place + 1))
+
+counts_lie : (place : ℕ) (a b : Counts) → Lie (place + 1) (place + 1) (counts_to place a b)
+counts_lie place a b =
+    joined place lanes.Counters _ _ (joined place lanes.Counters _ _ (count_lie place counters.Frames a.frames b.frames)
+    (count_lie place counters.Pages a.pages b.pages)) (count_lie place counters.Version a.version b.version)
+
+by_lie : (past : List Entry) (e : Entry) → Lie (length past) (length past + 1) (events_by past e)
+by_lie past e =
+    lie_append (length past) (length past + 1) (length past + 1) (events_after past e) _ (after_lie past e)
+    (counts_lie (length past) (counts_of past) (counts_of (e ∷ past)))
+
 all_lie : (past : List Entry) → Lie 0 (length past) (events_of past)
 all_lie [] = same 0
 all_lie (e ∷ past) =
-    let rest = lie_append 0 (length past) (length past + 1) (events_of past) (events_after past e) (all_lie past) (after_lie past e) in
+    let rest = lie_append 0 (length past) (length past + 1) (events_of past) (events_by past e) (all_lie past) (by_lie past e) in
     let is : length past + 1 ≡ length (e ∷ past) = omega arith in
     let Is : ℕ → Type 0 = λ n. Lie 0 n (events_of (e ∷ past)) in subst Is is rest
 

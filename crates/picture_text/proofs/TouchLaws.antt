@@ -12,8 +12,8 @@ use Rattle.picture_text.specs.declared.events.PictureEvent.{PictureEvent}
 use Rattle.picture_text.specs.declared.events.Span.{Span}
 use Rattle.picture_text.specs.Events.{steps_on, frame_lane, page_lane}
 use Rattle.picture_text.specs.Lanes.{same_lane}
-use Rattle.picture_text.specs.Open.{open_on, stack_of}
-use Rattle.picture_text.specs.Reading.{read_events}
+use Rattle.picture_text.specs.Open.{open_on}
+use Rattle.picture_text.specs.Reading.{read_events, stack_of}
 use Rattle.picture_text.proofs.StepLaws.{hit_steps, miss_steps, read_append}
 
 same_cpus : (p q : Cpu) → p.0 ≡ q.0 → p ≡ q
@@ -29,6 +29,7 @@ same_lanes (lanes.Frame f) (lanes.Frame k) h = ap lanes.Frame (same_frames f k (
 same_lanes (lanes.Page g) (lanes.Page k) h = ap lanes.Page (same_pages g k h)
 same_lanes lanes.Builder lanes.Builder h = refl
 same_lanes lanes.Reclaimer lanes.Reclaimer h = refl
+same_lanes lanes.Counters lanes.Counters h = refl
 same_lanes a b h = absurd (false≢true h)
 
 module _ (past : List Entry) (e : Entry) where

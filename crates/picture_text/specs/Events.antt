@@ -1,7 +1,9 @@
 -- The events of a picture: what each entry does, and what begins and ends behind it. Entries stand newest first, events oldest first.
-use Rattle.std.specs.Prelude.{ℕ, ◌||◌, not, Bool, if◌then◌else◌, List, [], ◌∷◌, ◌++◌, length, Option, Some, None}
+use Rattle.std.specs.Prelude.{ℕ, ◌+◌, ◌-◌, ◌==◌, ◌||◌, not, Bool, true, false, if◌then◌else◌, List, [], ◌∷◌, ◌++◌, length, Option}
+use Rattle.std.specs.Prelude.{Some, None, is_some}
 use Rattle.sgx_rules.specs.declared.entries.Action.{Action}
 use Rattle.sgx_rules.specs.declared.entries.Action.TheVariants as actions
+use Rattle.sgx_rules.specs.declared.entries.Answer.TheVariants as answers
 use Rattle.sgx_rules.specs.declared.entries.Entry.{Entry}
 use Rattle.sgx_rules.specs.declared.entries.Event.{Event}
 use Rattle.sgx_rules.specs.declared.entries.Event.TheVariants.{Did, Refused}
@@ -11,8 +13,10 @@ use Rattle.sgx_types.specs.declared.names.Frame.{Frame}
 use Rattle.sgx_types.specs.declared.names.Page.{Page}
 use Rattle.trace_places.specs.declared.change.Change.{Change}
 use Rattle.trace_places.specs.declared.moves.MayMove.{MayMove}
-use Rattle.trace_places.specs.Places.{change_after, frame_changed, tenant}
-use Rattle.trace_places.specs.inner.Tables.{page_at_frame, page_named, other_than}
+use Rattle.trace_places.specs.Places.{change_after, frame_changed, tenant, page_at_frame, page_named, other_than}
+use Rattle.picture_text.specs.declared.counts.Counts.{Counts}
+use Rattle.picture_text.specs.declared.events.Counter.{Counter}
+use Rattle.picture_text.specs.declared.events.Counter.TheVariants as counters
 use Rattle.picture_text.specs.declared.events.Lane.{Lane}
 use Rattle.picture_text.specs.declared.events.Lane.TheVariants as lanes
 use Rattle.picture_text.specs.declared.events.Mark.{Mark}
@@ -20,7 +24,8 @@ use Rattle.picture_text.specs.declared.events.Mark.TheVariants as marks
 use Rattle.picture_text.specs.declared.events.Open.{Open}
 use Rattle.picture_text.specs.declared.events.PictureEvent.{PictureEvent}
 use Rattle.picture_text.specs.declared.events.Span.{Span}
-use Rattle.picture_text.specs.Open.{open_on, same_spans}
+use Rattle.picture_text.specs.declared.events.Span.TheVariants as spans
+use Rattle.picture_text.specs.Open.{open_if, open_on, same_spans}
 
 abbrev pub marked : ℕ → Lane → Mark → PictureEvent
 marked place lane mark = record { place = place; lane = lane; mark = mark }
@@ -105,7 +110,64 @@ events_after past e =
     ++ steps_on past e (page_lane (pages_by past (change_after past e)).former)
     ++ steps_on past e (page_lane (pages_by past (change_after past e)).named))
 
+-- ---- what is counted
+
+-- a frame has a page, or awaits one
+abbrev pub in_use : Open → Bool
+in_use on = is_some on.outer
+
+abbrev pub is_sealed : Option Span → Bool
+is_sealed (Some (spans.Sealed version)) = true
+is_sealed _ = false
+
+-- a page is outside
+abbrev pub is_outside : Open → Bool
+is_outside on = is_sealed on.outer
+
+-- one more where something counts from now on, and one less where it counts no more
+abbrev pub more_or_less : Bool → Bool → ℕ → ℕ
+more_or_less false true count = count + 1
+more_or_less true false count = count - 1
+more_or_less before after count = count
+
+-- .. by a lane, and what is open on it before and behind the next entry
+abbrev pub counted : (Open → Bool) → List Entry → Entry → Option Lane → ℕ → ℕ
+counted test past e lane count = more_or_less (test (open_if past lane)) (test (open_if (e ∷ past) lane)) count
+
+-- the version that a start of EWB drew
+abbrev pub version_after : Event → ℕ → ℕ
+version_after (Did (actions.EwbStart f slot) (answers.Version version)) before = version
+version_after event before = before
+
+-- the frames in use, the pages outside, and the version that was drawn last
+abbrev pub counts_of : List Entry → Counts
+counts_of [] = record { frames = 0; pages = 0; version = 0 }
+counts_of (e ∷ past) =
+    let pages = pages_by past (change_after past e) in
+    let before = counts_of past in
+    record {
+      frames = counted in_use past e (frame_lane (frame_in e.event)) before.frames;
+      pages = counted is_outside past e (page_lane pages.named) (counted is_outside past e (page_lane pages.former) before.pages);
+      version = version_after e.event before.version;
+    }
+
+abbrev pub count_to : ℕ → Counter → ℕ → ℕ → List PictureEvent
+count_to place counter before value = if before == value then [] else marked place lanes.Counters (marks.Counts counter value) ∷ []
+
+-- the counters that an entry at a place changes
+abbrev pub counts_to : ℕ → Counts → Counts → List PictureEvent
+counts_to place before after =
+    count_to place counters.Frames before.frames after.frames
+    ++ count_to place counters.Pages before.pages after.pages
+    ++ count_to place counters.Version before.version after.version
+
+-- ---- all
+
+-- an entry's events, and then the counters that it changes
+abbrev pub events_by : List Entry → Entry → List PictureEvent
+events_by past e = events_after past e ++ counts_to (length past) (counts_of past) (counts_of (e ∷ past))
+
 -- those of an entry stand behind those of the entries before it
 abbrev pub events_of : List Entry → List PictureEvent
 events_of [] = []
-events_of (e ∷ past) = events_of past ++ events_after past e
+events_of (e ∷ past) = events_of past ++ events_by past e

@@ -12,6 +12,7 @@ process (lanes.Frame f) = 2
 process (lanes.Page g) = 3
 process lanes.Builder = 4
 process lanes.Reclaimer = 4
+process lanes.Counters = 4
 
 abbrev pub key : ℕ → ℕ → ℕ → LaneKey
 key group enclave number = record { group = group; enclave = enclave; number = number }
@@ -22,6 +23,7 @@ lane_key (lanes.Frame f) = key 2 0 f.0
 lane_key (lanes.Page g) = key 3 g.enclave g.number
 lane_key lanes.Builder = key 4 0 0
 lane_key lanes.Reclaimer = key 4 0 1
+lane_key lanes.Counters = key 4 0 2
 
 abbrev pub same_key : LaneKey → LaneKey → Bool
 same_key a b = (a.group == b.group) && ((a.enclave == b.enclave) && (a.number == b.number))

@@ -1,5 +1,5 @@
 -- The spans that are open on the lanes of a picture behind entries, which stand newest first. No rule is asked of them.
-use Rattle.std.specs.Prelude.{◌==◌, ◌&&◌, Bool, true, false, if◌then◌else◌, List, ◌++◌, Option, Some, None, option_to_list}
+use Rattle.std.specs.Prelude.{◌==◌, ◌&&◌, Bool, true, false, if◌then◌else◌, List, Option, Some, None}
 use Rattle.sgx_rules.specs.declared.entries.Entry.{Entry}
 use Rattle.sgx_rules.specs.Frames.{is_blocked, is_sealing}
 use Rattle.sgx_rules.specs.Processors.{Stay, stay}
@@ -50,10 +50,12 @@ open_on past (lanes.Frame f) = record {
 open_on past (lanes.Page g) = only (stands (place_of past g))
 open_on past lanes.Builder = only None
 open_on past lanes.Reclaimer = only None
+open_on past lanes.Counters = only None
 
--- .. as they lie within one another, the innermost first
-abbrev pub stack_of : Open → List Span
-stack_of open_spans = option_to_list open_spans.inner ++ (option_to_list open_spans.middle ++ option_to_list open_spans.outer)
+-- .. and none where there is no lane
+abbrev pub open_if : List Entry → Option Lane → Open
+open_if past None = only None
+open_if past (Some lane) = open_on past lane
 
 -- ---- the same
 

@@ -10,6 +10,8 @@ use Rattle.text_words.specs.Words.{Words, enclave_word}
 use Rattle.trace_text.specs.declared.edition.Edition.TheVariants as editions
 use Rattle.trace_text.specs.Fields.{action_fields, page_words, words_of}
 use Rattle.trace_text.specs.TraceText.{spelling}
+use Rattle.picture_text.specs.declared.events.Counter.{Counter}
+use Rattle.picture_text.specs.declared.events.Counter.TheVariants as counters
 use Rattle.picture_text.specs.declared.events.Lane.{Lane}
 use Rattle.picture_text.specs.declared.events.Lane.TheVariants as lanes
 use Rattle.picture_text.specs.declared.events.Mark.{Mark}
@@ -50,6 +52,12 @@ lane_words (lanes.Frame f) = codes "frame" ∷ decimal f.0 ∷ []
 lane_words (lanes.Page g) = page_words editions.Two g
 lane_words lanes.Builder = codes "builder" ∷ []
 lane_words lanes.Reclaimer = codes "reclaimer" ∷ []
+lane_words lanes.Counters = codes "counters" ∷ []
+
+abbrev pub counter_name : Counter → List ℕ
+counter_name counters.Frames = codes "frames in use"
+counter_name counters.Pages = codes "pages outside"
+counter_name counters.Version = codes "version"
 
 -- one space between two words
 abbrev pub shown : Words → List ℕ
@@ -68,6 +76,7 @@ thread known (lanes.Frame f) = f.0 + 1
 thread known (lanes.Page g) = number_or_none (number_in known (lanes.Page g))
 thread known lanes.Builder = 1
 thread known lanes.Reclaimer = 2
+thread known lanes.Counters = 0
 
 -- which lane
 abbrev pub on_lane : List Lane → Lane → List ℕ
@@ -86,6 +95,9 @@ mark_text known e place lane marks.Ends =
 mark_text known e place lane marks.Does =
     codes "{\"ph\":\"X\"," ++ on_lane known lane ++ codes ",\"ts\":" ++ decimal place
     ++ codes ",\"dur\":1,\"name\":\"" ++ shown (event_words e.event) ++ codes "\"" ++ cause e place
+mark_text known e place lane (marks.Counts counter value) =
+    codes "{\"ph\":\"C\"," ++ on_lane known lane ++ codes ",\"ts\":" ++ decimal (place + 1)
+    ++ codes ",\"name\":\"" ++ counter_name counter ++ codes "\",\"args\":{\"n\":" ++ decimal value ++ codes "}},\n"
 
 abbrev pub text_by : List Lane → PictureEvent → Option Entry → List ℕ
 text_by known event None = []

@@ -1,11 +1,12 @@
 //! The events of a trace.
 
-ghost use Rattle.std.specs.Prelude.{◌≡◌, ◌∷◌, ◌++◌, length, reverse, List, IfOk, OnOk};
+ghost use Rattle.std.specs.Prelude.{◌≡◌, ◌∷◌, ◌++◌, ◌≤◌, ◌<◌, ◌+◌, ◌*◌, ◌^◌, length, reverse, List, IfOk, OnOk};
 ghost use Rattle.sgx_rules.specs.declared.entries.Entry.{Entry};
-ghost use Rattle.picture_text.specs.Events.{events_after, events_of};
+ghost use Rattle.picture_text.specs.Events.{counts_of, events_by, events_of};
 ghost use Rattle.picture_text.specs.inner.Following.{Follows};
 ghost use Rattle.picture_text.specs.inner.Steps.{drawn, seen_on, touched_by};
 
+use crate::counts::{Counts, counts_after, push_counts};
 use crate::events::{Lane, Mark, Open, PictureEvent};
 use crate::leaving::frame_in;
 use crate::open_spans::{OpenSpans, frame_lane, lane_of, page_lane};
@@ -23,13 +24,13 @@ struct Touched {
     named: Option<Lane>,
 }
 
-// What is open on them.
+/// What is open on the lanes on which an entry may begin or end something.
 #[derive(Clone, Copy)]
-struct Seen {
-    actor: Open,
-    frame: Open,
-    former: Open,
-    named: Open,
+pub(crate) struct Seen {
+    pub actor: Open,
+    pub frame: Open,
+    pub former: Open,
+    pub named: Open,
 }
 
 /// The events of entries, any at all, which stand oldest first. An entry takes the time that a push into `Places` takes.
@@ -37,9 +38,10 @@ pub fn events_of(alloc: Global, entries: &[Entry]) -> Result<Vec<PictureEvent>, 
     ensures { IfOk result (λ events. events.items ≡ events_of (reverse entries.now)) }
 {
     let mut spans = OpenSpans::new(alloc);
+    let mut counts = Counts::ZERO;
     let mut events = Vec::new(alloc);
     for (place, entry) in entries.iter().enumerate() {
-        push_entry(alloc, place, entry, &mut spans, &mut events)?;
+        push_entry(alloc, place, entry, &mut spans, &mut counts, &mut events)?;
     }
     Ok(events)
 }
@@ -50,17 +52,29 @@ fn push_entry(
     place: usize,
     entry: &Entry,
     spans: &mut OpenSpans,
+    counts: &mut Counts,
     events: &mut Vec<PictureEvent>,
 ) -> Result<(), Memory>
+    requires few { place + 1 < 2 ^ 63 }
+    requires frames { counts.old.frames ≤ place }
+    requires pages { counts.old.pages ≤ 2 * place }
     ensures follows { OnOk result ((past : List Entry) → Follows spans.old past → Follows spans.new (entry.now ∷ past)) }
-    ensures events { OnOk result ((past : List Entry) → Follows spans.old past → place ≡ length past
-        → events.new.items ≡ events.old.items ++ events_after past entry.now) }
+    ensures counts { OnOk result ((past : List Entry) → Follows spans.old past → counts.old ≡ counts_of past
+        → counts.new ≡ counts_of (entry.now ∷ past)) }
+    ensures frames { OnOk result (counts.new.frames ≤ place + 1) }
+    ensures pages { OnOk result (counts.new.pages ≤ 2 * (place + 1)) }
+    ensures events { OnOk result ((past : List Entry) → Follows spans.old past → counts.old ≡ counts_of past → place ≡ length past
+        → events.new.items ≡ events.old.items ++ events_by past entry.now) }
 {
     let lanes = lanes_of(entry, spans);
     let before = see(&lanes, spans);
     spans.push(alloc, entry)?;
     let after = see(&lanes, spans);
-    push_events(place, &lanes, &before, &after, events)
+    push_events(place, &lanes, &before, &after, events)?;
+    let counted = counts_after(*counts, &entry.event, &before, &after);
+    push_counts(place, counts, &counted, events)?;
+    *counts = counted;
+    Ok(())
 }
 
 fn lanes_of(entry: &Entry, spans: &OpenSpans) -> Touched

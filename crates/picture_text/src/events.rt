@@ -10,6 +10,9 @@ pub enum Lane {
     Page(Page),
     Builder,
     Reclaimer,
+
+    /// What is counted, beside the driver's lanes.
+    Counters,
 }
 
 /// What is so from one place of a trace to another.
@@ -40,12 +43,27 @@ pub enum Span {
     Sealed { version: u64 },
 }
 
-/// What an event does on its lane: a span begins, the innermost open one ends, or the entry itself stands there.
+/// What is counted along a trace.
+#[derive(Clone, Copy, Debug, PartialEq, Eq)]
+pub enum Counter {
+    /// The frames that have a page or await one.
+    Frames,
+
+    /// The pages that are outside, sealed.
+    Pages,
+
+    /// The version that the newest start of a write-out drew.
+    Version,
+}
+
+/// What an event does on its lane: a span begins, the innermost open one ends, the entry itself stands there, or a counter has another
+/// value from now on.
 #[derive(Clone, Copy, Debug, PartialEq, Eq)]
 pub enum Mark {
     Begins(Span),
     Ends,
     Does,
+    Counts { counter: Counter, value: u64 },
 }
 
 /// An event, and the place of the entry that causes it: how many entries were before that one. An entry at place n lies at [n, n + 1);

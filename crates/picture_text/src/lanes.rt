@@ -28,6 +28,7 @@ fn lane_key(lane: Lane) -> LaneKey
         Lane::Page(page) => (page.enclave, page.number),
         Lane::Builder => (0, 0),
         Lane::Reclaimer => (0, 1),
+        Lane::Counters => (0, 2),
     };
     LaneKey {
         group: process(lane),
@@ -46,6 +47,7 @@ pub(crate) fn process(lane: Lane) -> u8
         Lane::Page(_) => 3,
         Lane::Builder => 4,
         Lane::Reclaimer => 4,
+        Lane::Counters => 4,
     }
 }
 
@@ -99,6 +101,7 @@ impl Lanes {
             Lane::Page(_) => self.number(lane),
             Lane::Builder => 1,
             Lane::Reclaimer => 2,
+            Lane::Counters => 0,
         }
     }
 

@@ -1,7 +1,8 @@
-// A picture of a trace, as text in the Trace Event Format: lanes of processors, frames, pages and the driver, and what begins, ends and
-// happens on them.
+// A picture of a trace, as text in the Trace Event Format: lanes of processors, frames, pages and the driver, what begins, ends and happens
+// on them, and counters.
 #![tactic(auto)]
 
+mod counts;
 pub mod drawing;
 pub mod events;
 pub mod lanes;

@@ -13,7 +13,7 @@ ghost use Rattle.picture_text.specs.inner.Parts.{parts_room, parts_text};
 
 use crate::events::{Lane, Mark, PictureEvent, Span};
 use crate::lanes::{Lanes, process};
-use crate::names::action_name;
+use crate::names::{action_name, counter_name};
 use sgx_rules::entries::{Entry, Event};
 use sgx_types::names::Page;
 use text_words::words::Word::{self, Decimal, Enclave, Name};
@@ -158,6 +158,22 @@ fn write_event(entry: &Entry, known: &Lanes, event: &PictureEvent, onto: &mut Ve
             write_parts(&[Name("\"")], onto);
             write_cause(entry, event.place, onto);
         }
+        Mark::Counts { counter, value } => {
+            write_parts(&[Name("{\"ph\":\"C\",")], onto);
+            write_lane(known, event.lane, onto);
+            write_parts(
+                &[
+                    Name(",\"ts\":"),
+                    Decimal(behind),
+                    Name(",\"name\":\""),
+                    Name(counter_name(counter)),
+                    Name("\",\"args\":{\"n\":"),
+                    Decimal(value),
+                    Name("}},\n"),
+                ],
+                onto,
+            );
+        }
     }
 }
 
@@ -299,5 +315,6 @@ fn write_lane_name(lane: Lane, onto: &mut Vec<u8>)
         Lane::Page(page) => write_page(page, onto),
         Lane::Builder => write_name(Name("builder"), &[], onto),
         Lane::Reclaimer => write_name(Name("reclaimer"), &[], onto),
+        Lane::Counters => write_name(Name("counters"), &[], onto),
     }
 }

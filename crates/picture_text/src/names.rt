@@ -1,8 +1,9 @@
-//! The names of instructions.
+//! The names of instructions and counters.
 
 ghost use Rattle.std.specs.Prelude.{◌≡◌, ◌≤◌, [], ◌∷◌, length};
-ghost use Rattle.picture_text.specs.PictureText.{action_name};
+ghost use Rattle.picture_text.specs.PictureText.{action_name, counter_name};
 
+use crate::events::Counter;
 use sgx_rules::entries::Action;
 
 /// The name of an instruction, without its operands.
@@ -35,5 +36,17 @@ pub(crate) fn action_name(action: &Action) -> &'static str
         Action::Ewb { .. } => "ewb",
         Action::EldStart { .. } => "eldstart",
         Action::Eld { .. } => "eld",
+    }
+}
+
+/// The name of a counter.
+pub(crate) fn counter_name(counter: Counter) -> &'static str
+    ensures name { counter_name counter ≡ result.now }
+    ensures short { length result.now ≤ 16 }
+{
+    match counter {
+        Counter::Frames => "frames in use",
+        Counter::Pages => "pages outside",
+        Counter::Version => "version",
     }
 }

@@ -4,8 +4,8 @@ ghost use Rattle.std.specs.Prelude.{◌≡◌, ◌∷◌, [], if◌then◌else�
 ghost use Rattle.sgx_rules.specs.declared.entries.Entry.{Entry};
 ghost use Rattle.trace_places.specs.Places.{change_after};
 ghost use Rattle.picture_text.specs.Events.{frame_in, frame_lane, lane_of, page_lane, pages_by};
-ghost use Rattle.picture_text.specs.Open.{only, open_on, sits, stands, when_so};
-ghost use Rattle.picture_text.specs.inner.Following.{Follows, open_if};
+ghost use Rattle.picture_text.specs.Open.{only, open_if, open_on, sits, stands, when_so};
+ghost use Rattle.picture_text.specs.inner.Following.{Follows};
 
 use crate::events::{Lane, Open, Span};
 use crate::leaving::{Leavings, frame_in};
@@ -123,6 +123,7 @@ impl OpenSpans {
             Lane::Page(page) => only(stands(self.places.where_is(page))),
             Lane::Builder => only(None),
             Lane::Reclaimer => only(None),
+            Lane::Counters => only(None),
         }
     }
 

@@ -1,5 +1,12 @@
-// Tests of where pages are in a trace. They push rows, which are constants, in one loop each.
+// Tests of what is told of a trace: where pages are, its picture, its fewest loads; and of flat memory. They go along rows, which are
+// constants, in one loop each.
 #![tactic(auto)]
 
 #[cfg(test)]
-mod tests;
+mod flat;
+#[cfg(test)]
+mod least;
+#[cfg(test)]
+mod pictures;
+#[cfg(test)]
+mod queries;

@@ -88,9 +88,9 @@ lawful c actor action k = by_actor actor k.due
         record { can = both.0; plain = both.1.0; other = refl; among = within }
     by_actor actors.Reclaimer due = absurd due
 
--- it loads no version array page, and makes one only where fewer were made than the job has
+-- a version array page is made only where fewer were made than the job has
 pub can_move : (c : Course) (actor : Actor) (action : Action) → CanInstruct c actor action → CanMove (state_of c.machine) action
-can_move c actor action k = by_action action (lawful c actor action k).plain
+can_move c actor action k = by_action action
   where
     few : (state_of c.machine).vas_made < 2 ^ 32
     few =
@@ -99,10 +99,9 @@ can_move c actor action k = by_action action (lawful c actor action k).plain
         let low : vas_made (past_of c) ≤ va_pages c.job = arrays_few c.job (past_of c) book.agrees.built in
         omega (arith, made, low, book.turns.valid.enough_frames, book.turns.valid.few_frames)
 
-    by_action : (x : Action) → is_plain x ≡ true → CanMove (state_of c.machine) x
-    by_action (Epa f) plain = few
-    by_action (EldStart f page slot) plain = absurd (false≢true plain)
-    by_action x plain = tt
+    by_action : (x : Action) → CanMove (state_of c.machine) x
+    by_action (Epa f) = few
+    by_action x = tt
 
 -- nothing was used up before an instruction that is due
 going_by : (j : JobView) (past : List Entry) (a : Actor) (action : Action) (due : Due)

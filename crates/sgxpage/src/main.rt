@@ -93,7 +93,8 @@ fn trace_path(words: &[String]) -> &str {
                 | Command::Audit
                 | Command::Least
                 | Command::Ask { .. }
-                | Command::Migrate,
+                | Command::Migrate
+                | Command::Picture,
             ),
             Some(path),
         ) => path.as_str(),

@@ -1,5 +1,11 @@
-// Tests of the texts of entries and of traces, whole and in pieces, and of the words of the command line.
+// Tests of texts: of jobs as read, printed and made, of entries and traces, whole and in pieces, and of the words of the command line.
 #![tactic(auto)]
 
 #[cfg(test)]
-mod tests;
+mod jobs;
+#[cfg(test)]
+mod makes;
+#[cfg(test)]
+mod prints;
+#[cfg(test)]
+mod texts;

@@ -34,7 +34,7 @@ use Rattle.turn_rules.specs.Script.{action_of, build_of, built, with_frame}
 use Rattle.paging_laws.specs.inner.Histories.{StandsWithAllRules}
 use Rattle.paging_laws.specs.inner.Notes.{IsNote}
 use Rattle.paging_laws.specs.inner.State.{State}
-use Rattle.paging_laws.specs.inner.Steps.{CanApply, IsStep, is_of_cpus}
+use Rattle.paging_laws.specs.inner.Steps.{CanApply, CanBring, IsStep, is_of_cpus}
 use Rattle.paging_laws.proofs.ColumnLaws.{start_is}
 use Rattle.paging_machine.specs.declared.starts.Start as starts
 use Rattle.paging_machine.specs.inner.Parts.{Parts, start_of, state_of}
@@ -52,6 +52,7 @@ use Rattle.turn_tables.proofs.OrderLaws.{enters_apart}
 use Rattle.audit_rules.proofs.OrderLaws.{refusal_fails}
 use Rattle.audit_machine.specs.inner.Asked.{Breaks, GoesOnWith, HasLeft, IsDoneBack, IsOwnRecord, Takes, TakesBack}
 use Rattle.audit_machine.specs.declared.coming.Back.TheVariants as backs
+use Rattle.audit_machine.proofs.ComeLaws.{can_bring}
 use Rattle.audit_records.specs.inner.Kept.{HasOwnRecord, KeepsRecords, Records, is_ewb, records_of, with_record, without_record}
 use Rattle.audit_records.proofs.OwnLaws.{own_is_kept}
 use Rattle.audit_records.proofs.StayLaws.{goes_on, no_action, not_ewb, own_records, record_again, record_back, record_left}
@@ -353,6 +354,11 @@ module _ (a : Auditing) (e : Entry) (can : CanAsk a e) where
 
         pub own_work : IsOwnRecord j.key past f.0 work.rec
         own_work = subst (IsOwnRecord j.key past f.0) (sym rec_is) its_own.own
+
+        -- the machine may be asked for the end of its load
+        pub own_comes : CanBring (state_of a.machine) f.0
+        own_comes =
+            can_bring (machine_of j) (state_of a.machine) past (made_by j.key past) f work.rec can.trace.stands own_work
 
         pub back : (new : Auditing) → StandsWithAllRules (machine_of j) (state_of new.machine) (e ∷ past) (made_by j.key past)
             → IsDoneBack e.event f → length new.machine.cpus ≡ length a.machine.cpus

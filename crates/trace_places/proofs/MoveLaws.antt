@@ -16,12 +16,11 @@ use Rattle.trace_places.specs.declared.moves.Where.{Where}
 use Rattle.trace_places.specs.declared.moves.Where.TheVariants.{Nowhere, At, Loading, Sealed}
 use Rattle.trace_places.specs.declared.places.Places.{Places}
 use Rattle.trace_places.specs.Places.{frame_changed, tenant_of, gone_of, is_tenant, least, version_by, where_by}
-use Rattle.trace_places.specs.Places.{same_where, moved}
+use Rattle.trace_places.specs.Places.{same_where, moved, page_of, page_at_frame, gone_page, page_named, is_page, unless_same, other_than}
 use Rattle.trace_places.specs.declared.moves.MayMove.{MayMove}
 use Rattle.trace_places.specs.Moves.{move_of, IsMoveOf, AreMovesOf}
 use Rattle.trace_places.specs.inner.Frames.{frames_in}
-use Rattle.trace_places.specs.inner.Tables.{tenant_in, gone_in, place_in, Makes, frames_with, page_of, page_at_frame, gone_page}
-use Rattle.trace_places.specs.inner.Tables.{page_named, is_page, unless_same, other_than, seen_in, move_to, move_in}
+use Rattle.trace_places.specs.inner.Tables.{tenant_in, gone_in, place_in, Makes, frames_with, seen_in, move_to, move_in}
 
 -- ---- pages that stay
 

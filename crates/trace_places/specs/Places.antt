@@ -171,3 +171,35 @@ moved before after = if same_where before after then None else Some after
 -- where the next entry moves a page to
 abbrev pub moved_by : List Entry → Entry → Page → Option Where
 moved_by past e g = moved (place_of past g) (place_of (e ∷ past) g)
+
+-- ---- the pages of a change
+
+abbrev pub page_of : Tenant → Page
+page_of (Has g) = g
+page_of (Awaits g) = g
+
+-- the page of a frame's tenant
+abbrev pub page_at_frame : Option Tenant → Option Page
+page_at_frame None = None
+page_at_frame (Some t) = Some (page_of t)
+
+abbrev pub gone_page : Option Gone → Option Page
+gone_page None = None
+gone_page (Some went) = Some went.page
+
+-- the page that a change names
+abbrev pub page_named : Change → Option Page
+page_named (Puts f t) = Some (page_of t)
+page_named (Empties f went) = gone_page went
+
+abbrev pub is_page : Option Page → Page → Bool
+is_page None g = false
+is_page (Some page) g = same_page page g
+
+abbrev pub unless_same : Option Page → Page → Option Page
+unless_same former g = if is_page former g then None else Some g
+
+-- a page, None where it is the former one
+abbrev pub other_than : Option Page → Option Page → Option Page
+other_than former None = None
+other_than former (Some g) = unless_same former g

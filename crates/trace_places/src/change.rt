@@ -2,7 +2,7 @@
 
 ghost use Rattle.std.specs.Prelude.{◌≡◌, ℕ};
 ghost use Rattle.sgx_rules.specs.Frames.{vas_after};
-ghost use Rattle.trace_places.specs.inner.Tables.{page_of, gone_page, page_named, other_than};
+ghost use Rattle.trace_places.specs.Places.{page_of, gone_page, page_named, other_than};
 ghost use Rattle.trace_places.specs.Places.{frame_changed, change_by, done_change, put, va_change, loaded, gone_by, va_number};
 
 use sgx_rules::entries::{Action, Answer, Event};

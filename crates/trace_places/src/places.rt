@@ -3,10 +3,10 @@
 ghost use Rattle.std.specs.Prelude.{◌≡◌, ◌≤◌, ◌∷◌, [], Some, List, IfOk, OnOk, OnErr, option_to_list};
 ghost use Rattle.sgx_rules.specs.declared.entries.Entry.{Entry};
 ghost use Rattle.sgx_types.specs.declared.names.Page.{Page};
-ghost use Rattle.trace_places.specs.Places.{place_of, moved, moved_by, tenant, version_by};
+ghost use Rattle.trace_places.specs.Places.{page_at_frame, place_of, moved, moved_by, tenant, version_by};
 ghost use Rattle.trace_places.specs.Moves.{moves_of, AreMovesOf};
 ghost use Rattle.trace_places.specs.inner.Tables.{page_key, place_in, seen_in, move_in, Stands, HasRoom, HasRoomToMake, Makes};
-ghost use Rattle.trace_places.specs.inner.Tables.{page_at_frame, pages_in, may_move, tenant_in, gone_in};
+ghost use Rattle.trace_places.specs.inner.Tables.{pages_in, may_move, tenant_in, gone_in};
 ghost use Rattle.std.specs.HashMap.{spare};
 ghost use Rattle.trace_places.specs.declared.change.Change.TheVariants as changes;
 

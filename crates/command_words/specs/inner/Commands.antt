@@ -9,6 +9,7 @@ IsSized commands.Run = Unit {0}
 IsSized commands.Least = Unit {0}
 IsSized commands.Audit = Unit {0}
 IsSized commands.Migrate = Unit {0}
+IsSized commands.Picture = Unit {0}
 IsSized (commands.Ask question) = Unit {0}
 IsSized (commands.Make number size) = (4 ≤ size) × (size ≤ 2000)
 IsSized (commands.Demo number size) = (4 ≤ size) × (size ≤ 2000)

@@ -23,7 +23,7 @@ use Rattle.paging_laws.specs.inner.Histories.{BringsArrayIn, BringsIn, StandsWit
 use Rattle.paging_laws.specs.inner.Notes.{IsDone}
 use Rattle.paging_laws.specs.inner.Shape.{FitsApart, ShapeWithRules}
 use Rattle.paging_laws.specs.inner.State.{State, making_of}
-use Rattle.paging_laws.specs.inner.Steps.{IsReloaded}
+use Rattle.paging_laws.specs.inner.Steps.{CanBring, IsReloaded}
 use Rattle.paging_machine.specs.inner.Parts.{Parts, state_of}
 use Rattle.slot_keeper.specs.inner.Keeper.{is_out}
 use Rattle.active_list.specs.inner.Keeping.{keeping, kept_at}
@@ -45,7 +45,7 @@ pub record IsToList (d : Driver) (page : Page) (frame : Frame) (slot : VaSlot) :
   pub absent : is_own_page page ≡ true → is_listed d.active.pages page ≡ false
   pub out : is_own_page page ≡ true → is_out d.slots slot ≡ true
 
--- a processor loads the page, a record is kept for it, and the frame waits for it
+-- a processor loads the page, a record is kept for it, the frame waits for it, and its load may end
 pub record CanFinish (cpu : Cpu) (page : Page) (d : Driver) (m : Parts) : Type 0 where
   pub frame : Frame
   pub slot : VaSlot
@@ -54,6 +54,7 @@ pub record CanFinish (cpu : Cpu) (page : Page) (d : Driver) (m : Parts) : Type 0
   pub kept : Sealed
   pub copy : kept_at d.kept cpu.0 ≡ Some (keeping page kept)
   pub waits : is_loading ((state_of m).content frame.0) ≡ true
+  pub apart : CanBring (state_of m) frame.0
 
 -- why a record is refused
 abbrev pub bus_why : Event → BusWhy

@@ -17,7 +17,7 @@ use Rattle.turn_rules.specs.Script.{frame_at}
 use Rattle.std.specs.Global.{Box}
 use Rattle.seal_record.specs.declared.unseal.UnsealWork.{UnsealWork}
 use Rattle.paging_laws.specs.inner.State.{State}
-use Rattle.paging_laws.specs.inner.Steps.{CanMove, IsStep}
+use Rattle.paging_laws.specs.inner.Steps.{IsStep}
 use Rattle.paging_machine.specs.inner.Parts.{Parts, state_of}
 use Rattle.backing_store.specs.Calls.{Call}
 use Rattle.backing_store.specs.inner.Calls.{told_got}
@@ -54,15 +54,10 @@ pub record CanAsk (d : Driver) (g : Page) : Type 0 where
   pub array : (slot : VaSlot) → page_state d.states g ≡ states.Away slot → is_own_page g ≡ true
       → IsPlaced d.states.counts (va_page slot.va)
 
--- no frame of the machine has the page, where it is a version array page
-abbrev pub IsNoArray : Parts → Page → Type 0
-IsNoArray m g = (f : Frame) (at : SlotAt) → CanMove (state_of m) (actions.EldStart f g at)
-
--- .. and the page that is asked for, where it is away, is in no frame, and has a slot in a version array page that is here
-pub record CanResolve (d : Driver) (m : Parts) (g : Page) : Type 0 where
+-- .. and the page that is asked for, where it is away, has a slot in a version array page that is here
+pub record CanResolve (d : Driver) (g : Page) : Type 0 where
   pub ask : CanAsk d g
   pub asked : IsPlaced d.states.counts (asked_in d g)
-  pub apart : (slot : VaSlot) → page_state d.states (asked_in d g) ≡ states.Away slot → IsNoArray m (asked_in d g)
   pub slot : (slot : VaSlot) → page_state d.states (asked_in d g) ≡ states.Away slot → IsPlaced d.states.counts (va_page slot.va)
   pub here : (slot : VaSlot) → page_state d.states (asked_in d g) ≡ states.Away slot → slot_here_in d slot ≡ None → ⊥
 

@@ -33,10 +33,10 @@ array_in (IsVa number) = Some number
 array_in (IsLoading page) = if is_va_page page then Some page.number else None
 array_in _ = None
 
--- each was made, and one frame at most holds it or waits for it
+-- each that a frame holds or waits for was made, and one frame at most holds it
 pub record ArraysApart (made : ℕ) (held : ℕ → Content) : Type 0 where
   pub below : (n number : ℕ) → array_in (held n) ≡ Some number → number < made
-  pub once : (m n number : ℕ) → array_in (held m) ≡ Some number → array_in (held n) ≡ Some number → m ≡ n
+  pub once : (m n number : ℕ) → held m ≡ IsVa number → held n ≡ IsVa number → m ≡ n
 
 -- the commits of an entry end open starts, as a machine's do whatever records are brought: that of a write-out of what its frame holds,
 -- which was on its way out, and that of a load of the page for which its frame waits

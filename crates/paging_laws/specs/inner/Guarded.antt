@@ -51,7 +51,7 @@ IsNamedRight (Holds page kind perm) = is_own_page page ≡ true
 IsNamedRight _ = Unit {0}
 
 -- of what frames hold: the pages of an enclave are there only while its SECS is in, no frame beyond the EPC holds anything, each version
--- array page was made, and one frame at most holds it or waits for it
+-- array page that one holds or waits for was made, and one frame at most holds it
 pub record FramesKept (frames vas : ℕ) (content : ℕ → Content) (is_sealing : ℕ → Bool) : Type 0 where
   pub covered : SecsCovers frames content is_sealing
   pub bounded : (n : ℕ) → frames ≤ n → content n ≡ Free

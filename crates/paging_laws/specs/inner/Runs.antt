@@ -13,7 +13,7 @@ use Rattle.paging_laws.specs.inner.Histories.{given_out, looked_at}
 use Rattle.paging_laws.specs.inner.Notes.{IsNote}
 use Rattle.paging_laws.specs.inner.Stands.{HasEnclaves, IsSound}
 use Rattle.paging_laws.specs.inner.State.{State, fresh}
-use Rattle.paging_laws.specs.inner.Steps.{CanApply, IsStep, IsWrittenOut, IsReloaded}
+use Rattle.paging_laws.specs.inner.Steps.{CanApply, CanEnd, IsStep, IsWrittenOut, IsReloaded}
 
 -- what the machine's type keeps of each state
 pub record IsSafe (s : State) : Type 0 where
@@ -33,7 +33,7 @@ pub data Run : State → List Entry → List Made → List Given → Type 0 wher
       → Run t (e ∷ past) (made ++ given_out e.event rec) given
   reloaded : (s t : State) (past : List Entry) (made : List Made) (given : List Given) (actor : Actor) (f : Frame) (rec : Sealed)
       (e : Entry)
-      → Run s past made given → IsSafe s → IsSafe t → is_loading (s.content f.0) ≡ true → IsReloaded s actor f rec e t
+      → Run s past made given → IsSafe s → IsSafe t → is_loading (s.content f.0) ≡ true → CanEnd s f.0 rec → IsReloaded s actor f rec e t
       → Run t (e ∷ past) made (given ++ looked_at s f.0 made rec)
   noted : (s : State) (past : List Entry) (made : List Made) (given : List Given) (e : Entry) → Run s past made given → IsSafe s
       → IsNote e.event → Run s (e ∷ past) made given

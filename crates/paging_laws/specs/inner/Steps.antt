@@ -22,10 +22,9 @@ use Rattle.sgx_types.specs.declared.names.Kind.{Kind}
 use Rattle.sgx_types.specs.declared.names.Page.{Page}
 use Rattle.sgx_types.specs.declared.names.Perm.{Perm}
 use Rattle.sgx_types.specs.Pages.{is_secs_page, is_va_page, page_at, no_perm}
-use Rattle.sgx_rules.specs.Frames.{Content, IsVa, SecsOf, Holds, page_of, page_there, reloaded}
+use Rattle.sgx_rules.specs.Frames.{Content, IsLoading, IsVa, SecsOf, Holds, page_of, page_there, reloaded}
 use Rattle.sgx_rules.specs.PageBytes.{secs_bytes, secs_header, va_header}
 use Rattle.std.specs.List.{range_with_len}
-use Rattle.page_history.specs.inner.Away.{array_in}
 use Rattle.sgx_types.specs.declared.record.Header.{Header}
 use Rattle.sgx_rules.specs.Table.{Case, first_of_row, perm_in, fault_of}
 use Rattle.sgx_rules.specs.Flat.{FlatEnclave, all_ones, is_processors, sum_of}
@@ -80,10 +79,9 @@ CanApply cpus (actors.Cpu p) (OutLoad enclave off) = p.0 < cpus
 CanApply cpus (actors.Cpu p) (OutStore enclave off value) = p.0 < cpus
 CanApply cpus _ _ = ⊥
 
--- the pages that may be loaded, and made, whoever asks: a version array page that no frame holds or waits for, and fewer than 2 ^ 32
+-- how many version array pages may be made, whoever asks: fewer than 2 ^ 32
 abbrev pub CanMove : State → Action → Type 0
 CanMove s (Epa f) = s.vas_made < 2 ^ 32
-CanMove s (EldStart f page slot) = is_va_page page ≡ true → (n : ℕ) → array_in (s.content n) ≡ Some page.number → ⊥
 CanMove s _ = Unit {0}
 
 -- the instructions of processors alone: those that programs see, and the fill of a translation
@@ -237,6 +235,10 @@ pub record IsWrittenOut (s : State) (actor : Actor) (f : Frame) (e : Entry) (rec
   pub entry : e ≡ did_by actor (Ewb f) (answers.Moved leaving.page leaving.start.version rec.tag)
   pub state : s' ≡ after_ewb s f.0 leaving.start
 
+-- the load into a frame may end, whatever record is brought: no frame holds the version array page for which it waits
+pub record CanBring (s : State) (f : ℕ) : Type 0 where
+  pub away : (page : Page) → s.content f ≡ IsLoading page → is_va_page page ≡ true → (n : ℕ) → s.content n ≡ IsVa page.number → ⊥
+
 -- a page for which a frame waits
 pub record IsComing (s : State) (f : ℕ) : Type 0 where
   pub start : BareStart
@@ -247,9 +249,17 @@ pub record IsComing (s : State) (f : ℕ) : Type 0 where
   pub header : Header
   pub headed : header_in s page ≡ Some header
 
+-- .. and its header
+abbrev pub IsComingHeader : State → ℕ → Header → Type 0
+IsComingHeader s f header = (coming : IsComing s f) × (header ≡ coming.header)
+
 -- the row of the commit of ELDU, where this record was brought
 abbrev pub commit_row : (s : State) (f : ℕ) → IsComing s f → Sealed → List Case
 commit_row s f coming rec = eld_row rec (tag s.key coming.start.version rec.header rec.cipher) (Some coming.header)
+
+-- the load into a frame may end with a record: it does not bring a version array page that a frame holds
+abbrev pub CanEnd : State → ℕ → Sealed → Type 0
+CanEnd s f rec = (coming : IsComing s f) → first_of_row (commit_row s f coming rec) ≡ None → CanBring s f
 
 -- the commit of ELDU: the page is back with the bytes of the record, or the record is none of its own
 pub record IsReloaded (s : State) (actor : Actor) (f : Frame) (rec : Sealed) (e : Entry) (s' : State) : Type 0 where

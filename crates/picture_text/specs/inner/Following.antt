@@ -8,7 +8,6 @@ use Rattle.sgx_rules.specs.Processors.{stay}
 use Rattle.sgx_types.specs.declared.names.Frame.{Frame}
 use Rattle.trace_places.specs.inner.Tables as tables
 use Rattle.picture_text.specs.declared.events.Lane.{Lane}
-use Rattle.picture_text.specs.declared.events.Open.{Open}
 use Rattle.picture_text.specs.declared.events.Span.{Span}
 use Rattle.picture_text.specs.declared.lanes.Lanes.{Lanes}
 use Rattle.picture_text.specs.declared.leaving.Leaving.{Leaving}
@@ -16,7 +15,7 @@ use Rattle.picture_text.specs.declared.leaving.Leavings.{Leavings}
 use Rattle.picture_text.specs.declared.open_spans.OpenSpans.{OpenSpans}
 use Rattle.picture_text.specs.declared.seats.Seats.{Seats}
 use Rattle.picture_text.specs.Lanes.{lane_key, same_key, number_in}
-use Rattle.picture_text.specs.Open.{inside, only, open_on}
+use Rattle.picture_text.specs.Open.{inside}
 
 -- ---- frames
 
@@ -59,11 +58,6 @@ pub record Follows (known : OpenSpans) (past : List Entry) : Type 0 where
   pub places : tables.Stands known.places past
   pub leavings : (n : ℕ) → leaving_in known.leavings n ≡ leaving_of past n
   pub seats : (p : ℕ) → seat_in known.seats p ≡ inside (stay past p)
-
--- the spans of a lane, none where there is no lane
-abbrev pub open_if : List Entry → Option Lane → Open
-open_if past None = only None
-open_if past (Some lane) = open_on past lane
 
 -- ---- lanes
 

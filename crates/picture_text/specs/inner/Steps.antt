@@ -1,16 +1,18 @@
 -- What one entry begins and ends, by what was open before it and is open behind it.
 use Rattle.std.specs.Prelude.{ℕ, List, [], ◌∷◌, ◌++◌, Option, Some, None}
 use Rattle.sgx_rules.specs.declared.entries.Entry.{Entry}
+use Rattle.sgx_rules.specs.declared.entries.Event.{Event}
 use Rattle.trace_places.specs.Places.{change_after}
+use Rattle.picture_text.specs.declared.counts.Counts.{Counts}
 use Rattle.picture_text.specs.declared.drawing.Seen.{Seen}
 use Rattle.picture_text.specs.declared.drawing.Touched.{Touched}
 use Rattle.picture_text.specs.declared.events.Lane.{Lane}
 use Rattle.picture_text.specs.declared.events.Mark.TheVariants as marks
 use Rattle.picture_text.specs.declared.events.Open.{Open}
 use Rattle.picture_text.specs.declared.events.PictureEvent.{PictureEvent}
-use Rattle.picture_text.specs.Events.{frame_in, frame_lane, lane_of, marked, page_lane, pages_by, steps}
-use Rattle.picture_text.specs.Open.{open_on}
-use Rattle.picture_text.specs.inner.Following.{open_if}
+use Rattle.picture_text.specs.Events.{frame_in, frame_lane, in_use, is_outside, lane_of, marked, more_or_less, page_lane, pages_by}
+use Rattle.picture_text.specs.Events.{steps, version_after}
+use Rattle.picture_text.specs.Open.{open_if, open_on}
 
 abbrev pub steps_if : ℕ → Option Lane → Open → Open → List PictureEvent
 steps_if place None before after = []
@@ -43,3 +45,12 @@ drawn place lanes before after =
     ++ steps_if place lanes.frame before.frame after.frame
     ++ steps_if place lanes.former before.former after.former
     ++ steps_if place lanes.named before.named after.named)
+
+-- the counters behind an event, by what is seen
+abbrev pub counts_by : Event → Seen → Seen → Counts → Counts
+counts_by event before after counts = record {
+  frames = more_or_less (in_use before.frame) (in_use after.frame) counts.frames;
+  pages = more_or_less (is_outside before.named) (is_outside after.named)
+      (more_or_less (is_outside before.former) (is_outside after.former) counts.pages);
+  version = version_after event counts.version;
+}

@@ -1,13 +1,11 @@
 -- The tables that say where pages are, and when they stand for entries.
-use Rattle.std.specs.Prelude.{◌≡◌, ℕ, ◌≤◌, ◌==◌, ◌&&◌, Bool, false, if◌then◌else◌, nat_eq, List, Option, Some, None}
+use Rattle.std.specs.Prelude.{◌≡◌, ℕ, ◌≤◌, ◌==◌, ◌&&◌, Bool, if◌then◌else◌, nat_eq, List, Option, Some, None}
 use Rattle.std.specs.HashMap.{get, spare}
 use Rattle.sgx_rules.specs.declared.entries.Entry.{Entry}
 use Rattle.sgx_rules.specs.Frames.{vas_made}
 use Rattle.sgx_types.specs.declared.names.Page.{Page}
-use Rattle.sgx_types.specs.Pages.{same_page}
 use Rattle.trace_places.specs.declared.change.Tenant.{Tenant}
 use Rattle.trace_places.specs.declared.change.Tenant.TheVariants.{Has, Awaits}
-use Rattle.trace_places.specs.declared.change.Gone.{Gone}
 use Rattle.trace_places.specs.declared.change.Change.{Change}
 use Rattle.trace_places.specs.declared.change.Change.TheVariants.{Puts, Empties}
 use Rattle.trace_places.specs.declared.moves.MayMove.{MayMove}
@@ -16,7 +14,7 @@ use Rattle.trace_places.specs.declared.moves.Where.{Where}
 use Rattle.trace_places.specs.declared.places.PageKey.{PageKey}
 use Rattle.trace_places.specs.declared.places.Places.{Places}
 use Rattle.trace_places.specs.Places.{change_by, frame_changed, tenant_of, tenant_after, tenant, is_tenant, put_in, take_out, frames}
-use Rattle.trace_places.specs.Places.{least, gone_after, gone_last, where_by, moved, va_number}
+use Rattle.trace_places.specs.Places.{least, gone_after, gone_last, where_by, moved, va_number, page_at_frame, page_named, other_than}
 use Rattle.trace_places.specs.inner.Frames.{frames_in, HasRoomFor}
 
 -- ---- what is read from the tables
@@ -77,37 +75,7 @@ pub record Makes (old : Places) (change : Change) (new : Places) : Type 0 where
   pub gone : (g : Page) → gone_in new g ≡ gone_after (Some change) g (gone_in old g)
   pub next_va : new.next_va ≡ old.next_va
 
--- ---- the pages that a change may move
-
-abbrev pub page_of : Tenant → Page
-page_of (Has g) = g
-page_of (Awaits g) = g
-
--- the page of a frame's tenant
-abbrev pub page_at_frame : Option Tenant → Option Page
-page_at_frame None = None
-page_at_frame (Some t) = Some (page_of t)
-
-abbrev pub gone_page : Option Gone → Option Page
-gone_page None = None
-gone_page (Some went) = Some went.page
-
--- the page that a change names
-abbrev pub page_named : Change → Option Page
-page_named (Puts f t) = Some (page_of t)
-page_named (Empties f went) = gone_page went
-
-abbrev pub is_page : Option Page → Page → Bool
-is_page None g = false
-is_page (Some page) g = same_page page g
-
-abbrev pub unless_same : Option Page → Page → Option Page
-unless_same former g = if is_page former g then None else Some g
-
--- a page, None where it is the former one
-abbrev pub other_than : Option Page → Option Page → Option Page
-other_than former None = None
-other_than former (Some g) = unless_same former g
+-- ---- what moves
 
 -- the pages that a change may move
 abbrev pub pages_in : Places → Change → MayMove

@@ -1,10 +1,20 @@
-use Rattle.std.proofs.Common.{sym, subst, ◌∙◌, rules}
+use Rattle.std.proofs.Common.{◌≡◌, sym, subst, ◌∙◌, rules}
+use Rattle.active_list.specs.declared.page_states.PageState.TheVariants as states
 use Rattle.sgx_types.specs.declared.names.Actor.TheVariants as actors
+use Rattle.sgx_types.specs.declared.names.Frame.{Frame}
 use Rattle.paging_machine.specs.inner.Parts.{state_of}
-use Rattle.paging_laws.specs.inner.Steps.{IsReloaded}
+use Rattle.paging_laws.specs.inner.Steps.{CanBring, IsReloaded}
 use Rattle.fault_handler.specs.inner.Finishing.{CarriesLoad}
 use Rattle.fault_handler.proofs.FinishLaws.{finished_as}
 use Rattle.fault_handler.proofs.finishing.finish.Goals as goal
+
+pub eld_commit-entry-requires-clause-can_end : goal.eld_commit-entry-requires-clause-can_end
+eld_commit-entry-requires-clause-can_end c = λ coming allowed.
+    let can = c.requires in
+    let same : states.Loading can.frame can.slot ≡ states.Loading c.in-Loading.frame c.in-Loading.slot =
+    sym can.tables.loading ∙ sym c.state.ensures.value ∙ c.in-Loading.is in
+    let frame : can.frame ≡ c.in-Loading.frame = cc same in
+    subst (λ (f : Frame). CanBring (state_of c.args.machine.now) f.0) frame can.apart
 
 pub returns-clause-does : goal.returns-clause-does
 returns-clause-does c can =

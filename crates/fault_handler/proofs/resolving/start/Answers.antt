@@ -5,9 +5,6 @@ use Rattle.sgx_types.specs.declared.names.Actor.TheVariants as actors
 use Rattle.fault_handler.proofs.StartLaws.{says_refused, says_started, start_loads}
 use Rattle.fault_handler.proofs.resolving.start.Goals as goal
 
-pub step-entry-requires-clause-moves : goal.step-entry-requires-clause-moves
-step-entry-requires-clause-moves c = c.requires.apart c.args.frame c.args.at
-
 pub returns-then-is_refused-clause-does : goal.returns-then-is_refused-clause-does
 returns-then-is_refused-clause-does c =
     says_refused c.args.cpu c.args.page c.args.slot c.args.at c.args.frame c.args.rec c.args.driver.now c.args.machine.now

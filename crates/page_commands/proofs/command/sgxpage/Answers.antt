@@ -8,6 +8,10 @@ use Rattle.page_commands.specs.declared.status.Status.{Status}
 use Rattle.page_commands.specs.declared.status.Status.TheVariants as statuses
 use Rattle.page_commands.proofs.command.sgxpage.Goals as goal
 
+pub returns-in-Some-Least-clause-least_broke : goal.returns-in-Some-Least-clause-least_broke
+returns-in-Some-Least-clause-least_broke g c = λ named failed.
+    c.least_command.ensures.broke (sym c.unrun-in-Some-Least.ensures.status ∙ failed)
+
 pub returns-in-Some-Audit-clause-audit_broke : goal.returns-in-Some-Audit-clause-audit_broke
 returns-in-Some-Audit-clause-audit_broke g c = λ named failed.
     c.audit_command.ensures.broke (sym c.unrun-in-Some-Audit.ensures.status ∙ failed)

@@ -16,8 +16,8 @@ invariant_of-self c =
     let h = c.self.invariant in
     let w = c.in-Ok.ensures in
     whole _ (after_eldstart (state_of d) c.args.frame.0 c.args.page c.args.slot)
-    (eldstart_leaves c.self.inside h c.args.frame.0 c.args.page c.args.slot c.eld_start.new.secs _ (sym w.row)
-    (rw (← c.self.view_is) at c.requires) w.beside (rw w.epc at w.counts)
+    (eldstart_leaves c.self.inside h c.args.frame.0 c.args.page c.args.slot c.eld_start.new.secs _ (sym w.row) w.beside
+    (rw w.epc at w.counts)
     (in_as d c.args.frame.0 c.args.page c.args.slot c.eld_start.new.epc c.eld_start.new.secs c.eld_start.new.va c.in-Ok.version
     c.found-found.result w.epc w.va (w.answer ∙ version_seen d c.args.slot h.held.pages) (rw (← c.self.view_is) at c.found-found.ensures)))
 
@@ -33,8 +33,8 @@ returns-in-Ok-clause-step c =
     let h = c.self.invariant in
     let w = c.in-Ok.ensures in
     let version = w.answer ∙ version_seen d c.args.slot h.held.pages in
-    let left = eldstart_leaves c.self.inside h c.args.frame.0 c.args.page c.args.slot c.eld_start.new.secs _ (sym w.row)
-    (rw (← c.self.view_is) at c.requires) w.beside (rw w.epc at w.counts)
+    let left = eldstart_leaves c.self.inside h c.args.frame.0 c.args.page c.args.slot c.eld_start.new.secs _ (sym w.row) w.beside
+    (rw w.epc at w.counts)
     (in_as d c.args.frame.0 c.args.page c.args.slot c.eld_start.new.epc c.eld_start.new.secs c.eld_start.new.va c.in-Ok.version
     c.found-found.result w.epc w.va version (rw (← c.self.view_is) at c.found-found.ensures)) in
     rw (← c.self.view_is)

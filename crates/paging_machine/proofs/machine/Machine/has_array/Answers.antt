@@ -1,6 +1,6 @@
-use Rattle.std.proofs.Common.{◌≡◌, ◌∙◌, ◌<◌, ◌≤◌, ◌⊎◌, ⊎_elim, Some, sym, subst, ap, length, arith}
+use Rattle.std.proofs.Common.{◌≡◌, ◌∙◌, ◌<◌, ◌≤◌, ◌⊎◌, ⊎_elim, sym, subst, length, arith}
 use Rattle.std.proofs.lemmas.Bool.{cases_lt}
-use Rattle.page_history.specs.inner.Away.{array_in}
+use Rattle.sgx_rules.specs.Frames.{IsVa}
 use Rattle.paging_machine.specs.inner.Parts.{Parts, state_of}
 use Rattle.paging_machine.specs.inner.Whole.{parts_of}
 use Rattle.paging_machine.proofs.ProcessorBridge.{free_past}
@@ -9,10 +9,10 @@ use Rattle.paging_machine.proofs.machine.Machine.has_array.Goals as goal
 pub returns-clause-away : goal.returns-clause-away
 returns-clause-away c = λ is n at. (
     let d = parts_of c.self.inside in
-    let there : array_in ((state_of d).content n) ≡ Some c.args.number =
-    subst (λ (x : Parts). array_in ((state_of x).content n) ≡ Some c.args.number) (sym c.self.view_is) at in
+    let there : (state_of d).content n ≡ IsVa c.args.number =
+    subst (λ (x : Parts). (state_of x).content n ≡ IsVa c.args.number) (sym c.self.view_is) at in
     let nowhere : (n < length d.epc) ⊎ (length d.epc ≤ n) → ⊥ = ⊎_elim
     (λ (low : n < length d.epc). c.loop-frame.invariant n (omega (arith, low, c.frames-frame-end.ensures.count, c.loop-frame-test.false))
     there)
-    (λ (past : length d.epc ≤ n). (let none = sym (ap array_in (free_past d n past)) ∙ there in cc none)) in
+    (λ (past : length d.epc ≤ n). (let none = sym (free_past d n past) ∙ there in cc none)) in
     nowhere (cases_lt n (length d.epc)))

@@ -1,6 +1,6 @@
 use Rattle.std.proofs.Common.{sym, ◌∙◌}
 use Rattle.paging_machine.specs.inner.Parts.{state_of}
-use Rattle.trace_auditor.proofs.AskLaws.{away_back, broken_back, here_back, none_loaded, some_kept}
+use Rattle.trace_auditor.proofs.AskLaws.{away_back, broken_back, here_back, none_loaded, own_comes, some_kept}
 use Rattle.trace_auditor.proofs.auditing.Auditing.ask_back.Goals as goal
 
 pub returns-in_default-clause-answer : goal.returns-in_default-clause-answer
@@ -12,6 +12,11 @@ pub unreachable-requires : goal.unreachable-requires
 unreachable-requires c =
     some_kept c.args.self.now c.args.entry.now c.requires.can c.args.frame c.requires.own c.open_start.result c.open_start.ensures
     c.in-Some.page (sym c.in-Some.ensures) (sym c.in_default-take.ensures.taken)
+
+pub ask_back-requires-clause-can_bring : goal.ask_back-requires-clause-can_bring
+ask_back-requires-clause-can_bring c =
+    own_comes c.args.self.now c.args.entry.now c.requires.can c.args.frame c.requires.own c.open_start.result c.open_start.ensures
+    c.in-Some.page (sym c.in-Some.ensures) c.in-Some-take.work c.in-Some-take.ensures.taken
 
 pub returns-in-Broken-clause-answer : goal.returns-in-Broken-clause-answer
 returns-in-Broken-clause-answer c =

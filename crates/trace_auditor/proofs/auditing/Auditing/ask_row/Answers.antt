@@ -31,4 +31,4 @@ returns-clause-answer c =
 
 pub ask-requires-clause-moves : goal.ask-requires-clause-moves
 ask-requires-clause-moves c =
-    let can = c.requires.can in asked_can_move can.j can.past _ _ _ _ _ can.trace can.script c.requires.own
+    let can = c.requires.can in asked_can_move can.j can.past _ _ _ _ can.trace

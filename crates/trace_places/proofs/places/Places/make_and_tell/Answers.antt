@@ -1,5 +1,5 @@
-use Rattle.trace_places.specs.Places.{frame_changed}
-use Rattle.trace_places.specs.inner.Tables.{page_at_frame, page_named, tenant_in, pages_in}
+use Rattle.trace_places.specs.Places.{frame_changed, page_at_frame, page_named}
+use Rattle.trace_places.specs.inner.Tables.{tenant_in, pages_in}
 use Rattle.trace_places.proofs.MoveLaws.{told, moves_are_of, place_stays}
 use Rattle.trace_places.proofs.places.Places.make_and_tell.Goals as goal
 

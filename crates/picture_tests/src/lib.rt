@@ -1,5 +1,0 @@
-// Tests of pictures of traces, whole and in pieces.
-#![tactic(auto)]
-
-#[cfg(test)]
-mod tests;

@@ -1,5 +1,0 @@
-// Tests of the store that lies by a plan.
-#![tactic(auto)]
-
-#[cfg(test)]
-mod tests;
