@@ -177,5 +177,5 @@ outside_breaks s e action same own reclaimer j past records h =
     whole = λ i. record { actor = reclaimer i; event = e.event }
 
     agrees : first j past action ≡ first_of_row (row_outside s action)
-    agrees = sym (row_outside_agrees s past action own h.standing.stands
+    agrees = sym (row_outside_agrees s past actors.Reclaimer action own refl h.standing.stands
         ∙ ap (λ k. first_of_row (row_at k past actors.Reclaimer action)) h.shaped.shape.making)

@@ -3,11 +3,10 @@
 ghost use Rattle.std.specs.Prelude.{◌≤◌};
 
 use crate::audited_traces::{BEFORE_ELD, BEHIND_ELD, CUT_ELD, ELD, OLDER_ELD, RELOAD_JOB};
-use crate::calls::{RUN, given_by, given_with};
+use crate::calls::{RUN, compare, given_by, given_with, joined};
 use crate::paged_jobs::{ENCLAVE, EPC, SCRIPT};
-use crate::run_tests::{JOB, TRACE};
+use crate::run_tests::{JOB, TRACE, of_parts, push_line};
 use page_commands::status::Status;
-use sgx_types::names::Memory;
 use std::alloc::{Alloc, Global};
 use std::fmt::Write;
 use std::process::Abort;
@@ -153,22 +152,29 @@ const ROWS: &[Row] = &[
     },
 ];
 
+fn gets_its_verdict(
+    rt: &(impl Abort + Alloc<A = Global> + Threads + Wait + Sync),
+    row: &Row,
+) -> Result<(), Fail> {
+    let alloc = rt.alloc();
+    let old = joined(alloc, row.old)?;
+    let fails = [row.fails[0], row.fails[1], row.fails[2], &[1]];
+    let given = given_with(rt, alloc, AUDIT, [row.job, &old], row.piece.max(1), fails)?;
+    compare(rt, &given, row.status, row.told);
+    let unread = given.old_left == old.len();
+    assert_eq!(rt; (unread, given.trace.len()), (row.unread, 0));
+    Ok(())
+}
+
 #[test]
 fn an_old_trace_gets_its_verdict_or_its_first_faulty_line(rt: HostRuntime) -> Result<(), Fail> {
-    let alloc = rt.alloc();
     for row in ROWS {
-        let old = joined(alloc, row.old)?;
-        let fails = [row.fails[0], row.fails[1], row.fails[2], &[1]];
-        let given = given_with(&rt, alloc, AUDIT, [row.job, &old], row.piece.max(1), fails)?;
-        assert_eq!(rt; given.status, row.status);
-        assert_eq!(rt; given.out.as_slice(), row.told);
-        assert_eq!(rt; given.old_left == old.len(), row.unread);
-        assert_eq!(rt; given.trace.is_empty(), true);
+        gets_its_verdict(&rt, row)?;
     }
     Ok(())
 }
 
-// A line with the number that stands behind its first five words lowered by one.
+// Adds a line with the number that stands behind its first five words lowered by one.
 fn push_older(line: &str, onto: &mut String) -> Result<(), Fail> {
     let mut place = 0u32;
     for word in line.split(' ') {
@@ -181,75 +187,73 @@ fn push_older(line: &str, onto: &mut String) -> Result<(), Fail> {
         onto.push_str(" ")?;
         place = place.wrapping_add(1);
     }
+    onto.pop();
+    onto.push_str("\n")?;
     Ok(())
 }
 
-// A trace whose first load that ended names an earlier version, the same cut inside that line, and how many lines stand before it.
-fn changed(alloc: Global, trace: &str) -> Result<(String, String, u64), Fail> {
-    let mut older = String::new(alloc);
-    let mut cut = String::new(alloc);
+// Adds a trace whose first load that ended names an earlier version, and the same cut inside that line. The answer is how many lines
+// stand before it.
+fn push_changed(trace: &str, older: &mut String, cut: &mut String) -> Result<u64, Fail> {
     let mut before = 0u64;
     for line in trace.lines() {
         if cut.is_empty() && line.starts_with("p0 eld ") {
             cut.push_str(older.as_str())?;
             cut.push_str("p0 eld ")?;
-            push_older(line, &mut older)?;
-            older.pop();
+            push_older(line, older)?;
         } else {
-            older.push_str(line)?;
+            push_line(older, line)?;
         }
-        older.push_str("\n")?;
         if cut.is_empty() {
             before = before.wrapping_add(1);
         }
     }
-    Ok((older, cut, before))
+    Ok(before)
 }
 
 // Audits a trace of a job, so many bytes a call.
-fn judged(
+fn audited(
     rt: &(impl Abort + Alloc<A = Global> + Threads + Wait + Sync),
-    job: &[u8],
-    old: &[u8],
+    texts: [&[u8]; 2],
     piece: usize,
     status: Status,
     told: &str,
 ) -> Result<(), Fail>
     requires { 1 ≤ piece }
 {
-    let fails: [&[u64]; 4] = [&[], &[], &[], &[1]];
-    let given = given_with(rt, rt.alloc(), AUDIT, [job, old], piece, fails)?;
-    assert_eq!(rt; given.status, status);
-    assert_eq!(rt; given.out.as_slice(), told.as_bytes());
+    let given = given_with(rt, rt.alloc(), AUDIT, texts, piece, [&[], &[], &[], &[1]])?;
+    compare(rt, &given, status, told.as_bytes());
     Ok(())
 }
 
-// Whatever the order of the threads. The first line of a trace is no entry.
+// Audits a trace of a job with an earlier version behind so many lines, and the same cut there. The first line of a trace is no entry.
+fn refused(
+    rt: &(impl Abort + Alloc<A = Global> + Threads + Wait + Sync),
+    job: &[u8],
+    older: &str,
+    cut: &str,
+    before: u64,
+) -> Result<(), Fail> {
+    let wrong = format!(in rt.alloc(); "no {} Fresh\n", before.wrapping_sub(1))?;
+    let texts = [job, older.as_bytes()];
+    audited(rt, texts, 1000, Status::AuditNo, wrong.as_str())?;
+    let faulty = format!(in rt.alloc(); "trace line {}\n", before.wrapping_add(1))?;
+    let texts = [job, cut.as_bytes()];
+    audited(rt, texts, 1, Status::BadTrace, faulty.as_str())
+}
+
+// Whatever the order of the threads.
 #[test]
 fn a_run_is_a_history_and_is_none_with_an_older_version(rt: HostRuntime) -> Result<(), Fail> {
     let alloc = rt.alloc();
+    let run = of_parts(&rt, &[EPC, ENCLAVE, SCRIPT])?;
     let job = joined(alloc, &[EPC, ENCLAVE, SCRIPT])?;
-    let run = given_by(&rt, alloc, RUN, &job, 1000, [&[], &[], &[]])?;
-    let (older, cut, before) = changed(alloc, str::from_utf8(&run.trace).unwrap_or(""))?;
-    let wrong = format!(in alloc; "no {} Fresh\n", before.wrapping_sub(1))?;
-    let faulty = format!(in alloc; "trace line {}\n", before.wrapping_add(1))?;
-    judged(&rt, &job, &run.trace, 1000, Status::Done, "yes\n")?;
-    judged(
-        &rt,
-        &job,
-        older.as_bytes(),
-        1000,
-        Status::AuditNo,
-        wrong.as_str(),
-    )?;
-    judged(
-        &rt,
-        &job,
-        cut.as_bytes(),
-        1,
-        Status::BadTrace,
-        faulty.as_str(),
-    )
+    audited(&rt, [&job, &run.trace], 1000, Status::Done, "yes\n")?;
+    let mut older = String::new(alloc);
+    let mut cut = String::new(alloc);
+    let trace = str::from_utf8(&run.trace).unwrap_or("");
+    let before = push_changed(trace, &mut older, &mut cut)?;
+    refused(&rt, &job, older.as_str(), cut.as_str(), before)
 }
 
 // .. of a job that was made.
@@ -258,19 +262,6 @@ fn a_run_of_a_made_job_is_a_history(rt: HostRuntime) -> Result<(), Fail> {
     let alloc = rt.alloc();
     let made = given_by(&rt, alloc, MAKE, b"", 1000, [&[], &[], &[]])?;
     let run = given_by(&rt, alloc, RUN, &made.out, 1000, [&[], &[], &[]])?;
-    let fails: [&[u64]; 4] = [&[], &[], &[], &[1]];
-    let given = given_with(&rt, alloc, AUDIT, [&made.out, &run.trace], 1000, fails)?;
-    assert_eq!(rt; made.status, Status::Done);
-    assert_eq!(rt; run.status, Status::Done);
-    assert_eq!(rt; given.status, Status::Done);
-    assert_eq!(rt; given.out.as_slice(), b"yes\n".as_slice());
-    Ok(())
-}
-
-fn joined(alloc: Global, parts: &[&[u8]]) -> Result<Vec<u8>, Memory> {
-    let mut text = Vec::new(alloc);
-    for part in parts {
-        text.extend_from_slice(part)?;
-    }
-    Ok(text)
+    assert_eq!(rt; (made.status, run.status), (Status::Done, Status::Done));
+    audited(&rt, [&made.out, &run.trace], 1000, Status::Done, "yes\n")
 }

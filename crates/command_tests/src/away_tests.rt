@@ -1,9 +1,13 @@
 //! Runs of jobs in which a SECS or a version array page leaves, and comes back before a page that needs it.
 
-use crate::run_tests::{of_parts, signs};
+use crate::calls::compare;
+use crate::run_tests::{of_parts, push_all_signs, push_line};
 use page_commands::status::Status;
-use std::alloc::Global;
+use std::alloc::{Alloc, Global};
+use std::process::Abort;
+use std::sync::Wait;
 use std::test::Fail;
+use std::thread::Threads;
 
 // Two enclaves: while the pages of the second are added, all pages of the first go out, and then its SECS.
 const TWO: &[u8] =
@@ -26,7 +30,7 @@ const STORES: &[u8] =
 struct Row {
     parts: &'static [&'static [u8]],
     status: Status,
-    replies: &'static str,
+    replies: &'static [u8],
     told: &'static str,
     line: &'static str,
     never: &'static str,
@@ -37,7 +41,7 @@ const ROWS: &[Row] = &[
     Row {
         parts: &[TWO, LOAD],
         status: Status::Done,
-        replies: "A init\nB init\ncpu 0\ncssa 0\n7\nexit\n",
+        replies: b"A init\nB init\ncpu 0\ncssa 0\n7\nexit\n",
         told: "",
         line: "r age A secs taken",
         never: " age B secs ",
@@ -46,7 +50,7 @@ const ROWS: &[Row] = &[
     Row {
         parts: &[TWO, b"store fail get 1\n", LOAD],
         status: Status::Bus,
-        replies: "A init\nB init\ncpu 0\nbus\n",
+        replies: b"A init\nB init\ncpu 0\nbus\n",
         told: "p0 bus A secs get\n",
         line: "r age A secs taken",
         never: " eld ",
@@ -55,7 +59,7 @@ const ROWS: &[Row] = &[
     Row {
         parts: &[TWO, b"store fail room 4\n", LOAD],
         status: Status::Done,
-        replies: "A init\nB init\ncpu 0\ncssa 0\n7\nexit\n",
+        replies: b"A init\nB init\ncpu 0\ncssa 0\n7\nexit\n",
         told: "noroom\n",
         line: "r age A secs noroom",
         never: " bus ",
@@ -64,7 +68,7 @@ const ROWS: &[Row] = &[
     Row {
         parts: &[MANY, STORES],
         status: Status::Done,
-        replies: "A init\ncpu 0\ncssa 0\nok\nok\nok\n1\n2\n3\nexit\n",
+        replies: b"A init\ncpu 0\ncssa 0\nok\nok\nok\n1\n2\n3\nexit\n",
         told: "",
         line: "r age va 1 taken",
         never: " age va 0 ",
@@ -73,7 +77,7 @@ const ROWS: &[Row] = &[
     Row {
         parts: &[MANY, b"store fail get 1\n", STORES],
         status: Status::Bus,
-        replies: "A init\ncpu 0\nbus\n",
+        replies: b"A init\ncpu 0\nbus\n",
         told: "p0 bus va 1 get\n",
         line: "r age va 1 taken",
         never: " age va 0 ",
@@ -81,37 +85,57 @@ const ROWS: &[Row] = &[
     },
 ];
 
-// The pages of the loads that are done, in their order.
-fn loads(alloc: Global, trace: &str) -> Result<String, Fail> {
-    let mut pages = String::new(alloc);
+// Adds the page of a load that is done.
+fn push_load(line: &str, pages: &mut String) -> Result<(), Fail> {
+    let mut words = line.split(' ').skip(1);
+    if words.next() == Some("eld") {
+        pages.push_str(words.nth(1).unwrap_or(""))?;
+        pages.push_str(" ")?;
+        push_line(pages, words.next().unwrap_or(""))?;
+    }
+    Ok(())
+}
+
+// Adds the pages of the loads that are done, in their order.
+fn push_loads(trace: &str, pages: &mut String) -> Result<(), Fail> {
     for line in trace.lines() {
-        let mut words = line.split(' ').skip(1);
-        if words.next() == Some("eld") {
-            for word in [
-                words.nth(1).unwrap_or(""),
-                " ",
-                words.next().unwrap_or(""),
-                "\n",
-            ] {
-                pages.push_str(word)?;
-            }
+        push_load(line, pages)?;
+    }
+    Ok(())
+}
+
+// Whether a text has this line.
+fn has_line(text: &str, wanted: &str) -> bool {
+    for line in text.lines() {
+        if line == wanted {
+            return true;
         }
     }
-    Ok(pages)
+    false
+}
+
+fn goes_away(
+    rt: &(impl Abort + Alloc<A = Global> + Threads + Wait + Sync),
+    row: &Row,
+) -> Result<(), Fail> {
+    let given = of_parts(rt, row.parts)?;
+    let trace = str::from_utf8(&given.trace).unwrap_or("MacFail");
+    compare(rt, &given, row.status, row.replies);
+    assert_eq!(rt; has_line(trace, row.line), true);
+    assert_eq!(rt; trace.contains(row.never), false);
+    let mut told = String::new(rt.alloc());
+    push_all_signs(trace, &mut told)?;
+    assert_eq!(rt; told.as_str(), row.told);
+    let mut pages = String::new(rt.alloc());
+    push_loads(trace, &mut pages)?;
+    assert_eq!(rt; pages.starts_with(row.loads), true);
+    Ok(())
 }
 
 #[test]
 fn a_secs_and_a_version_array_page_leave_and_come_back(rt: HostRuntime) -> Result<(), Fail> {
-    let alloc = rt.alloc();
     for row in ROWS {
-        let given = of_parts(&rt, row.parts)?;
-        let trace = str::from_utf8(&given.trace).unwrap_or("MacFail");
-        assert_eq!(rt; given.status, row.status);
-        assert_eq!(rt; str::from_utf8(&given.out).ok(), Some(row.replies));
-        assert_eq!(rt; signs(alloc, trace)?.as_str(), row.told);
-        assert_eq!(rt; trace.lines().any(|line| line == row.line), true);
-        assert_eq!(rt; trace.contains(row.never), false);
-        assert_eq!(rt; loads(alloc, trace)?.starts_with(row.loads), true);
+        goes_away(&rt, row)?;
     }
     Ok(())
 }

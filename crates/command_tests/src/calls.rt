@@ -11,8 +11,10 @@ use page_commands::command::sgxpage;
 use page_commands::ended::Ended;
 use page_commands::status::Status;
 use sgx_types::names::Memory;
-use std::alloc::Global;
+use std::alloc::{Alloc, Global};
+use std::process::Abort;
 use std::sync::Wait;
+use std::test::Fail;
 use std::thread::Threads;
 use turn_gate::gate::{Gate, OpenGate};
 
@@ -36,10 +38,10 @@ pub struct Given {
 #[derive(Drop)]
 pub struct Edges {
     pub words: Vec<String>,
-    pub job: MemSource,
-    pub old: MemSource,
-    pub out: MemSink,
-    pub trace: MemSink,
+    pub job: Box<MemSource>,
+    pub old: Box<MemSource>,
+    pub out: Box<MemSink>,
+    pub trace: Box<MemSink>,
 }
 
 impl Edges {
@@ -54,11 +56,11 @@ impl Edges {
         requires { 1 ≤ piece }
     {
         Ok(Edges {
+            job: source(alloc, texts[0], piece, fails[0])?,
+            old: source(alloc, texts[1], piece, fails[1])?,
+            out: sink(alloc, piece, fails[2])?,
+            trace: sink(alloc, piece, fails[3])?,
             words: owned(alloc, words)?,
-            job: MemSource::new(alloc, texts[0], piece, fails[0])?,
-            old: MemSource::new(alloc, texts[1], piece, fails[1])?,
-            out: MemSink::new(alloc, piece, fails[2])?,
-            trace: MemSink::new(alloc, piece, fails[3])?,
         })
     }
 
@@ -76,10 +78,10 @@ impl Edges {
             rt,
             alloc,
             &self.words,
-            &mut self.job,
-            &mut self.old,
-            &mut self.out,
-            &mut self.trace,
+            &mut *self.job,
+            &mut *self.old,
+            &mut *self.out,
+            &mut *self.trace,
             store,
             gate,
         )
@@ -139,10 +141,14 @@ pub fn given_with<R: Threads + Wait + Sync>(
     requires { 1 ≤ piece }
 {
     let mut edges = Box::new(alloc, Edges::new(alloc, words, texts, piece, fails)?)?;
+    let (status, failed) = ending(rt, alloc, &mut edges);
+    Ok(Box::new(alloc, edges.given(alloc, status, failed)?)?)
+}
+
+// Calls the program by these edges, over a store that does what the job plans: how that ends, and how many calls of the store failed.
+fn ending<R: Threads + Wait + Sync>(rt: &R, alloc: Global, edges: &mut Edges) -> (Status, u64) {
     let ended = edges.call(rt, alloc, PlannedStore::new(), &OpenGate);
-    let failed = store_faults(&ended.store);
-    let given = edges.given(alloc, ended.status, failed)?;
-    Ok(Box::new(alloc, given)?)
+    (ended.status, store_faults(&ended.store))
 }
 
 // How many calls of a store failed. No store has none.
@@ -165,6 +171,18 @@ fn has_failed(call: &StoreCall) -> bool {
     }
 }
 
+fn source(alloc: Global, text: &[u8], piece: usize, fails: &[u64]) -> Result<Box<MemSource>, Memory>
+    requires { 1 ≤ piece }
+{
+    Ok(Box::new(alloc, MemSource::new(alloc, text, piece, fails)?)?)
+}
+
+fn sink(alloc: Global, piece: usize, fails: &[u64]) -> Result<Box<MemSink>, Memory>
+    requires { 1 ≤ piece }
+{
+    Ok(Box::new(alloc, MemSink::new(alloc, piece, fails)?)?)
+}
+
 // Words of a command line.
 fn owned(alloc: Global, texts: &[&str]) -> Result<Vec<String>, Memory> {
     let mut words = Vec::new(alloc);
@@ -172,4 +190,74 @@ fn owned(alloc: Global, texts: &[&str]) -> Result<Vec<String>, Memory> {
         words.push(String::from_str(alloc, text)?)?;
     }
     Ok(words)
+}
+
+/// A text of these parts.
+pub fn joined(alloc: Global, parts: &[&[u8]]) -> Result<Vec<u8>, Memory> {
+    let mut text = Vec::new(alloc);
+    for part in parts {
+        text.extend_from_slice(part)?;
+    }
+    Ok(text)
+}
+
+/// A call of the program: its words, the job, the old trace, how many bytes an edge moves a call, the calls that fail of the job, of the
+/// old trace, of the output and of the trace, and what the program is to give.
+#[derive(Clone, Copy)]
+pub struct Call<'a> {
+    pub words: &'a [&'a str],
+    pub job: &'a [u8],
+    pub old: &'a [u8],
+    pub piece: usize,
+    pub fails: [&'a [u64]; 4],
+    pub status: Status,
+    pub out: &'a [u8],
+    pub trace: &'a [u8],
+}
+
+/// A run of an empty job, of which no call fails but the first of the old trace, which a run does not read.
+pub const RUNS: Call = Call {
+    words: RUN,
+    job: b"",
+    old: b"",
+    piece: 100,
+    fails: [&[], &[1], &[], &[]],
+    status: Status::Done,
+    out: b"",
+    trace: b"",
+};
+
+/// Calls the program, and compares what it gives.
+pub fn gives(
+    rt: &(impl Abort + Alloc<A = Global> + Threads + Wait + Sync),
+    call: &Call,
+) -> Result<(), Fail> {
+    let given = given_with(
+        rt,
+        rt.alloc(),
+        call.words,
+        [call.job, call.old],
+        call.piece.max(1),
+        call.fails,
+    )?;
+    compare(rt, &given, call.status, call.out);
+    assert_eq!(rt; given.trace.as_slice(), call.trace);
+    Ok(())
+}
+
+/// Makes each of these calls.
+pub fn all_give(
+    rt: &(impl Abort + Alloc<A = Global> + Threads + Wait + Sync),
+    calls: &[Call],
+) -> Result<(), Fail> {
+    for call in calls {
+        gives(rt, call)?;
+    }
+    Ok(())
+}
+
+/// Compares how a call ended, and its output.
+pub fn compare(rt: &impl Abort, given: &Given, status: Status, out: &[u8]) {
+    assert_eq!(rt; given.status, status);
+    assert_eq!(rt; given.out.as_slice(), out);
 }

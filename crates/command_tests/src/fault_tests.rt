@@ -1,10 +1,8 @@
 //! Jobs that are refused, and edges that fail.
 
-ghost use Rattle.std.specs.Prelude.{◌≤◌};
-
-use crate::calls::{RUN, given_by};
+use crate::calls::{Call, RUN, RUNS, all_give, compare, given_by, gives};
 use crate::cut_jobs::CUTS;
-use crate::run_tests::{JOB, OUT, TRACE, ends};
+use crate::run_tests::{JOB, OUT, TRACE};
 use page_commands::status::Status;
 use std::alloc::{Alloc, Global};
 use std::process::Abort;
@@ -14,70 +12,115 @@ use std::thread::Threads;
 
 const MISSING: &[u8] = b"job line 1: Missing\n";
 
-// Jobs that are not run, and what is told of each.
-const REFUSED: &[(&[u8], &[u8])] = &[
-    (b"", MISSING),
-    (b"epc 6\n", b"job line 2: Missing\n"),
-    (b"epc 6\n\xff\n", b"job line 2: NotUtf8\n"),
-    (
-        b"epc 5\nenclave A 0x0 0x2000\ncpu 0\n",
-        b"job line 1: EpcTooSmall 6\n",
-    ),
-    (
-        b"epc 6\nenclave A 0x0 0x2000\ncpu 0\nload 0x2004\n",
-        b"job line 4: Range\n",
-    ),
-    (b"epc 6\nepc 6\n", b"job line 2: Order\n"),
-    (b"epc 6\nmarks 1 2 1\nmarks 1 2 1\n", b"job line 3: Twice\n"),
+// A job that is not run.
+const NOT_RUN: Call = Call {
+    piece: 7,
+    status: Status::BadJob,
+    out: MISSING,
+    ..RUNS
+};
+
+// Such jobs, and what is told of each.
+const REFUSED: &[Call] = &[
+    Call {
+        job: b"",
+        ..NOT_RUN
+    },
+    Call {
+        job: b"epc 6\n",
+        out: b"job line 2: Missing\n",
+        ..NOT_RUN
+    },
+    Call {
+        job: b"epc 6\n\xff\n",
+        out: b"job line 2: NotUtf8\n",
+        ..NOT_RUN
+    },
+    Call {
+        job: b"epc 5\nenclave A 0x0 0x2000\ncpu 0\n",
+        out: b"job line 1: EpcTooSmall 6\n",
+        ..NOT_RUN
+    },
+    Call {
+        job: b"epc 6\nenclave A 0x0 0x2000\ncpu 0\nload 0x2004\n",
+        out: b"job line 4: Range\n",
+        ..NOT_RUN
+    },
+    Call {
+        job: b"epc 6\nepc 6\n",
+        out: b"job line 2: Order\n",
+        ..NOT_RUN
+    },
+    Call {
+        job: b"epc 6\nmarks 1 2 1\nmarks 1 2 1\n",
+        out: b"job line 3: Twice\n",
+        ..NOT_RUN
+    },
     // One page more than a job may have.
-    (
-        b"epc 6\nenclave A 0x0 0x1000000\nreg 0 4096 r 0\nenclave B 0x0 0x2000\nreg 0 1 r 0\n",
-        b"job line 5: TooMany\n",
-    ),
-    (
-        b"epc 10\nenclave A 0x0 0x4000\ntcs 0 1 1\nreg 1 1 rw 0\ncpu 0\neenter A 0\ncpu 1\neenter A 0\n",
-        b"job line 8: TcsShared\n",
-    ),
+    Call {
+        job: b"epc 6\nenclave A 0x0 0x1000000\nreg 0 4096 r 0\nenclave B 0x0 0x2000\nreg 0 1 r 0\n",
+        out: b"job line 5: TooMany\n",
+        ..NOT_RUN
+    },
+    Call {
+        job: b"epc 10\nenclave A 0x0 0x4000\ntcs 0 1 1\nreg 1 1 rw 0\ncpu 0\neenter A 0\ncpu 1\neenter A 0\n",
+        out: b"job line 8: TcsShared\n",
+        ..NOT_RUN
+    },
 ];
 
 const TOO_LONG: &[u8] = b"job line 0: TooLong\n";
 
 #[test]
 fn a_job_that_is_not_accepted_is_told(rt: HostRuntime) -> Result<(), Fail> {
-    for (job, told) in REFUSED {
-        ends(&rt, job, 7, [&[], &[], &[]], Status::BadJob, told, b"")?;
-    }
-    Ok(())
+    all_give(&rt, REFUSED)
 }
 
 #[test]
 fn a_job_that_is_cut_is_another(rt: HostRuntime) -> Result<(), Fail> {
     for (len, status, out, trace) in CUTS {
-        let job = &JOB[..(*len).min(JOB.len())];
-        ends(&rt, job, 16, [&[], &[], &[]], *status, out, trace)?;
+        let call = Call {
+            job: &JOB[..(*len).min(JOB.len())],
+            piece: 16,
+            status: *status,
+            out,
+            trace,
+            ..RUNS
+        };
+        gives(&rt, &call)?;
     }
     Ok(())
 }
 
+// Runs a text of so many letters, whose fourth is a line feed: what is told, and how many are left.
+fn stops(
+    rt: &(impl Abort + Alloc<A = Global> + Threads + Wait + Sync),
+    len: usize,
+    told: &[u8],
+    left: usize,
+) -> Result<(), Fail> {
+    let mut job = vec![in rt.alloc(); b'e'; len]?;
+    if let Some(byte) = job.get_mut(3) {
+        *byte = b'\n';
+    }
+    let given = given_by(rt, rt.alloc(), RUN, &job, 1 << 20, [&[], &[], &[]])?;
+    compare(rt, &given, Status::BadJob, told);
+    assert_eq!(rt; (given.left, given.trace.len()), (left, 0));
+    Ok(())
+}
+
+// How long such a text is, what is told, and how many are left.
+const LONG: &[(usize, &[u8], usize)] = &[
+    (1 << 24, b"job line 1: Word\n", 0),
+    ((1 << 24) + 1, TOO_LONG, 0),
+    ((1 << 24) + 2, TOO_LONG, 1),
+    ((1 << 24) + 100_000, TOO_LONG, 99_999),
+];
+
 #[test]
 fn no_more_than_one_byte_past_the_limit_is_read(rt: HostRuntime) -> Result<(), Fail> {
-    let alloc = rt.alloc();
-    let rows = [
-        (1 << 24, b"job line 1: Word\n".as_slice(), 0),
-        ((1 << 24) + 1, TOO_LONG, 0),
-        ((1 << 24) + 2, TOO_LONG, 1),
-        ((1 << 24) + 100_000, TOO_LONG, 99_999),
-    ];
-    for (len, told, left) in rows {
-        let mut job = vec![in alloc; b'e'; len]?;
-        if let Some(byte) = job.get_mut(3) {
-            *byte = b'\n';
-        }
-        let given = given_by(&rt, alloc, RUN, &job, 1 << 20, [&[], &[], &[]])?;
-        assert_eq!(rt; given.status, Status::BadJob);
-        assert_eq!(rt; given.out.as_slice(), told);
-        assert_eq!(rt; given.trace.is_empty(), true);
-        assert_eq!(rt; given.left, left);
+    for (len, told, left) in LONG {
+        stops(&rt, *len, told, *left)?;
     }
     Ok(())
 }
@@ -104,88 +147,82 @@ const FAULTS: &[(Edge, usize, u64)] = &[
     (Edge::Out, 16, 2),
 ];
 
-// Runs the job with this call of an edge failing. `given` bytes were given to it before.
-fn broken(
+// The texts of a run of the job in which such a call fails, behind so many bytes given to its edge.
+fn cut(edge: Edge, given: usize) -> (Status, &'static [u8], &'static [u8]) {
+    match edge {
+        Edge::Source => (Status::ReadFault, b"", b""),
+        Edge::Out => (Status::WriteFault, &OUT[..given.min(OUT.len())], TRACE),
+        Edge::Trace => (Status::WriteFault, b"", &TRACE[..given.min(TRACE.len())]),
+    }
+}
+
+// The calls of the job, of the output and of the trace that fail, where these of an edge do.
+fn of_edge(edge: Edge, failing: &[u64]) -> [&[u64]; 3] {
+    match edge {
+        Edge::Source => [failing, &[], &[]],
+        Edge::Out => [&[], failing, &[]],
+        Edge::Trace => [&[], &[], failing],
+    }
+}
+
+// Runs the job with this call of an edge failing, which gives these.
+fn breaks(
     rt: &(impl Abort + Alloc<A = Global> + Threads + Wait + Sync),
     edge: Edge,
     piece: usize,
     failing: u64,
-    given: usize,
-) -> Result<(), Fail>
-    requires { 1 ≤ piece }
-{
+    wanted: (Status, &[u8], &[u8]),
+) -> Result<(), Fail> {
     let fails: &[u64] = &[failing];
-    match edge {
-        Edge::Source => ends(
-            rt,
-            JOB,
-            piece,
-            [fails, &[], &[]],
-            Status::ReadFault,
-            b"",
-            b"",
-        ),
-        Edge::Trace => {
-            let trace = &TRACE[..given.min(TRACE.len())];
-            ends(
-                rt,
-                JOB,
-                piece,
-                [&[], &[], fails],
-                Status::WriteFault,
-                b"",
-                trace,
-            )
-        }
-        Edge::Out => {
-            let out = &OUT[..given.min(OUT.len())];
-            ends(
-                rt,
-                JOB,
-                piece,
-                [&[], fails, &[]],
-                Status::WriteFault,
-                out,
-                TRACE,
-            )
-        }
-    }
+    let fails = of_edge(edge, fails);
+    let given = given_by(rt, rt.alloc(), RUN, JOB, piece.max(1), fails)?;
+    compare(rt, &given, wanted.0, wanted.1);
+    assert_eq!(rt; given.trace.as_slice(), wanted.2);
+    Ok(())
 }
 
 // Each call fails in turn, and then the next, which no run makes.
 #[test]
 fn a_fault_is_told_and_cuts_one_text(rt: HostRuntime) -> Result<(), Fail> {
     for (edge, piece, calls) in FAULTS {
-        let piece = (*piece).max(1);
         let mut given = 0usize;
         for failing in 1..=*calls {
-            broken(&rt, *edge, piece, failing, given)?;
-            given = given.saturating_add(piece);
+            breaks(&rt, *edge, *piece, failing, cut(*edge, given))?;
+            given = given.saturating_add(*piece);
         }
-        let next: &[u64] = &[calls.saturating_add(1)];
-        let fails = match edge {
-            Edge::Source => [next, &[], &[]],
-            Edge::Out => [&[], next, &[]],
-            Edge::Trace => [&[], &[], next],
-        };
-        ends(&rt, JOB, piece, fails, Status::Done, OUT, TRACE)?;
+        let next = calls.saturating_add(1);
+        breaks(&rt, *edge, *piece, next, (Status::Done, OUT, TRACE))?;
     }
     Ok(())
 }
 
+// Each call of the output fails in turn, and then the next, which is not made.
+const LINE_FAULTS: &[Call] = &[
+    Call {
+        fails: [&[], &[1], &[1], &[1]],
+        status: Status::WriteFault,
+        out: b"",
+        ..NOT_RUN
+    },
+    Call {
+        fails: [&[], &[1], &[2], &[1]],
+        status: Status::WriteFault,
+        out: b"job lin",
+        ..NOT_RUN
+    },
+    Call {
+        fails: [&[], &[1], &[3], &[1]],
+        status: Status::WriteFault,
+        out: b"job line 1: Mi",
+        ..NOT_RUN
+    },
+    Call {
+        fails: [&[], &[1], &[4], &[1]],
+        ..NOT_RUN
+    },
+];
+
 #[test]
 fn a_fault_can_break_the_line_on_a_job(rt: HostRuntime) -> Result<(), Fail> {
-    for (failing, given) in [(1, 0), (2, 7), (3, 14)] {
-        let told = &MISSING[..given];
-        ends(
-            &rt,
-            b"",
-            7,
-            [&[], &[failing], &[1]],
-            Status::WriteFault,
-            told,
-            b"",
-        )?;
-    }
-    ends(&rt, b"", 7, [&[], &[4], &[1]], Status::BadJob, MISSING, b"")
+    all_give(&rt, LINE_FAULTS)
 }

@@ -1,8 +1,6 @@
 //! The fewest loads of old traces, traces that are none, and edges that fail.
 
-ghost use Rattle.std.specs.Prelude.{◌≤◌};
-
-use crate::calls::{RUN, given_by, given_with};
+use crate::calls::{Call, RUN, all_give, compare, given_by, given_with, gives, joined};
 use crate::paged_jobs::{ENCLAVE, EPC, SCRIPT};
 use crate::run_tests::{JOB, TRACE};
 use page_commands::status::Status;
@@ -71,40 +69,32 @@ r eld 2 A 0 2 abababababababababababababababababababababababababababababababab\n
     ),
 ];
 
-// Calls the program with these words, this job and this old trace over edges that move and fail so, and compares how that ends and what is
-// given. The trace that a run would give fails at its first call.
-fn tells(
-    rt: &(impl Abort + Alloc<A = Global> + Threads + Wait + Sync),
-    words: &[&str],
-    texts: [&[u8]; 2],
-    piece: usize,
-    fails: [&[u64]; 3],
-    status: Status,
-    told: &[u8],
-) -> Result<(), Fail>
-    requires { 1 ≤ piece }
-{
-    let fails = [fails[0], fails[1], fails[2], &[1]];
-    let given = given_with(rt, rt.alloc(), words, texts, piece, fails)?;
-    assert_eq!(rt; given.status, status);
-    assert_eq!(rt; given.out.as_slice(), told);
-    assert_eq!(rt; given.trace.is_empty(), true);
-    Ok(())
-}
+const NO_FAULT: [&[u64]; 4] = [&[], &[], &[], &[1]];
+
+/// The command on the job and its trace. The trace that a run would give fails at its first call.
+const LEAST_CALL: Call = Call {
+    words: LEAST,
+    job: JOB,
+    old: TRACE,
+    piece: 7,
+    fails: NO_FAULT,
+    status: Status::Done,
+    out: NUMBERS,
+    trace: b"",
+};
 
 #[test]
 fn an_old_trace_gives_its_numbers_or_its_first_faulty_line(rt: HostRuntime) -> Result<(), Fail> {
-    for piece in [1, 7, 1000] {
+    for piece in &[1, 7, 1000] {
         for (trace, status, told) in ROWS {
-            tells(
-                &rt,
-                LEAST,
-                [JOB, trace],
-                piece,
-                [&[], &[], &[]],
-                *status,
-                told,
-            )?;
+            let call = Call {
+                old: trace,
+                piece: *piece,
+                status: *status,
+                out: told,
+                ..LEAST_CALL
+            };
+            gives(&rt, &call)?;
         }
     }
     Ok(())
@@ -115,10 +105,8 @@ fn an_old_trace_gives_its_numbers_or_its_first_faulty_line(rt: HostRuntime) -> R
 fn a_job_that_is_not_accepted_comes_first(rt: HostRuntime) -> Result<(), Fail> {
     let fails: [&[u64]; 4] = [&[], &[1], &[], &[1]];
     let given = given_with(&rt, rt.alloc(), LEAST, [b"", TRACE], 7, fails)?;
-    assert_eq!(rt; given.status, Status::BadJob);
-    assert_eq!(rt; given.out.as_slice(), b"job line 1: Missing\n".as_slice());
-    assert_eq!(rt; given.old_left, TRACE.len());
-    assert_eq!(rt; given.faults, [0, 0, 0, 0]);
+    compare(&rt, &given, Status::BadJob, b"job line 1: Missing\n");
+    assert_eq!(rt; (given.old_left, given.faults), (TRACE.len(), [0, 0, 0, 0]));
     Ok(())
 }
 
@@ -126,85 +114,105 @@ fn a_job_that_is_not_accepted_comes_first(rt: HostRuntime) -> Result<(), Fail> {
 #[test]
 fn a_run_gives_a_trace_that_is_read(rt: HostRuntime) -> Result<(), Fail> {
     let alloc = rt.alloc();
-    let mut job = Vec::new(alloc);
-    for part in [EPC, ENCLAVE, SCRIPT] {
-        job.extend_from_slice(part)?;
-    }
+    let job = joined(alloc, &[EPC, ENCLAVE, SCRIPT])?;
     let run = given_by(&rt, alloc, RUN, &job, 1000, [&[], &[], &[]])?;
-    let fails: [&[u64]; 4] = [&[], &[], &[], &[1]];
-    let given = given_with(&rt, alloc, LEAST, [&job, &run.trace], 1000, fails)?;
-    assert_eq!(rt; given.status, Status::Done);
+    let given = given_with(&rt, alloc, LEAST, [&job, &run.trace], 1000, NO_FAULT)?;
     let begun = given
         .out
         .starts_with(b"accesses 80\nframes 10\nleast 70\nmade ");
-    assert_eq!(rt; begun, true);
+    assert_eq!(rt; (given.status, begun), (Status::Done, true));
     Ok(())
 }
 
-// Each call of the job and of the old trace fails in turn, and then the next, which is not made.
+// The command with this call of the job or of the old trace failing.
+fn source_fails(
+    rt: &(impl Abort + Alloc<A = Global> + Threads + Wait + Sync),
+    is_job: bool,
+    failing: u64,
+) -> Result<(), Fail> {
+    let failing: &[u64] = &[failing];
+    let fails: [&[u64]; 4] = if is_job {
+        [failing, &[], &[], &[1]]
+    } else {
+        [&[], failing, &[], &[1]]
+    };
+    let call = Call {
+        piece: 16,
+        fails,
+        status: Status::ReadFault,
+        out: b"",
+        ..LEAST_CALL
+    };
+    gives(rt, &call)
+}
+
+// Each of nine calls of the job and of 18 of the old trace fails in turn. The next is not made, as the first row below has it.
 #[test]
 fn a_fault_of_either_source_is_told(rt: HostRuntime) -> Result<(), Fail> {
-    for failing in 1..=9 {
-        tells(
-            &rt,
-            LEAST,
-            [JOB, TRACE],
-            16,
-            [&[failing], &[], &[]],
-            Status::ReadFault,
-            b"",
-        )?;
-    }
-    for failing in 1..=18 {
-        tells(
-            &rt,
-            LEAST,
-            [JOB, TRACE],
-            16,
-            [&[], &[failing], &[]],
-            Status::ReadFault,
-            b"",
-        )?;
-    }
-    tells(
-        &rt,
-        LEAST,
-        [JOB, TRACE],
-        16,
-        [&[10], &[19], &[]],
-        Status::Done,
-        NUMBERS,
-    )
-}
-
-// Each call of the output fails in turn, for the numbers and for the line on a fault.
-#[test]
-fn a_fault_of_the_output_cuts_the_text(rt: HostRuntime) -> Result<(), Fail> {
-    for (failing, given) in [(1, 0), (2, 7), (3, 14), (4, 21), (5, 28)] {
-        let told = &NUMBERS[..given];
-        tells(
-            &rt,
-            LEAST,
-            [JOB, TRACE],
-            7,
-            [&[], &[], &[failing]],
-            Status::WriteFault,
-            told,
-        )?;
-    }
-    for (failing, given) in [(1, 0), (2, 7)] {
-        let told = &b"trace line 1\n"[..given];
-        tells(
-            &rt,
-            LEAST,
-            [JOB, b""],
-            7,
-            [&[], &[], &[failing]],
-            Status::WriteFault,
-            told,
-        )?;
+    for (is_job, calls) in &[(true, 9), (false, 18)] {
+        for failing in 1..=*calls {
+            source_fails(&rt, *is_job, failing)?;
+        }
     }
     Ok(())
+}
+
+// Calls that are not made fail, and then each call of the output in turn, for the numbers and for the line on a fault.
+const FAULTS: &[Call] = &[
+    Call {
+        piece: 16,
+        fails: [&[10], &[19], &[], &[1]],
+        ..LEAST_CALL
+    },
+    Call {
+        fails: [&[], &[], &[1], &[1]],
+        status: Status::WriteFault,
+        out: b"",
+        ..LEAST_CALL
+    },
+    Call {
+        fails: [&[], &[], &[2], &[1]],
+        status: Status::WriteFault,
+        out: b"accesse",
+        ..LEAST_CALL
+    },
+    Call {
+        fails: [&[], &[], &[3], &[1]],
+        status: Status::WriteFault,
+        out: b"accesses 1\nfra",
+        ..LEAST_CALL
+    },
+    Call {
+        fails: [&[], &[], &[4], &[1]],
+        status: Status::WriteFault,
+        out: b"accesses 1\nframes 4\nl",
+        ..LEAST_CALL
+    },
+    Call {
+        fails: [&[], &[], &[5], &[1]],
+        status: Status::WriteFault,
+        out: b"accesses 1\nframes 4\nleast 1\n",
+        ..LEAST_CALL
+    },
+    Call {
+        old: b"",
+        fails: [&[], &[], &[1], &[1]],
+        status: Status::WriteFault,
+        out: b"",
+        ..LEAST_CALL
+    },
+    Call {
+        old: b"",
+        fails: [&[], &[], &[2], &[1]],
+        status: Status::WriteFault,
+        out: b"trace l",
+        ..LEAST_CALL
+    },
+];
+
+#[test]
+fn a_fault_of_the_output_cuts_the_text(rt: HostRuntime) -> Result<(), Fail> {
+    all_give(&rt, FAULTS)
 }
 
 const MIGRATE: &[&str] = &["migrate", "t"];
@@ -215,27 +223,49 @@ pub const OLD: &[u8] =
 b add A 2 4 reg rw words 7\nb init A - 006d518bbd8825da4a0e7d35d418aaf16b7749c62854a6f40d8d58db415a8c31\n\
 p0 enter A 0 2 3 0\np0 fill 2 4\np0 load 0x2000 7\np0 exit\nend 10\n";
 
-// Without a job, which would fail. What is given is a trace of the second edition, and no such trace is one of the first.
-const MIGRATED: &[(&[u8], &[u64], Status, &[u8])] = &[
-    (OLD, &[], Status::Done, TRACE),
-    (TRACE, &[], Status::BadTrace, b"trace line 1\n"),
-    (b"", &[], Status::BadTrace, b"trace line 1\n"),
-    (OLD, &[1], Status::WriteFault, b""),
-    (TRACE, &[2], Status::WriteFault, b"trace l"),
+// Without a job, which would fail.
+const MIGRATE_CALL: Call = Call {
+    words: MIGRATE,
+    job: b"",
+    old: OLD,
+    piece: 7,
+    fails: [&[1], &[], &[], &[1]],
+    status: Status::Done,
+    out: TRACE,
+    trace: b"",
+};
+
+// What is given is a trace of the second edition, and no such trace is one of the first.
+const MIGRATED: &[Call] = &[
+    MIGRATE_CALL,
+    Call {
+        old: TRACE,
+        status: Status::BadTrace,
+        out: b"trace line 1\n",
+        ..MIGRATE_CALL
+    },
+    Call {
+        old: b"",
+        status: Status::BadTrace,
+        out: b"trace line 1\n",
+        ..MIGRATE_CALL
+    },
+    Call {
+        fails: [&[1], &[], &[1], &[1]],
+        status: Status::WriteFault,
+        out: b"",
+        ..MIGRATE_CALL
+    },
+    Call {
+        old: TRACE,
+        fails: [&[1], &[], &[2], &[1]],
+        status: Status::WriteFault,
+        out: b"trace l",
+        ..MIGRATE_CALL
+    },
 ];
 
 #[test]
 fn a_trace_of_the_first_edition_is_migrated(rt: HostRuntime) -> Result<(), Fail> {
-    for (old, fails, status, told) in MIGRATED {
-        tells(
-            &rt,
-            MIGRATE,
-            [b"", old],
-            7,
-            [&[1], &[], fails],
-            *status,
-            told,
-        )?;
-    }
-    Ok(())
+    all_give(&rt, MIGRATED)
 }

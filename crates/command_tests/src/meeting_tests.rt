@@ -4,7 +4,7 @@ ghost use Rattle.std.specs.Prelude.{◌≡◌, [], IfSome};
 
 use crate::calls::{Edges, RUN};
 use crate::meeting::Meeting;
-use crate::run_tests::many_adds;
+use crate::run_tests::push_many_adds;
 use crate::seen_store::SeenStore;
 use backing_store::backing::Backing;
 use backing_store::planned_store::PlannedStore;
@@ -36,7 +36,8 @@ fn status_of<R: Threads + Wait + Sync, B: Backing + Send, G: Gate + Sync>(
 #[test]
 fn two_processors_meet_at_the_gate(rt: HostRuntime) -> Result<(), Fail> {
     let alloc = rt.alloc();
-    let job = many_adds(alloc)?;
+    let mut job = String::new(alloc);
+    push_many_adds(&mut job)?;
     let gate = Meeting::new();
     let rooms = AtomicU64::new(0);
     let puts = AtomicU64::new(0);
@@ -50,7 +51,7 @@ fn two_processors_meet_at_the_gate(rt: HostRuntime) -> Result<(), Fail> {
         gets: &gets,
         alone: &alone,
     };
-    let status = status_of(&rt, alloc, &job, store, &gate)?;
+    let status = status_of(&rt, alloc, job.as_bytes(), store, &gate)?;
     assert_eq!(rt; (status, gate.counts()), (Status::Done, [1, 1, 0, 0]));
     assert_eq!(rt; alone.load(Ordering::SeqCst), 0);
     // 34 of 48 pages leave 14 frames while they are added, each by a room and a put, and those that are entered are got back. How many

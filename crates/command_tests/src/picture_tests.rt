@@ -1,6 +1,6 @@
 //! Pictures of old traces.
 
-use crate::calls::given_with;
+use crate::calls::{compare, given_with};
 use crate::least_tests::OLD;
 use crate::run_tests::{JOB, TRACE};
 use page_commands::status::Status;
@@ -88,10 +88,8 @@ fn pictures(
 ) -> Result<(), Fail> {
     let fails: [&[u64]; 4] = [&[1], fails[0], fails[1], &[1]];
     let given = given_with(rt, rt.alloc(), &["picture", "t"], [JOB, old], 7, fails)?;
-    assert_eq!(rt; given.status, status);
-    assert_eq!(rt; given.out.as_slice(), told.as_bytes());
-    assert_eq!(rt; given.left, JOB.len());
-    assert_eq!(rt; given.trace.is_empty(), true);
+    compare(rt, &given, status, told.as_bytes());
+    assert_eq!(rt; (given.left, given.trace.len()), (JOB.len(), 0));
     Ok(())
 }
 

@@ -1,14 +1,9 @@
 //! Questions to old traces, whoever made them.
 
-use crate::calls::given_with;
+use crate::calls::{Call, RUNS, gives};
 use crate::run_tests::{JOB, TRACE};
 use page_commands::status::Status;
-use sgx_types::names::Memory;
-use std::alloc::{Alloc, Global};
-use std::process::Abort;
-use std::sync::Wait;
 use std::test::Fail;
-use std::thread::Threads;
 
 /// A page is added twice, which memory that is never evicted takes once, and a page comes that never was.
 const ODD: &[u8] =
@@ -130,24 +125,19 @@ const ROWS: &[(&[&str], &[u8], Status, &[u8])] = &[
     ),
 ];
 
-fn answers(
-    rt: &(impl Abort + Alloc<A = Global> + Threads + Wait + Sync),
-    words: &[&str],
-    old: &[u8],
-    status: Status,
-    told: &[u8],
-) -> Result<(), Fail> {
-    let fails: [&[u64]; 4] = [&[], &[], &[], &[1]];
-    let given = given_with(rt, rt.alloc(), words, [JOB, old], 100, fails)?;
-    assert_eq!(rt; given.status, status);
-    assert_eq!(rt; given.out.as_slice(), told);
-    Ok(())
-}
-
 #[test]
 fn a_question_to_a_trace_is_answered(rt: HostRuntime) -> Result<(), Fail> {
     for (words, old, status, told) in ROWS {
-        answers(&rt, words, old, *status, told)?;
+        let call = Call {
+            words,
+            job: JOB,
+            old,
+            fails: [&[], &[], &[], &[1]],
+            status: *status,
+            out: told,
+            ..RUNS
+        };
+        gives(&rt, &call)?;
     }
     Ok(())
 }

@@ -30,7 +30,7 @@ use Rattle.sgx_rules.specs.Table.{allows_update, pf_row}
 use Rattle.sgx_types.specs.Lawful.{is_enclave, is_lawful}
 use Rattle.sgx_rules.specs.Table.{first_of_row, EnclaveSight, SecsSight, is_loading, is_valid, entry_row}
 use Rattle.sgx_rules.specs.Flat.{FlatEnclave, flat, enclave_sight_of, tcs_fields, words_of, page_words}
-use Rattle.sgx_rules.specs.Sights.{row_at, seat_of, translation_at}
+use Rattle.sgx_rules.specs.Sights.{stay_of, row_at, seat_of, translation_at}
 use Rattle.sgx_rules.specs.Sights as sights
 use Rattle.sgx_rules.specs.Sights.{enter_sight_at}
 use Rattle.sgx_rules.specs.Rules.{case_of, RefusalRule, NamesFrames, TakesFree}
@@ -204,25 +204,26 @@ entry_agrees : (saves : TcsSight → Case) (saved : TcsSight → ℕ) (s : State
 entry_agrees saves saved s past p enclave tcs tf sf stands =
     entry_agrees_by saves saved s past _ _ enclave tcs tf sf (mode_by_entries s past stands p) stands
 
--- the row of a processor's instruction for the reclaimer, which is inside no enclave
-pub row_outside_agrees : (s : State) (past : List Entry) (action : Action) → is_of_cpus action ≡ true → Stands s past
-    → first_of_row (row_outside s action) ≡ first_of_row (row_at (making_of s) past actors.Reclaimer action)
-row_outside_agrees s past (Enter enclave tcs tf sf) own stands =
-    entry_agrees_by enter_saves enter_saved s past false false enclave tcs tf.0 sf.0 refl stands
-row_outside_agrees s past (Resume enclave tcs tf sf) own stands =
-    entry_agrees_by resume_saves resume_saved s past false false enclave tcs tf.0 sf.0 refl stands
-row_outside_agrees s past Exit own stands = refl
-row_outside_agrees s past (Aex cause) own stands = refl
-row_outside_agrees s past (Fill number f) own stands = refl
-row_outside_agrees s past (Load off) own stands = refl
-row_outside_agrees s past (Store off value) own stands = refl
-row_outside_agrees s past (Xadd off value) own stands = refl
-row_outside_agrees s past (Set value) own stands = refl
-row_outside_agrees s past (Plus value) own stands = refl
-row_outside_agrees s past (Pf op off) own stands = refl
-row_outside_agrees s past (OutLoad enclave off) own stands = refl
-row_outside_agrees s past (OutStore enclave off value) own stands = refl
-row_outside_agrees s past action own stands = cc
+-- the row of a processor's instruction for who is inside no enclave
+pub row_outside_agrees : (s : State) (past : List Entry) (a : Actor) (action : Action) → is_of_cpus action ≡ true
+    → stay_of past a ≡ None → Stands s past
+    → first_of_row (row_outside s action) ≡ first_of_row (row_at (making_of s) past a action)
+row_outside_agrees s past a (Enter enclave tcs tf sf) own outside stands =
+    rw outside (entry_agrees_by enter_saves enter_saved s past false false enclave tcs tf.0 sf.0 refl stands)
+row_outside_agrees s past a (Resume enclave tcs tf sf) own outside stands =
+    rw outside (entry_agrees_by resume_saves resume_saved s past false false enclave tcs tf.0 sf.0 refl stands)
+row_outside_agrees s past a Exit own outside stands = rw outside refl
+row_outside_agrees s past a (Aex cause) own outside stands = rw outside refl
+row_outside_agrees s past a (Fill number f) own outside stands = rw outside refl
+row_outside_agrees s past a (Load off) own outside stands = rw outside refl
+row_outside_agrees s past a (Store off value) own outside stands = rw outside refl
+row_outside_agrees s past a (Xadd off value) own outside stands = rw outside refl
+row_outside_agrees s past a (Set value) own outside stands = rw outside refl
+row_outside_agrees s past a (Plus value) own outside stands = rw outside refl
+row_outside_agrees s past a (Pf op off) own outside stands = rw outside refl
+row_outside_agrees s past a (OutLoad enclave off) own outside stands = rw outside refl
+row_outside_agrees s past a (OutStore enclave off value) own outside stands = rw outside refl
+row_outside_agrees s past a action own outside stands = cc
 
 -- ---- every row
 

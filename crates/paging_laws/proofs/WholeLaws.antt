@@ -1,18 +1,22 @@
 -- A machine that stands in all for its entries and records goes on to, by each instruction and each commit, where no record is
 -- forged.
-use Rattle.std.proofs.Common.{◌≡◌, ℕ, ◌≤◌, inl, inr, true, refl, sym, ap, subst, ◌∙◌, Option, Some, None, List, []}
+use Rattle.std.proofs.Common.{◌≡◌, ℕ, ◌≤◌, inl, inr, Bool, true, false, refl, sym, ap, subst, ◌∙◌, Option, Some, None, is_some, List, []}
 use Rattle.std.proofs.Common.{◌∷◌, ◌++◌}
 use Rattle.sgx_rules.specs.declared.entries.Entry.{Entry}
 use Rattle.sgx_types.specs.declared.names.Actor.{Actor}
+use Rattle.sgx_types.specs.declared.names.Actor.TheVariants as actors
 use Rattle.sgx_rules.specs.declared.entries.Action.{Action}
-use Rattle.sgx_rules.specs.declared.entries.Action.TheVariants.{Eld}
+use Rattle.sgx_rules.specs.declared.entries.Action.TheVariants.{Eld, Ewb, Init}
 use Rattle.sgx_rules.specs.declared.entries.Answer.{Answer}
 use Rattle.sgx_types.specs.declared.names.Frame.{Frame}
 use Rattle.sgx_rules.specs.declared.refusals.Refusal.{Refusal}
+use Rattle.sgx_rules.specs.Processors.{Stay, stay}
 use Rattle.sgx_rules.specs.Rules.{NoPageTwice, RefusalRule}
+use Rattle.sgx_rules.specs.Sights.{row_at, stay_of}
 use Rattle.sgx_types.specs.Sealed.{Sealed}
 use Rattle.sgx_rules.specs.Table.{first_of_row, is_loading}
 use Rattle.sgx_types.specs.Making.{Making}
+use Rattle.measure_log.specs.Rule.{MeasureRule}
 use Rattle.seal_record.specs.Records.{Given, Made, Unforged}
 use Rattle.page_history.specs.inner.Copies.{InFrame}
 use Rattle.sgx_rules.specs.Fresh.{ReloadRule}
@@ -31,18 +35,22 @@ use Rattle.paging_laws.proofs.NoteLaws.{noted_arrays, noted_brings, noted_keeps,
 use Rattle.seal_record.specs.Cipher.{cipher}
 use Rattle.paging_laws.specs.inner.Shape.{ShapeWithRules}
 use Rattle.paging_laws.specs.inner.Stands.{HasEnclaves, IsSound, StandsWithRules}
-use Rattle.paging_laws.specs.inner.State.{State, after_failed_eld, fresh, making_of}
-use Rattle.paging_laws.specs.inner.Steps.{CanApply, CanEnd, IsReloaded, IsStep, IsWrittenOut, commit_row, did_by, refused_by}
+use Rattle.paging_laws.specs.inner.State.{State, after_failed_eld, fresh, making_of, row_outside}
+use Rattle.paging_laws.specs.inner.Steps.{CanApply, CanEnd, IsNoProcessor, IsReloaded, IsStep, IsWrittenOut, commit_row, did_by, is_of_cpus, refused_by}
+use Rattle.paging_laws.proofs.ProcessorLaws.{mode_by_entries}
+use Rattle.paging_laws.proofs.ShapeColumns.{is_eld}
+use Rattle.paging_laws.proofs.ShapeLaws.{IsNextTo, held_by, shaped_more}
+use Rattle.paging_laws.proofs.ShapeRows.{refused_next}
 use Rattle.paging_laws.proofs.ShapeSteps.{fresh_shaped, reloaded_arrays, reloaded_shaped, step_arrays, step_shaped, written_arrays}
 use Rattle.paging_laws.proofs.ShapeSteps.{back_arrays, written_shaped}
-use Rattle.paging_laws.proofs.OutsideLaws.{outside_more, step_keeps}
+use Rattle.paging_laws.proofs.OutsideLaws.{outside_more, refused_keeps, step_keeps}
 use Rattle.paging_laws.proofs.ReloadLaws.{keeps_moves, reload_back, reload_fresh, reload_words}
-use Rattle.paging_laws.proofs.NextEntry.{Brings, once_before, stands_more}
+use Rattle.paging_laws.proofs.NextEntry.{Brings, once_before, refused_brings, stands_more}
 use Rattle.paging_laws.proofs.StepLaws.{step_brings}
 use Rattle.paging_laws.proofs.MoveLaws.{reloaded_brings, written_brings}
 use Rattle.paging_laws.proofs.StepRecords.{GivesRecord, made_same, made_same_eld, outside_written, reloaded_keeps, sealed_quiet}
 use Rattle.paging_laws.proofs.StepRecords.{sealed_quiet_eld}
-use Rattle.paging_laws.proofs.RowLaws.{step_entry, IsEntryOf}
+use Rattle.paging_laws.proofs.RowLaws.{row_outside_agrees, step_entry, IsEntryOf}
 
 -- ---- the rules of one entry more
 
@@ -116,6 +124,51 @@ step_all s t made past records cpus a action e few can sound guarded framed soun
 
     reload : ReloadRule past e
     reload = step_reload past cpus a action e can (step_entry s t a action e k)
+
+-- an instruction of processors that is refused to who is none of them
+module _ (s : State) (made : Making) (past : List Entry) (records : List Made) (a : Actor) (action : Action) (r : Refusal)
+    (own : is_of_cpus action ≡ true) (sound : IsSound s) (guarded : IsGuarded s) (nobody : IsNoProcessor a)
+    (refused : first_of_row (row_outside s action) ≡ Some r) (h : StandsWithAllRules made s past records) where
+  no-eld : (x : Action) → is_of_cpus x ≡ true → is_eld x ≡ false
+  no-eld (Eld f) is = cc is
+  no-eld x is = refl
+
+  outside : (x : Actor) → IsNoProcessor x → stay_of past x ≡ None
+  outside (actors.Cpu p) past-all = none-inside (stay past p.0)
+      (sym (mode_by_entries s past h.standing.stands p.0) ∙ ap is_some (guarded.few p.0 past-all))
+    where
+      none-inside : (o : Option Stay) → is_some o ≡ false → o ≡ None
+      none-inside None is = refl
+      none-inside (Some x) is = cc is
+  outside actors.Builder past-all = refl
+  outside actors.Reclaimer past-all = refl
+
+  row : first_of_row (row_at (making_of s) past a action) ≡ Some r
+  row = sym (row_outside_agrees s past a action own (outside a nobody) h.standing.stands) ∙ refused
+
+  refusal : (x : Action) → is_of_cpus x ≡ true → first_of_row (row_at (making_of s) past a x) ≡ Some r
+      → RefusalRule (making_of s) past (refused_by a x r)
+  refusal (Ewb f) is k = cc is
+  refusal (Eld f) is k = cc is
+  refusal (Init enclave expect) is k = cc is
+  refusal x is k = k
+
+  measure : (x : Action) → is_of_cpus x ≡ true → MeasureRule past (refused_by a x r)
+  measure (Init enclave expect) is = cc is
+  measure x is = tt
+
+  next : IsNextTo s s past (refused_by a action r)
+  next = refused_next s past a action r (no-eld action own) h.shaped.shape.columns (held_by made s past h.shaped)
+
+  shaped : ShapeWithRules made s (refused_by a action r ∷ past)
+  shaped = shaped_more made s s past (refused_by a action r) guarded sound guarded h.shaped tt next
+
+  pub refused_outside : StandsWithAllRules made s (refused_by a action r ∷ past) records
+  refused_outside =
+      all_more s s made past records (refused_by a action r) h shaped tt
+      (refused_brings s past a action r (refusal action own row) (measure action own) h.standing.stands) records
+      (next.arrays h.standing.stands.versions tt) tt
+      (λ rests. outside_more made.key past (refused_by a action r) (refused_keeps past a action r) rests h.outside) h.records
 
 -- the commit of a write-out
 pub written_all : (s t : State) (made : Making) (past : List Entry) (records : List Made) (a : Actor) (f : Frame) (e : Entry) (rec : Sealed)

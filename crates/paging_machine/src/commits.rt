@@ -67,9 +67,9 @@ impl Machine {
         requires { is_loading ((state_of self.now).content frame.0) ≡ true }
         ensures { IsComingHeader (state_of self.now) frame.0 result }
     {
-        let start = self.start(frame);
-        let page = start.loads.unwrap();
-        header_in(&self.secs, page).unwrap()
+        let secs = &self.secs;
+        let page = self.start(frame).loads.unwrap();
+        header_in(secs, page).unwrap()
     }
 
     /// The commit of EWB (Intel SDM volume 3D): the page is out of its frame, its version stands in the slot of the start,

@@ -1,5 +1,5 @@
 -- One instruction of the machine, or the commit of one: its entry and the state after it, exactly by its row.
-use Rattle.std.specs.Prelude.{ℕ, ◌≡◌, ◌<◌, ◌+◌, ◌*◌, ◌/◌, ◌^◌, ◌⊎◌, Bool, true, false, if◌then◌else◌, List, Option, Some, None}
+use Rattle.std.specs.Prelude.{ℕ, ◌≡◌, ◌<◌, ◌≤◌, ◌+◌, ◌*◌, ◌/◌, ◌^◌, ◌⊎◌, Bool, true, false, if◌then◌else◌, List, Option, Some, None}
 use Rattle.std.specs.Prelude.{MatchOption, length, map, unwrap_or}
 use Rattle.std.specs.Option.{IsSomeAnd}
 use Rattle.sgx_rules.specs.declared.entries.Entry.{Entry}
@@ -88,6 +88,11 @@ CanMove s _ = Unit {0}
 abbrev pub is_of_cpus : Action → Bool
 is_of_cpus (Fill number f) = true
 is_of_cpus action = is_processors action
+
+-- whose actor is no processor of any machine: there are 16 at most
+abbrev pub IsNoProcessor : Actor → Type 0
+IsNoProcessor (actors.Cpu p) = 16 ≤ p.0
+IsNoProcessor _ = Unit {0}
 
 -- the instructions that may need memory
 abbrev pub MayNeedMemory : Action → Type 0

@@ -11,25 +11,25 @@ use Rattle.paging_machine.proofs.CommitBridge.{coming, has_header, header_seen, 
 use Rattle.paging_machine.proofs.PagingSights.{loads_in, start_in}
 use Rattle.paging_machine.proofs.machine.Machine.coming_header.Goals as goal
 
-pub start-start-requires : goal.start-start-requires
-start-start-requires c = rw (← c.self.view_is)
+pub start-requires : goal.start-requires
+start-requires c = rw (← c.self.view_is)
     (start_in (state_of (parts_of c.self.inside)) c.args.frame.0 c.self.invariant.guarded (rw (← c.self.view_is) at c.requires))
 
 pub unwrap-page-requires : goal.unwrap-page-requires
 unwrap-page-requires c =
     loads_in (state_of (parts_of c.self.inside)) c.args.frame.0 _ c.self.invariant.guarded (rw (← c.self.view_is) at c.requires)
-    (rw (← c.self.view_is) at c.start-start.ensures)
+    (rw (← c.self.view_is) at c.start.ensures)
 
 pub unwrap-requires : goal.unwrap-requires
 unwrap-requires c =
     let m = c.self.inside in
     let d : Parts = parts_of m in
     let s : State = state_of d in
-    let x = c.start-start.result in
+    let x = c.start.result in
     let page : Page = c.unwrap-page.result in
     let own : BareStart = record { at = x.at; slot = x.slot; version = x.version; loads = x.loads } in
     let comes : is_loading (s.content c.args.frame.0) ≡ true = rw (← c.self.view_is) at c.requires in
-    let at : s.start c.args.frame.0 ≡ Some own = rw (← c.self.view_is) at c.start-start.ensures in
+    let at : s.start c.args.frame.0 ≡ Some own = rw (← c.self.view_is) at c.start.ensures in
     let w = waits m c.self.invariant c.args.frame.0 own page comes at c.unwrap-page.ensures in
     let k = has_header s page w.known in
     rw (c.header_in.ensures) (ap is_some (header_seen d page ∙ k.headed))
@@ -39,11 +39,11 @@ returns c =
     let m = c.self.inside in
     let d : Parts = parts_of m in
     let s : State = state_of d in
-    let x = c.start-start.result in
+    let x = c.start.result in
     let page : Page = c.unwrap-page.result in
     let own : BareStart = record { at = x.at; slot = x.slot; version = x.version; loads = x.loads } in
     let comes : is_loading (s.content c.args.frame.0) ≡ true = rw (← c.self.view_is) at c.requires in
-    let at : s.start c.args.frame.0 ≡ Some own = rw (← c.self.view_is) at c.start-start.ensures in
+    let at : s.start c.args.frame.0 ≡ Some own = rw (← c.self.view_is) at c.start.ensures in
     let w = waits m c.self.invariant c.args.frame.0 own page comes at c.unwrap-page.ensures in
     let k = has_header s page w.known in
     let header : Some c.unwrap.result ≡ Some k.header =
