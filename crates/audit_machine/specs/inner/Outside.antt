@@ -1,5 +1,5 @@
--- Which rule an entry breaks first whose instruction is a processor's, where its actor is none of the machine's processors.
-use Rattle.std.specs.Prelude.{Bool, if◌then◌else◌, Option, None, Some}
+-- Which rule an entry breaks first whose instruction is a processor's, where its actor is none.
+use Rattle.std.specs.Prelude.{if◌then◌else◌, Option, None, Some}
 use Rattle.sgx_rules.specs.declared.entries.Event.{Event}
 use Rattle.sgx_rules.specs.declared.entries.Event.TheVariants.{Did, Refused}
 use Rattle.sgx_rules.specs.declared.refusals.Refusal.{Refusal}
@@ -8,14 +8,12 @@ use Rattle.run_history.specs.declared.rules.Rule.TheVariants as rules
 use Rattle.audit_rules.specs.inner.Forms.{has_form}
 use Rattle.audit_rules.specs.inner.Same.{same_refusal}
 
-abbrev pub rule_of_done : Bool → Rule
-rule_of_done has_form = if has_form then rules.Flat else rules.Refusal
+-- where no case of its row holds
+abbrev pub rule_of_done : Event → Rule
+rule_of_done (Did action answer) = if has_form action answer then rules.Flat else rules.Refusal
+rule_of_done _ = rules.Refusal
 
-abbrev pub rule_of_refused : Bool → Option Rule
-rule_of_refused is_so = if is_so then None else Some rules.Refusal
-
--- by the first case of its row that holds. None where it was refused for that
-abbrev pub rule_outside : Option Refusal → Event → Option Rule
-rule_outside None (Did action answer) = Some (rule_of_done (has_form action answer))
-rule_outside (Some found) (Refused action why) = rule_of_refused (same_refusal why found)
-rule_outside _ _ = Some rules.Refusal
+-- where this is the first that holds. None where it was refused for that
+abbrev pub rule_of_refused : Refusal → Event → Option Rule
+rule_of_refused found (Refused action why) = if same_refusal why found then None else Some rules.Refusal
+rule_of_refused found _ = Some rules.Refusal
