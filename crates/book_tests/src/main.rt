@@ -82,19 +82,26 @@ fn book_of(rt: &HostRuntime, name: &str, how: Work) -> io::Result<Option<Box<Boo
     }
 }
 
-// It is in a box, since dropping it is dear to check wherever its owner can end.
 fn run_of(
     alloc: Global,
     text: &[u8],
     how: Work,
 ) -> Result<Option<Box<Book<PlannedStore>>>, Memory> {
+    let Some(mut book) = start_of(alloc, text)? else {
+        return Ok(None);
+    };
+    run(alloc, &mut *book, how)?;
+    Ok(Some(book))
+}
+
+// The book of a job that has done nothing yet, unless the text is no job's. It is in a box, since dropping it is dear to check wherever
+// its owner can end.
+fn start_of(alloc: Global, text: &[u8]) -> Result<Option<Box<Book<PlannedStore>>>, Memory> {
     let Ok(job) = read_job(alloc, text) else {
         return Ok(None);
     };
     let book = Book::start(alloc, job, PlannedStore::new())?;
-    let mut book = Box::new(alloc, book)?;
-    run(alloc, &mut *book, how)?;
-    Ok(Some(book))
+    Ok(Some(Box::new(alloc, book)?))
 }
 
 fn print_trace_of(
@@ -103,10 +110,14 @@ fn print_trace_of(
     book: Option<Box<Book<PlannedStore>>>,
 ) -> io::Result<()> {
     println!(rt; "{name}")?;
-    let Some(book) = book else {
-        return println!(rt; "no run");
-    };
-    let Ok(trace) = print_trace(rt.alloc(), book.entries()) else {
+    match &book {
+        Some(book) => print_entries(rt, book.entries()),
+        None => println!(rt; "no run"),
+    }
+}
+
+fn print_entries(rt: &HostRuntime, entries: &[Entry]) -> io::Result<()> {
+    let Ok(trace) = print_trace(rt.alloc(), entries) else {
         return println!(rt; "no memory");
     };
     match str::from_utf8(&trace) {
@@ -120,7 +131,7 @@ fn print_end(
     name: &str,
     book: Option<Box<Book<PlannedStore>>>,
 ) -> io::Result<()> {
-    match book {
+    match &book {
         Some(book) => println!(rt; "{name} {}", name_of(end_of(book.entries()))),
         None => println!(rt; "{name}: no run"),
     }
@@ -175,13 +186,11 @@ fn compare_entries(
     entries: &[Entry],
     calls: &[u8],
 ) -> Result<Told, Memory> {
-    let Ok(job) = read_job(alloc, job) else {
+    let Some(mut book) = start_of(alloc, job)? else {
         return Ok(Told::Unread);
     };
-    let book = Book::start(alloc, job, PlannedStore::new())?;
-    let mut book = Box::new(alloc, book)?;
     let played = play(alloc, &mut *book, entries)?;
-    let parts = Box::into_inner(book).into_parts();
+    let parts = Box::new(alloc, Box::into_inner(book).into_parts())?;
     let made = print_calls(alloc, parts.store.calls())?;
     Ok(told_by(played, entries.len(), made.as_slice() == calls))
 }
@@ -202,8 +211,13 @@ fn print_told(rt: &HostRuntime, name: &str, told: Result<Told, Memory>) -> io::R
         Ok(Told::All { entries }) => println!(rt;
             "{name}: all {entries} entries, and all calls of the store"
         ),
-        Ok(Told::OtherCalls) => println!(rt; "{name}: all entries, and other calls of the store"),
-        Ok(Told::Unread) => println!(rt; "{name}: no job, or no trace"),
-        Err(Memory) => println!(rt; "{name}: no memory"),
+        Ok(Told::OtherCalls) => print_why(rt, name, "all entries, and other calls of the store"),
+        Ok(Told::Unread) => print_why(rt, name, "no job, or no trace"),
+        Err(Memory) => print_why(rt, name, "no memory"),
     }
+}
+
+// Why a name has no count of entries.
+fn print_why(rt: &HostRuntime, name: &str, why: &str) -> io::Result<()> {
+    println!(rt; "{name}: {why}")
 }

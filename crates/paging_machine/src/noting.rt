@@ -1,8 +1,11 @@
 //! Entries that change no machine: of no instruction, and refusals to who is no processor.
 
-ghost use Rattle.std.specs.Prelude.{ℕ, ◌≡◌, ◌∷◌, true, List, Some};
+ghost use Rattle.std.specs.Prelude.{ℕ, ◌≡◌, ◌≤◌, ◌∷◌, true, List, Some, None};
+ghost use Rattle.sgx_rules.specs.declared.entries.Action.{Action};
 ghost use Rattle.sgx_rules.specs.declared.entries.Entry.{Entry};
+ghost use Rattle.sgx_rules.specs.declared.refusals.Refusal.{Refusal};
 ghost use Rattle.sgx_rules.specs.Table.{first_of_row};
+ghost use Rattle.sgx_types.specs.declared.names.Actor.{Actor};
 ghost use Rattle.sgx_types.specs.Making.{Making};
 ghost use Rattle.seal_record.specs.Records.{Made};
 ghost use Rattle.paging_laws.specs.inner.Histories.{StandsWithAllRules};
@@ -13,9 +16,7 @@ ghost use Rattle.paging_laws.specs.inner.Steps.{IsNoProcessor, is_of_cpus, refus
 ghost use Rattle.paging_machine.specs.inner.Parts.{state_of};
 
 use crate::machine::Machine;
-use sgx_rules::entries::{Action, Entry, Event};
-use sgx_rules::refusals::Refusal;
-use sgx_types::names::Actor;
+use sgx_rules::entries::{Entry, Event};
 
 impl Machine {
     /// An entry of no instruction: a look at a page, a kick, or a page that could not be reloaded. The machine is what it was, and
@@ -34,14 +35,14 @@ impl Machine {
         prove!(!matches!(entry.event, Event::Did { .. } | Event::Refused { .. }));
     }
 
-    /// An instruction of processors that the first case of its row refuses to who is none of them: a driver, or a processor past the 16th.
-    /// The machine is what it was, and stands for the longer list of entries.
-    pub fn note_refused(&self, actor: Actor, action: &Action, why: &Refusal)
-        requires of_cpus { is_of_cpus action.now ≡ true }
-        requires nobody { IsNoProcessor actor }
-        requires refused { first_of_row (row_outside (state_of self.now) action.now) ≡ Some why.now }
-        ensures { (making : Making) (past : List Entry) (records : List Made) → StandsWithAllRules making (state_of self.now) past records
-            → StandsWithAllRules making (state_of self.now) (refused_by actor action.now why.now ∷ past) records }
+    /// Who is no processor, a driver or a processor past the 16th, is inside no enclave. An instruction of processors that is refused to it for
+    /// the first case of its row leaves the machine what it was, which stands for the longer list of entries.
+    pub fn note_outsiders(&self)
+        ensures inside { (p : ℕ) → 16 ≤ p → (state_of self.now).inside p ≡ None }
+        ensures refused { (making : Making) (past : List Entry) (records : List Made) (actor : Actor) (action : Action) (why : Refusal)
+            → is_of_cpus action ≡ true → IsNoProcessor actor → first_of_row (row_outside (state_of self.now) action) ≡ Some why
+            → StandsWithAllRules making (state_of self.now) past records
+            → StandsWithAllRules making (state_of self.now) (refused_by actor action why ∷ past) records }
     {
         // There are 16 processors at most.
         prove!(self.cpus.len() <= 16);

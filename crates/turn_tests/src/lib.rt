@@ -6,6 +6,8 @@ mod builds;
 #[cfg(test)]
 mod loads;
 #[cfg(test)]
+mod rows;
+#[cfg(test)]
 mod stops;
 #[cfg(test)]
 mod worlds;

@@ -1,7 +1,8 @@
-//! A book of a job whose pages do not fit, with its words.
+//! A book of a job whose pages do not fit, with its words, and the rows of steps that are taken on it.
 
 ghost use Rattle.std.specs.Prelude.{◌≡◌, ◌<◌, length};
 
+use crate::rows::{Change, Last, Row, Seen, Step, Told, last_of};
 use backing_store::planned_store::PlannedStore;
 use epoch_words::words::Words;
 use job_text::reader::read_job;
@@ -9,7 +10,7 @@ use machine_book::book::{MachineBook, Turn};
 use seal_record::seal::{SealWork, SealedWork, seal};
 use seal_record::unseal::{UnsealWork, UnsealedWork, unseal};
 use sgx_rules::entries::Entry;
-use sgx_types::names::{Cpu, Memory};
+use sgx_types::names::{Actor, Cpu, Memory};
 use std::alloc::Global;
 use std::process::Abort;
 use std::test::Fail;
@@ -30,37 +31,50 @@ const FORTY_PAGES: &[u8] =
     load 0x1e000\nload 0x1f000\nload 0x20000\nload 0x21000\nload 0x22000\nload 0x23000\nload 0x24000\nload 0x25000\n\
     load 0x26000\nload 0x27000\nload 0x28000\nload 0x29000\neexit\n";
 
-/// A book of that job, and its words.
+/// A book of that job and its words, with the work of what has started.
 #[derive(Drop)]
 pub struct World {
     book: MachineBook<PlannedStore>,
     words: Words,
+    first: Option<Work>,
+    again: Option<Work>,
+    given: Option<[u8; 32]>,
     ghost theirs: { book.words ≡ words },
     ghost some: { 0 < length book.book.job.scripts },
 }
 
-/// What a book shows to its callers.
+// What is left to do between a start and its end.
+#[derive(Drop)]
+enum Work {
+    Out(Box<SealWork>),
+    Back(Box<UnsealWork>),
+}
+
+// What a book shows to its callers.
 #[derive(Drop, PartialEq)]
-pub struct Shown {
+struct Shown {
     entries: Vec<Entry>,
     cpus: u8,
     out_of_memory: bool,
 }
 
 impl World {
-    pub fn new(rt: &impl Abort, alloc: Global) -> Result<Box<World>, Fail> {
+    fn new(rt: &impl Abort, alloc: Global) -> Result<Box<World>, Fail> {
         let job = Box::new(alloc, read_job(alloc, FORTY_PAGES)?)?;
         assert!(rt; !job.scripts().is_empty());
         let (words, seat, _) = Words::new(alloc, &job)?;
         let book = MachineBook::start(alloc, Box::into_inner(job), PlannedStore::new(), seat)?;
-        Ok(Box::new(alloc, World { book, words })?)
+        let world = World {
+            book,
+            words,
+            first: None,
+            again: None,
+            given: None,
+        };
+        Ok(Box::new(alloc, world)?)
     }
 
-    pub fn entries(&self) -> &[Entry] {
-        self.book.entries()
-    }
-
-    pub fn shown(&self, alloc: Global) -> Result<Shown, Memory> {
+    fn shown(&self, alloc: Global) -> Result<Shown, Memory> {
         Ok(Shown {
             entries: self.book.entries().to_vec(alloc)?,
             cpus: self.book.cpus(),
@@ -88,103 +102,196 @@ impl World {
         self.book.commit_opened(Cpu(0), work)
     }
 
-    /// A turn of the builder: how many entries it made.
-    pub fn add(&mut self, alloc: Global) -> Result<Option<u32>, Memory> {
-        Ok(made(self.build(alloc)?))
+    fn refuse_memory(&mut self) {
+        self.book.stop_for_memory();
     }
 
-    /// Ten turns of the builder, each of one entry. Ten pages stand in the EPC then.
-    pub fn add_ten(&mut self, rt: &impl Abort, alloc: Global) -> Result<(), Memory> {
-        for _ in 0..10 {
-            assert_eq!(rt; self.add(alloc)?, Some(1));
+    // A turn. There is one processor.
+    fn turn(&mut self, alloc: Global, actor: Actor) -> Result<Turn, Memory> {
+        match actor {
+            Actor::Builder => self.build(alloc),
+            Actor::Reclaimer => self.reclaim(alloc),
+            Actor::Cpu(_) => self.run(alloc),
+        }
+    }
+
+    // Keeps the work that a turn answers.
+    fn keep(&mut self, turn: Turn) -> Told {
+        match turn {
+            Turn::Seal(work) => self.keep_work(Work::Out(work)),
+            Turn::Unseal(work) => {
+                self.given = Some(work.rec.tag);
+                self.keep_work(Work::Back(work))
+            }
+            turn => told(&turn),
+        }
+    }
+
+    fn keep_work(&mut self, work: Work) -> Told {
+        match &self.first {
+            Some(first) => {
+                let is_same = first.version() == work.version();
+                self.again = Some(work);
+                Told::Again { is_same }
+            }
+            None => {
+                self.first = Some(work);
+                Told::Started
+            }
+        }
+    }
+
+    fn end(&mut self, work: Option<Work>) -> Told {
+        let turn = match work {
+            Some(Work::Out(work)) => self.commit_sealed(seal(Box::into_inner(work))),
+            Some(Work::Back(work)) => self.commit_opened(unseal(Box::into_inner(work))),
+            None => return Told::Nothing,
+        };
+        told(&turn)
+    }
+
+    fn end_by_first(&mut self) -> Told {
+        let work = self.first.take();
+        self.end(work)
+    }
+
+    fn end_by_last(&mut self) -> Told {
+        let work = self.again.take();
+        self.end(work)
+    }
+
+    fn end_over_zeros(&mut self) -> Told {
+        let Some(Work::Back(work)) = self.first.take() else {
+            return Told::Nothing;
+        };
+        told(&self.commit_opened(unseal(over_zeros(Box::into_inner(work)))))
+    }
+
+    fn end_by_new(&mut self, alloc: Global) -> Result<Told, Memory> {
+        let work = Box::new(alloc, SealWork::new(alloc)?)?;
+        Ok(self.end(Some(Work::Out(work))))
+    }
+
+    fn take(&mut self, alloc: Global, step: Step) -> Result<Told, Memory> {
+        match step {
+            Step::Look => Ok(Told::Nothing),
+            Step::Turn(actor) => {
+                let turn = self.turn(alloc, actor)?;
+                Ok(self.keep(turn))
+            }
+            Step::EndByFirst => Ok(self.end_by_first()),
+            Step::EndByLast => Ok(self.end_by_last()),
+            Step::EndOverZeros => Ok(self.end_over_zeros()),
+            Step::EndByNew => self.end_by_new(alloc),
+            Step::RefuseMemory => {
+                self.refuse_memory();
+                Ok(Told::Nothing)
+            }
+        }
+    }
+
+    fn last(&self) -> Last {
+        last_of(self.book.entries().last(), self.given)
+    }
+
+    // Takes a step: what it answers, and what it leaves.
+    fn see(&mut self, alloc: Global, step: Step) -> Result<Seen, Memory> {
+        let before = self.shown(alloc)?;
+        let told = self.take(alloc, step)?;
+        let change = change(&before, &self.shown(alloc)?);
+        Ok((told, change, self.last()))
+    }
+
+    fn play(&mut self, rt: &impl Abort, alloc: Global, rows: &[Row]) -> Result<(), Fail> {
+        for (number, (step, want)) in rows.iter().enumerate() {
+            let seen = self.see(alloc, *step)?;
+            assert_eq!(rt; seen, *want, "row {number}");
         }
         Ok(())
     }
 
-    /// A turn of the reclaimer: what it answers is to be sealed.
-    pub fn to_seal(&mut self, alloc: Global) -> Result<Option<Box<SealWork>>, Memory> {
-        match self.reclaim(alloc)? {
-            Turn::Seal(work) => Ok(Some(work)),
-            _ => Ok(None),
+    // Ten turns of the builder, each of one entry. Ten pages stand in the EPC then.
+    fn add_ten(&mut self, rt: &impl Abort, alloc: Global) -> Result<(), Memory> {
+        for _ in 0..10 {
+            assert!(rt; told(&self.build(alloc)?) == Told::Made(1));
         }
+        Ok(())
     }
 
-    /// A turn of the processor: what it answers is to be opened.
-    pub fn to_open(&mut self, alloc: Global) -> Result<Option<Box<UnsealWork>>, Memory> {
-        match self.run(alloc)? {
-            Turn::Unseal(work) => Ok(Some(work)),
-            _ => Ok(None),
-        }
-    }
-
-    /// Ends a write-out by its work: how many entries that made.
-    pub fn end_write_out(&mut self, work: SealWork) -> Option<u32> {
-        made(self.commit_sealed(seal(work)))
-    }
-
-    /// Ends the processor's load by its work: how many entries that made.
-    pub fn end_load(&mut self, work: UnsealWork) -> Option<u32> {
-        made(self.commit_opened(unseal(work)))
-    }
-
-    /// Tells the book that memory was refused to a worker.
-    pub fn refuse_memory(&mut self) {
-        self.book.stop_for_memory();
-    }
-
-    /// Whether the turns of builder, processor and reclaimer, and the ends of a write-out and of a load, say that nothing is done any
-    /// more.
-    pub fn are_stopped(
-        &mut self,
-        alloc: Global,
-        out: Box<SealWork>,
-        back: Box<UnsealWork>,
-    ) -> Result<[bool; 5], Memory> {
-        let build = is_stopped(self.build(alloc)?);
-        let run = is_stopped(self.run(alloc)?);
-        let reclaim = is_stopped(self.reclaim(alloc)?);
-        let sealed = is_stopped(self.commit_sealed(seal(Box::into_inner(out))));
-        let opened = is_stopped(self.commit_opened(unseal(Box::into_inner(back))));
-        Ok([build, run, reclaim, sealed, opened])
-    }
-
-    /// Turns of the reclaimer until a write-out has started.
-    pub fn start_write_out(
-        &mut self,
-        rt: &impl Abort,
-        alloc: Global,
-    ) -> Result<Box<SealWork>, Fail> {
+    // Turns of the reclaimer until a write-out has started.
+    fn start_write_out(&mut self, rt: &impl Abort, alloc: Global) -> Result<(), Memory> {
         for _ in 0..1000 {
-            if let Some(work) = self.to_seal(alloc)? {
-                return Ok(work);
+            if self.take(alloc, Step::Turn(Actor::Reclaimer))? == Told::Started {
+                return Ok(());
             }
         }
         panic!(rt; "no write-out has started");
     }
 
-    /// Rounds of turns, each write-out ended at once, until the processor's load has started.
-    pub fn start_load(&mut self, rt: &impl Abort, alloc: Global) -> Result<Box<UnsealWork>, Fail> {
-        for _ in 0..10_000 {
-            if let Some(work) = self.to_seal(alloc)? {
-                let _ = self.end_write_out(Box::into_inner(work));
-            }
-            let _ = self.add(alloc)?;
-            if let Some(work) = self.to_open(alloc)? {
-                return Ok(work);
+    // Rounds of turns, each write-out ended at once, until the processor's load has started.
+    fn start_load(&mut self, rt: &impl Abort, alloc: Global) -> Result<(), Memory> {
+        for round in 0..40_000u32 {
+            if self.take(alloc, round_step(round))? == Told::Started && self.given.is_some() {
+                return Ok(());
             }
         }
         panic!(rt; "no load has started");
     }
 }
 
-// How many entries a turn made, none where it answered something else.
-fn made(turn: Turn) -> Option<u32> {
-    match turn {
-        Turn::Did { entries } => Some(entries),
-        _ => None,
+impl Work {
+    fn version(&self) -> u64 {
+        match self {
+            Work::Out(work) => work.version,
+            Work::Back(work) => work.version,
+        }
     }
 }
 
-fn is_stopped(turn: Turn) -> bool {
-    matches!(turn, Turn::Stopped)
+// A round has four steps.
+fn round_step(number: u32) -> Step {
+    match number % 4 {
+        0 => Step::Turn(Actor::Reclaimer),
+        1 => Step::EndByFirst,
+        2 => Step::Turn(Actor::Builder),
+        _ => Step::Turn(Actor::Cpu(Cpu(0))),
+    }
+}
+
+fn told(turn: &Turn) -> Told {
+    match turn {
+        Turn::Did { entries } => Told::Made(*entries),
+        Turn::Stopped => Told::Stopped,
+        _ => Told::Nothing,
+    }
+}
+
+fn change(before: &Shown, after: &Shown) -> Change {
+    if before == after {
+        return Change::Same;
+    }
+    Change::Grown(after.entries.len().saturating_sub(before.entries.len()))
+}
+
+fn over_zeros(work: UnsealWork) -> UnsealWork {
+    let mut work = work;
+    for byte in &mut work.rec.cipher {
+        *byte = 0;
+    }
+    work
+}
+
+/// Takes these steps on a book of ten pages, of which one has started to go out.
+pub fn play_write_out(rt: &impl Abort, alloc: Global, rows: &[Row]) -> Result<(), Fail> {
+    let mut world = World::new(rt, alloc)?;
+    world.add_ten(rt, alloc)?;
+    world.start_write_out(rt, alloc)?;
+    world.play(rt, alloc, rows)
+}
+
+/// Takes these steps on a book in which a load of the processor has started.
+pub fn play_load(rt: &impl Abort, alloc: Global, rows: &[Row]) -> Result<(), Fail> {
+    let mut world = World::new(rt, alloc)?;
+    world.start_load(rt, alloc)?;
+    world.play(rt, alloc, rows)
 }

@@ -52,22 +52,21 @@ fn keeps_each_page_by_its_number(rt: HostRuntime) -> Result<(), Fail> {
         (Some((Kind::Reg, WRITABLE)), None, None)
     );
     secs.take_tcs(2);
-    assert_eq!(rt;
-        (secs.tcs_busy(2), secs.tcs_busy(1), secs.tcs_busy(16)),
-        (true, false, false)
-    );
+    let taken = (secs.tcs_busy(2), secs.tcs_busy(1), secs.tcs_busy(16));
     secs.free_tcs(2);
-    assert!(rt; !secs.tcs_busy(2));
-    assert!(rt; !secs.is_init());
+    assert_eq!(rt; (taken, secs.tcs_busy(2)), ((true, false, false), false));
+    let was_init = secs.is_init();
     secs.set_init();
-    assert!(rt; secs.is_init());
+    assert_eq!(rt; (was_init, secs.is_init()), (false, true));
     secs.child_added();
     secs.child_added();
     secs.child_left();
-    assert_eq!(rt; secs.children(), 1);
-    assert_eq!(rt; secs.frame(), None);
+    let was_in = secs.frame();
     secs.set_frame(Some(Frame(9)));
-    assert_eq!(rt; secs.frame(), Some(Frame(9)));
+    assert_eq!(rt;
+        (secs.children(), was_in, secs.frame()),
+        (1, None, Some(Frame(9)))
+    );
     Ok(())
 }
 

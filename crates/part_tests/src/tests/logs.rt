@@ -43,16 +43,40 @@ fn digest_of(parts: &[&[u8]], count: usize) -> [u8; 32] {
     hasher.finalize()
 }
 
+// 32 words 7.
+fn sevens() -> [u8; 256] {
+    let mut chunk = [0; 256];
+    for word in 0..32 {
+        chunk[8 * word] = 7;
+    }
+    chunk
+}
+
+fn rising() -> [u8; 256] {
+    let mut chunk = [0; 256];
+    for index in 0..=255u8 {
+        chunk[usize::from(index)] = index;
+    }
+    chunk
+}
+
+// The measurements behind the enclave's start, behind its pages, and behind two chunks of the last.
+fn measured(first: &[u8; 256], last: &[u8; 256]) -> [[u8; 32]; 3] {
+    let mut measure = Measure::create(0x1_0000);
+    let created = measure.finish();
+    measure.add(0, 0x100);
+    measure.add(0x1000, 0x203);
+    measure.add(0x2000, 0x203);
+    let built = measure.finish();
+    measure.extend(0x2100, first);
+    measure.extend(0x2f00, last);
+    [created, built, measure.finish()]
+}
+
 #[test]
 fn measures_logs_as_sha256sum(rt: HostRuntime) {
-    let mut sevens = [0; 256];
-    for word in 0..32 {
-        sevens[8 * word] = 7;
-    }
-    let mut rising = [0; 256];
-    for index in 0..=255u8 {
-        rising[usize::from(index)] = index;
-    }
+    let first = sevens();
+    let last = rising();
     let log: [&[u8]; 14] = [
         &ECREATE,
         &ZEROS[..44],
@@ -64,26 +88,17 @@ fn measures_logs_as_sha256sum(rt: HostRuntime) {
         &ZEROS[..40],
         &EEXTEND,
         &ZEROS,
-        &sevens,
+        &first,
         &EEXTEND_LAST,
         &ZEROS,
-        &rising,
+        &last,
     ];
-    let mut measure = Measure::create(0x1_0000);
-    let created = measure.finish();
-    measure.add(0, 0x100);
-    measure.add(0x1000, 0x203);
-    measure.add(0x2000, 0x203);
-    let built = measure.finish();
-    measure.extend(0x2100, &sevens);
-    measure.extend(0x2f00, &rising);
-    let extended = measure.finish();
+    let [created, built, extended] = measured(&first, &last);
     for (parts, made, want) in [
         (2, created, CREATED),
         (8, built, BUILT),
         (14, extended, EXTENDED),
     ] {
-        assert_eq!(rt; digest_of(&log, parts), want, "{parts} parts");
-        assert_eq!(rt; made, want, "{parts} parts");
+        assert_eq!(rt; [digest_of(&log, parts), made], [want; 2], "{parts} parts");
     }
 }

@@ -48,8 +48,8 @@ fn has_each(rt: &impl Abort, table: &VaTable)
             frame: Frame(5),
             index,
         };
-        assert_eq!(rt; table.slot(at), 0x0607_0809_0000_0000 + u64::from(index));
-        assert!(rt; !table.busy(at));
+        let version = 0x0607_0809_0000_0000 + u64::from(index);
+        assert_eq!(rt; (table.slot(at), table.busy(at)), (version, false));
     }
 }
 

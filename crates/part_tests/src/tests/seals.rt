@@ -4,7 +4,10 @@ ghost use Rattle.std.specs.Prelude.{◌≡◌};
 
 use seal_record::seal::{SealWork, SealedWork, seal};
 use seal_record::unseal::{UnsealWork, UnsealedWork, unseal};
+use sgx_types::names::Memory;
 use sgx_types::record::{Header, Record};
+use std::alloc::Global;
+use std::process::Abort;
 use std::test::Fail;
 
 // Page 2 of the first enclave, whose base is 0x10000; it may be read and written.
@@ -112,15 +115,20 @@ fn sevens() -> [u8; 4096] {
     page
 }
 
+// The page of words 7, sealed under the zero key and version 1.
+fn sealed_sevens(alloc: Global) -> Result<SealedWork, Memory> {
+    let work = SealWork::new(alloc)?;
+    Ok(seal(filled(work, [0; 32], 1, HEADER, &sevens())))
+}
+
 #[test]
 fn a_page_is_sealed_as_python_does(rt: HostRuntime) -> Result<(), Fail> {
-    let work = SealWork::new(rt.alloc())?;
-    let sealed = seal(filled(work, [0; 32], 1, HEADER, &sevens()));
-    assert_eq!(rt; sealed.rec.header, HEADER);
-    assert_eq!(rt; sealed.rec.tag, TAG);
-    assert!(rt; sealed.rec.cipher.starts_with(&FIRST_CIPHER));
-    assert!(rt; sealed.rec.cipher.ends_with(&LAST_CIPHER));
-    assert!(rt; sealed.plain.as_slice() == sevens().as_slice());
+    let sealed = Box::new(rt.alloc(), sealed_sevens(rt.alloc())?)?;
+    assert_eq!(rt; (sealed.rec.header, sealed.rec.tag), (HEADER, TAG));
+    let starts = sealed.rec.cipher.starts_with(&FIRST_CIPHER);
+    let ends = sealed.rec.cipher.ends_with(&LAST_CIPHER);
+    let is_kept = sealed.plain.as_slice() == sevens().as_slice();
+    assert_eq!(rt; [starts, ends, is_kept], [true; 3]);
     Ok(())
 }
 
@@ -144,46 +152,88 @@ fn a_used_work_seals_another_page(rt: HostRuntime) -> Result<(), Fail> {
         &page,
     );
     let sealed = seal(work);
-    assert_eq!(rt; sealed.rec.tag, OTHER_TAG);
+    let tag = sealed.rec.tag;
     let again = seal(to_be_sealed_again(sealed));
-    assert_eq!(rt; again.rec.tag, OTHER_TAG);
+    assert_eq!(rt; [tag, again.rec.tag], [OTHER_TAG; 2]);
     Ok(())
 }
 
-#[test]
-fn a_sealed_page_comes_back(rt: HostRuntime) -> Result<(), Fail> {
-    let work = SealWork::new(rt.alloc())?;
-    let sealed = seal(filled(work, [0; 32], 1, HEADER, &sevens()));
-    let mut work = UnsealWork::new(rt.alloc(), record_of(sealed))?;
-    work.version = 1;
+// How the record of the page of words 7 is opened twice, the first time under the zero key, and whether it fits each time.
+struct Opening {
+    // The first byte of its cipher.
+    cipher: u8,
+
+    first_version: u64,
+    first_fits: bool,
+
+    // The last byte of the second key, whose others are zeros.
+    key: u8,
+    version: u64,
+    fits: bool,
+
+    // What the bytes begin with then, where that is known.
+    start: &'static [u8],
+}
+
+const OPENINGS: &[Opening] = &[
+    // As it was sealed.
+    Opening {
+        cipher: 0xd0,
+        first_version: 1,
+        first_fits: true,
+        key: 0,
+        version: 1,
+        fits: true,
+        start: &[7, 0],
+    },
+    // A changed cipher.
+    Opening {
+        cipher: 0xd1,
+        first_version: 0,
+        first_fits: false,
+        key: 0,
+        version: 1,
+        fits: false,
+        start: &[6, 0],
+    },
+    // Another version, and then another key.
+    Opening {
+        cipher: 0xd0,
+        first_version: 0,
+        first_fits: false,
+        key: 1,
+        version: 1,
+        fits: false,
+        start: &[],
+    },
+];
+
+// The page comes back exactly where its record fits.
+fn shows(rt: &impl Abort, opened: &UnsealedWork, fits: bool) {
+    let is_page = opened.plain.as_slice() == sevens().as_slice();
+    let is_fit = opened.computed == opened.rec.tag;
+    assert_eq!(rt; (is_page, is_fit, opened.rec.tag), (fits, fits, TAG));
+}
+
+fn opens(rt: &impl Abort, alloc: Global, opening: &Opening) -> Result<(), Fail> {
+    let mut rec = record_of(sealed_sevens(alloc)?);
+    rec.cipher[0] = opening.cipher;
+    let mut work = UnsealWork::new(alloc, rec)?;
+    work.version = opening.first_version;
     let opened = unseal(work);
-    assert!(rt; opened.plain.as_slice() == sevens().as_slice());
-    assert_eq!(rt; opened.computed, opened.rec.tag);
-    Ok(())
-}
-
-#[test]
-fn a_changed_cipher_shows(rt: HostRuntime) -> Result<(), Fail> {
-    let work = SealWork::new(rt.alloc())?;
-    let mut rec = record_of(seal(filled(work, [0; 32], 1, HEADER, &sevens())));
-    rec.cipher[0] ^= 1;
-    let opened = unseal(UnsealWork::new(rt.alloc(), rec)?);
-    let opened = unseal(to_be_opened_again(opened, [0; 32], 1));
-    assert_eq!(rt; opened.rec.tag, TAG);
-    assert_ne!(rt; opened.computed, TAG);
-    assert!(rt; opened.plain.starts_with(&[6, 0]));
-    Ok(())
-}
-
-#[test]
-fn another_key_or_version_shows(rt: HostRuntime) -> Result<(), Fail> {
-    let work = SealWork::new(rt.alloc())?;
-    let rec = record_of(seal(filled(work, [0; 32], 1, HEADER, &sevens())));
-    let opened = unseal(UnsealWork::new(rt.alloc(), rec)?);
-    assert_ne!(rt; opened.computed, opened.rec.tag);
+    shows(rt, &opened, opening.first_fits);
     let mut key = [0; 32];
-    key[31] = 1;
-    let opened = unseal(to_be_opened_again(opened, key, 1));
-    assert_ne!(rt; opened.computed, opened.rec.tag);
+    key[31] = opening.key;
+    let opened = unseal(to_be_opened_again(opened, key, opening.version));
+    shows(rt, &opened, opening.fits);
+    assert!(rt; opened.plain.starts_with(opening.start));
+    Ok(())
+}
+
+#[test]
+fn only_a_record_that_fits_comes_back(rt: HostRuntime) -> Result<(), Fail> {
+    for opening in OPENINGS {
+        opens(&rt, rt.alloc(), opening)?;
+    }
     Ok(())
 }

@@ -68,15 +68,14 @@ const LAST: SlotAt = SlotAt {
 fn use_slot(rt: &impl Abort, table: &mut VaTable, at: SlotAt)
     requires { IsSlot table.old.pages at }
 {
-    assert_eq!(rt; table.slot(at), 0);
+    let made = table.slot(at);
     table.write(at, 7);
     table.set_busy(at, true);
-    assert_eq!(rt; table.slot(at), 7);
-    assert!(rt; table.busy(at));
+    let used = (table.slot(at), table.busy(at));
     table.clear(at);
     table.set_busy(at, false);
-    assert_eq!(rt; table.slot(at), 0);
-    assert!(rt; !table.busy(at));
+    let cleared = (table.slot(at), table.busy(at));
+    assert_eq!(rt; (made, used, cleared), (0, (7, true), (0, false)));
 }
 
 #[test]
@@ -89,22 +88,27 @@ fn slots_keep_versions_and_marks(rt: HostRuntime) -> Result<(), Fail> {
 
 #[test]
 fn version_array_pages_are_counted(rt: HostRuntime) -> Result<(), Fail> {
-    let mut table = VaTable::new();
-    assert_eq!(rt; table.made(), 0);
+    let mut table = Box::new(rt.alloc(), VaTable::new())?;
+    let none = table.made();
     table.epa(rt.alloc(), Frame(3))?;
-    assert_eq!(rt; table.made(), 1);
+    let one = table.made();
     table.epa(rt.alloc(), Frame(1))?;
-    assert_eq!(rt; table.made(), 2);
+    assert_eq!(rt; (none, one, table.made()), (0, 1, 2));
     Ok(())
 }
+
+// What draws answer, and whether the versions are spent then.
+const DRAWS: &[(Result<u64, Refusal>, bool)] = &[
+    (Ok(18446744073709551614), false),
+    (Ok(18446744073709551615), true),
+    (Err(Refusal::VersionSpent), true),
+    (Err(Refusal::VersionSpent), true),
+];
 
 #[test]
 fn the_greatest_version_is_drawn_once(rt: HostRuntime) {
     let mut versions = Versions::new(18446744073709551614);
-    assert_eq!(rt; versions.draw(), Ok(18446744073709551614));
-    assert!(rt; !versions.is_spent());
-    assert_eq!(rt; versions.draw(), Ok(18446744073709551615));
-    assert!(rt; versions.is_spent());
-    assert_eq!(rt; versions.draw(), Err(Refusal::VersionSpent));
-    assert_eq!(rt; versions.draw(), Err(Refusal::VersionSpent));
+    for (want, is_spent) in DRAWS {
+        assert_eq!(rt; (versions.draw(), versions.is_spent()), (*want, *is_spent));
+    }
 }
