@@ -24,11 +24,11 @@ pub fn ask_outside(machine: &Machine, entry: &Entry, action: &Action) -> Option<
     requires nobody { IsNoProcessor entry.now.actor }
     ensures { Takes (state_of machine.now) entry.now (state_of machine.now) result }
 {
-    let Some(found) = machine.refusal_outside(action) else {
-        return Some(rule_of_done(&entry.event));
-    };
-    machine.note_refused(entry.actor, action, &found);
-    rule_of_refused(found, &entry.event)
+    machine.note_outsiders();
+    match machine.refusal_outside(action) {
+        Some(found) => rule_of_refused(found, &entry.event),
+        None => Some(rule_of_done(&entry.event)),
+    }
 }
 
 // The rule that is broken where no case of the row holds: the instruction was refused all the same, or done, with an answer of its row's

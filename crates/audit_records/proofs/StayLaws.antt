@@ -28,17 +28,17 @@ use Rattle.seal_record.specs.Sealing.{made_with}
 use Rattle.seal_record.specs.inner.Sealing.{made_by}
 use Rattle.seal_record.specs.declared.unseal.UnsealedWork.{UnsealedWork}
 use Rattle.page_history.specs.inner.Copies.{Copy, InFrame, InSlot, copy, copy_after, in_slot}
-use Rattle.page_history.specs.inner.Once.{IsMade}
-use Rattle.page_history.proofs.OpenStarts.{any_front}
-use Rattle.job_grammar.specs.Jobs.{JobView}
-use Rattle.turn_rules.specs.Machines.{machine_of}
+use Rattle.page_history.specs.inner.Once.{Gone, IsGone, IsMade, gone_after}
+use Rattle.page_history.specs.inner.Once as history
+use Rattle.page_history.proofs.OpenStarts.{any_front, any_head, any_rest}
 use Rattle.turn_rules.specs.Script.{action_of}
 use Rattle.paging_laws.specs.inner.Histories.{StandsWithAllRules}
 use Rattle.paging_laws.specs.inner.State.{State}
 use Rattle.paging_laws.proofs.OutsideLaws.{not_framed}
-use Rattle.run_history.specs.inner.Histories.{GoesOn}
 use Rattle.audit_machine.specs.inner.Asked.{GoesOnWith, HasLeft, IsDoneBack}
-use Rattle.audit_records.specs.inner.Kept.{HasRecord, KeepsRecords, Records, is_done_ewb, is_ewb, with_record, without_record}
+use Rattle.audit_machine.proofs.KeptLaws.{own_rules}
+use Rattle.audit_records.specs.inner.Kept.{IsKeptUnder, IsOldRecord, KeepsRecords, Kept, Records, is_done_ewb, is_ewb, kept_of, no_records}
+use Rattle.audit_records.specs.inner.Kept.{with_record, without_record}
 
 -- ---- the records that were made
 
@@ -65,8 +65,8 @@ none_made key past e other = event_made key past e.actor e.event other
 
 -- ---- no record at first
 
-pub none_out : (key : List ℕ) (kept : Records) → KeepsRecords key [] kept
-none_out key kept g slot v there = cc
+pub none_out : (key : List ℕ) → KeepsRecords key [] no_records
+none_out key = record { outside = λ g slot v there. cc; own = λ g one is. cc }
 
 -- ---- an entry that puts no page out
 
@@ -85,50 +85,66 @@ still_made : (key : List ℕ) (past : List Entry) (e : Entry) (one : Made) → i
     → IsMade key (e ∷ past) one
 still_made key past e one other made = subst (λ all. Any (λ x. x ≡ one) all) (sym (none_made key past e other)) made
 
-still_has : (key : List ℕ) (past : List Entry) (e : Entry) (v : ℕ) (o : Option Sealed) → is_done_ewb e.event ≡ false
-    → HasRecord key past v o → HasRecord key (e ∷ past) v o
-still_has key past e v o other has = record {
-  rec = has.rec;
-  is_kept = has.is_kept;
-  made = still_made key past e (made_with v has.rec) other has.made;
-}
+-- a page that went out once has gone out ever after
+gone-still : (past : List Entry) (e : Entry) (x : Gone) → IsGone past x → IsGone (e ∷ past) x
+gone-still past e x gone = by_event e.event
+  where
+    by_event : (event : Event) → Any (λ one. one ≡ x) (gone_after event (history.gone past))
+    by_event (Did (Ewb f) (Moved page version tag)) = any_rest (λ one. one ≡ x) _ (history.gone past) gone
+    by_event event = gone
 
 pub records_stay : (key : List ℕ) (past : List Entry) (e : Entry) (kept : Records) → is_done_ewb e.event ≡ false
     → KeepsRecords key past kept → KeepsRecords key (e ∷ past) kept
-records_stay key past e kept other keeps g slot v there =
-    still_has key past e v (kept g) other (keeps g slot v
-    (event_stays (vas_made past) (open_start past) g (copy past g) slot v e.event other there))
+records_stay key past e kept other keeps = record {
+  outside = λ g slot v there.
+      keeps.outside g slot v (event_stays (vas_made past) (open_start past) g (copy past g) slot v e.event other there);
+  own = λ g one is.
+      let old = keeps.own g one is in
+      record { gone = gone-still past e _ old.gone; made = still_made key past e (made_with one.0 one.1) other old.made };
+}
 
 -- ---- a page that goes out
 
-pub record_put : (key : List ℕ) (past : List Entry) (e : Entry) (f : Frame) (page : Page) (version : ℕ) (tag : List ℕ) (rec : Sealed)
-    (kept : Records)
-    → e.event ≡ Did (Ewb f) (Moved page version tag) → made_by key (e ∷ past) ≡ made_by key past ++ made_with version rec ∷ []
-    → KeepsRecords key past kept → KeepsRecords key (e ∷ past) (with_record kept page rec)
-record_put key past e f page version tag rec kept told more keeps g slot v there =
-    by_page (same_page page g) (rw told at there)
-  where
-    by_slot : (o : Option Start) → in_slot o version ≡ Some (InSlot slot v) → version ≡ v
-    by_slot None is = cc
-    by_slot (Some start) is = cc
+module _ (key : List ℕ) (past : List Entry) (e : Entry) (f : Frame) (page : Page) (version : ℕ) (tag : List ℕ) (rec : Sealed)
+    (kept : Records) (told : e.event ≡ Did (Ewb f) (Moved page version tag))
+    (more : made_by key (e ∷ past) ≡ made_by key past ++ made_with version rec ∷ []) (keeps : KeepsRecords key past kept) where
+  new : IsMade key (e ∷ past) (made_with version rec)
+  new = subst (Any (λ x. x ≡ made_with version rec)) (sym more) (Any-push (λ x. x ≡ made_with version rec) (made_by key past)
+      (made_with version rec) refl)
 
-    new : IsMade key (e ∷ past) (made_with version rec)
-    new = subst (Any (λ x. x ≡ made_with version rec)) (sym more) (Any-push (λ x. x ≡ made_with version rec) (made_by key past)
-        (made_with version rec) refl)
+  old : (one : Made) → IsMade key past one → IsMade key (e ∷ past) one
+  old one made = subst (Any (λ x. x ≡ one)) (sym more) (any_front (λ x. x ≡ one) (made_by key past) (made_with version rec ∷ []) made)
 
-    old : (one : Made) → IsMade key past one → IsMade key (e ∷ past) one
-    old one made = subst (Any (λ x. x ≡ one)) (sym more) (any_front (λ x. x ≡ one) (made_by key past) (made_with version rec ∷ []) made)
+  out-now : IsGone (e ∷ past) (record { page = page; version = version })
+  out-now = rw told (any_head (λ one. one ≡ record { page = page; version = version }) _ (history.gone past) refl)
 
-    by_page : (b : Bool) → cond b (in_slot (open_start past f.0) version) (copy past g) ≡ Some (InSlot slot v)
-        → HasRecord key (e ∷ past) v (cond b (Some rec) (kept g))
-    by_page true is = record {
-      rec = rec;
-      is_kept = refl;
-      made = subst (λ w. IsMade key (e ∷ past) (made_with w rec)) (by_slot (open_start past f.0) is) new;
-    }
-    by_page false is =
-        let has = keeps g slot v is in
-        record { rec = has.rec; is_kept = has.is_kept; made = old (made_with v has.rec) has.made }
+  put-outside : (g : Page) (slot : VaSlot) (v : ℕ) → copy (e ∷ past) g ≡ Some (InSlot slot v)
+      → IsKeptUnder v (with_record kept page (version, rec) g)
+  put-outside g slot v there = by_page (same_page page g) (rw told at there)
+    where
+      by_slot : (o : Option Start) → in_slot o version ≡ Some (InSlot slot v) → version ≡ v
+      by_slot None is = cc
+      by_slot (Some start) is = cc
+
+      by_page : (b : Bool) → cond b (in_slot (open_start past f.0) version) (copy past g) ≡ Some (InSlot slot v)
+          → IsKeptUnder v (cond b (Some (version, rec)) (kept g))
+      by_page true is = (rec, ap (λ w. Some (w, rec)) (by_slot (open_start past f.0) is))
+      by_page false is = keeps.outside g slot v is
+
+  put-own : (g : Page) (one : Kept) → with_record kept page (version, rec) g ≡ Some one → IsOldRecord key (e ∷ past) g one
+  put-own g one is = by_page (same_page page g) refl is
+    where
+      by_page : (b : Bool) → same_page page g ≡ b → cond b (Some (version, rec)) (kept g) ≡ Some one → IsOldRecord key (e ∷ past) g one
+      by_page true here was =
+          let its : IsOldRecord key (e ∷ past) page (version, rec) = record { gone = out-now; made = new } in
+          subst (λ x. IsOldRecord key (e ∷ past) g x) (same_Some (version, rec) one was)
+          (subst (λ h. IsOldRecord key (e ∷ past) h (version, rec)) (same_pages page g here) its)
+      by_page false other was =
+          let its = keeps.own g one was in
+          record { gone = gone-still past e _ its.gone; made = old (made_with one.0 one.1) its.made }
+
+  pub record_put : KeepsRecords key (e ∷ past) (with_record kept page (version, rec))
+  record_put = record { outside = put-outside; own = put-own }
 
 -- .. which the entry names
 page_in : (x : Event) (f : Frame) (action : Action) (g page : Page) (v version : ℕ) (told tag : List ℕ) → x ≡ Did (Ewb f) (Moved g v told)
@@ -136,17 +152,16 @@ page_in : (x : Event) (f : Frame) (action : Action) (g page : Page) (v version :
 page_in x f action g page v version told tag is was =
     let same : Did (Ewb f) (Moved g v told) ≡ Did action (Moved page version tag) = sym is ∙ was in cc
 
-pub record_left : (j : JobView) (s t : State) (past : List Entry) (e : Entry) (f : Frame) (work : UnsealedWork) (action : Action)
+pub record_left : (k : Making) (s t : State) (past : List Entry) (e : Entry) (f : Frame) (work : UnsealedWork) (action : Action)
     (page : Page) (version : ℕ) (tag : List ℕ) (kept : Records) → HasLeft s e f work t
     → e.event ≡ Did action (Moved page version tag)
-    → StandsWithAllRules (machine_of j) s past (made_by j.key past) → KeepsRecords j.key past kept
-    → KeepsRecords j.key (e ∷ past) (with_record kept page work.rec)
-record_left j s t past e f work action page version tag kept left told h keeps =
+    → StandsWithAllRules k s past (made_by k.key past) → KeepsRecords k.key past kept
+    → KeepsRecords k.key (e ∷ past) (with_record kept page (kept_of work))
+record_left k s t past e f work action page version tag kept left told h keeps =
     let same : left.page ≡ page =
     page_in e.event f action left.page page work.version version work.rec.tag tag left.told told in
-    subst (λ g. KeepsRecords j.key (e ∷ past) (with_record kept g work.rec)) same
-    (record_put j.key past e f left.page work.version work.rec.tag work.rec kept left.told
-    (made_left (machine_of j) s t past e f work left h) keeps)
+    subst (λ g. KeepsRecords k.key (e ∷ past) (with_record kept g (kept_of work))) same
+    (record_put k.key past e f left.page work.version work.rec.tag work.rec kept left.told (made_left k s t past e f work left h) keeps)
 
 -- ---- a page that comes back
 
@@ -157,44 +172,41 @@ module _ (key : List ℕ) (past : List Entry) (actor : Actor) (f : Frame) (page 
   entry = record { actor = actor; event = Did (Eld f) (Moved page version tag) }
 
   record_dropped : KeepsRecords key (entry ∷ past) (without_record kept page)
-  record_dropped g slot v there = by_page (same_page page g) there
+  record_dropped = record {
+    outside = λ g slot v there. by_copy g slot v (same_page page g) there;
+    own = λ g one is. by_kept g one (same_page page g) is;
+  }
     where
-      by_page : (b : Bool) → cond b (Some (InFrame f.0)) (copy past g) ≡ Some (InSlot slot v)
-          → HasRecord key (entry ∷ past) v (cond b None (kept g))
-      by_page true is = cc
-      by_page false is = still_has key past entry v (kept g) refl (keeps g slot v is)
+      by_copy : (g : Page) (slot : VaSlot) (v : ℕ) (b : Bool) → cond b (Some (InFrame f.0)) (copy past g) ≡ Some (InSlot slot v)
+          → IsKeptUnder v (cond b None (kept g))
+      by_copy g slot v true is = cc
+      by_copy g slot v false is = keeps.outside g slot v is
 
-pub record_back : (j : JobView) (past : List Entry) (e : Entry) (f : Frame) (start : Start) (page : Page) (kept : Records)
-    → GoesOn j (e ∷ past) → IsDoneBack e.event f → open_start past f.0 ≡ Some start → start.loads ≡ Some page
-    → KeepsRecords j.key past kept → KeepsRecords j.key (e ∷ past) (without_record kept page)
-record_back j past e f start page kept goes done opened loads keeps = by_event e.event done goes.refusal.1.0
+      by_kept : (g : Page) (one : Kept) (b : Bool) → cond b None (kept g) ≡ Some one → IsOldRecord key (entry ∷ past) g one
+      by_kept g one true is = cc
+      by_kept g one false is =
+          let old = keeps.own g one is in
+          record { gone = gone-still past entry _ old.gone; made = still_made key past entry (made_with one.0 one.1) refl old.made }
+
+pub record_back : (k : Making) (s t : State) (past : List Entry) (records : List Made) (e : Entry) (f : Frame) (start : Start) (page : Page)
+    (kept : Records) → StandsWithAllRules k t (e ∷ past) records → IsDoneBack e.event f → open_start past f.0 ≡ Some start
+    → start.loads ≡ Some page → KeepsRecords k.key past kept → KeepsRecords k.key (e ∷ past) (without_record kept page)
+record_back k s t past records e f start page kept stands done opened loads keeps = by_event e.event done (own_rules k t (e ∷ past) records stands).refusal.0
   where
     by_back : (answer : Answer) → IsBack past f.0 answer
-        → KeepsRecords j.key (record { actor = e.actor; event = Did (Eld f) answer } ∷ past) (without_record kept page)
+        → KeepsRecords k.key (record { actor = e.actor; event = Did (Eld f) answer } ∷ past) (without_record kept page)
     by_back answer back =
         let same : back.ends.start ≡ start = same_Some _ _ (sym back.ends.opened ∙ opened) in
         let its : back.page ≡ page = same_Some _ _ (sym back.ends.loads ∙ ap (λ (x : Start). x.loads) same ∙ loads) in
-        rw (back.told, its) (record_dropped j.key past e.actor f page back.version back.tag kept keeps)
+        rw (back.told, its) (record_dropped k.key past e.actor f page back.version back.tag kept keeps)
 
-    by_event : (event : Event) → IsDoneBack event f → RefusalRule (machine_of j) past (record { actor = e.actor; event = event })
-        → KeepsRecords j.key (record { actor = e.actor; event = event } ∷ past) (without_record kept page)
+    by_event : (event : Event) → IsDoneBack event f → RefusalRule k past (record { actor = e.actor; event = event })
+        → KeepsRecords k.key (record { actor = e.actor; event = event } ∷ past) (without_record kept page)
     by_event (Did action answer) is rule =
-        subst (λ a. RefusalRule (machine_of j) past (record { actor = e.actor; event = Did a answer })
-        → KeepsRecords j.key (record { actor = e.actor; event = Did a answer } ∷ past) (without_record kept page)) (sym is)
+        subst (λ a. RefusalRule k past (record { actor = e.actor; event = Did a answer })
+        → KeepsRecords k.key (record { actor = e.actor; event = Did a answer } ∷ past) (without_record kept page)) (sym is)
         (λ r. by_back answer r.1) rule
     by_event event is rule = absurd is
-
--- ---- a record that was taken out and is kept again
-
-pub record_again : (key : List ℕ) (past : List Entry) (page : Page) (rec : Sealed) (kept : Records) → kept page ≡ Some rec
-    → KeepsRecords key past kept → KeepsRecords key past (with_record (without_record kept page) page rec)
-record_again key past page rec kept was keeps g slot v there = by_page (same_page page g) refl (keeps g slot v there)
-  where
-    by_page : (b : Bool) → same_page page g ≡ b → HasRecord key past v (kept g)
-        → HasRecord key past v (cond b (Some rec) (cond b None (kept g)))
-    by_page true is has =
-        subst (HasRecord key past v) (ap kept (sym (same_pages page g is)) ∙ was) has
-    by_page false is has = has
 
 -- ---- the other entries
 

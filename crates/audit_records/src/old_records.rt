@@ -1,7 +1,7 @@
 //! The records with which pages went out last.
 
 ghost use Rattle.std.specs.Prelude.{◌≡◌, OnErr, OnOk, option_map};
-ghost use Rattle.audit_records.specs.inner.Kept.{no_records, rec_of, records_of, with_record, without_record};
+ghost use Rattle.audit_records.specs.inner.Kept.{kept_of, no_records, records_of, with_record, without_record};
 ghost use Rattle.audit_records.specs.inner.Views.{key_of};
 
 use seal_record::unseal::UnsealedWork;
@@ -26,18 +26,18 @@ fn key_of(page: Page) -> PageKey
     }
 }
 
-/// For each page the record with which it went out last, opened, where one is kept. No call takes longer where more are.
+/// For each page a record with which it went out, opened, where one is kept. No call takes longer where more are.
 #[derive(Drop)]
 pub struct OldRecords {
     works: HashMap<PageKey, UnsealedWork>,
 }
 
 impl Model for OldRecords {
-    ghost use Rattle.std.specs.Prelude.{List};
+    ghost use Rattle.std.specs.Prelude.{ℕ, List};
     ghost use Rattle.sgx_types.specs.declared.names.Page.{Page};
     ghost use Rattle.sgx_types.specs.Sealed.{Sealed};
 
-    ghost Value = { List (Page × Sealed) };
+    ghost Value = { List (Page × (ℕ × Sealed)) };
 
     ghost use Rattle.audit_records.specs.inner.Views.{pairs_in};
 
@@ -56,7 +56,7 @@ impl OldRecords {
 
     /// Keeps a record for a page, in place of the one that was kept for it. Refused memory leaves all as it was.
     pub fn keep(&mut self, page: Page, work: UnsealedWork) -> Result<(), Memory>
-        ensures kept { OnOk result (records_of self.new ≡ with_record (records_of self.old) page work.rec) }
+        ensures kept { OnOk result (records_of self.new ≡ with_record (records_of self.old) page (kept_of work)) }
         ensures refused { OnErr result (self.new ≡ self.old) }
     {
         self.works.insert(key_of(page), work)?;
@@ -65,7 +65,7 @@ impl OldRecords {
 
     /// Takes the record out that is kept for a page, if one is.
     pub fn take(&mut self, page: Page) -> Option<UnsealedWork>
-        ensures taken { option_map rec_of result ≡ records_of self.old page }
+        ensures taken { option_map kept_of result ≡ records_of self.old page }
         ensures gone { records_of self.new ≡ without_record (records_of self.old) page }
     {
         self.works.remove(&key_of(page))

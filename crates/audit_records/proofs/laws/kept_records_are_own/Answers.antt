@@ -1,6 +1,10 @@
-use Rattle.audit_records.proofs.OwnLaws.{own_is_kept}
+use Rattle.audit_records.proofs.OwnLaws.{comes_fresh, own_is_kept}
 use Rattle.audit_records.proofs.laws.kept_records_are_own.Goals as goal
 
 pub returns : goal.returns
-returns c = λ j s past records kept goes h keeps n start page opened loads.
-    own_is_kept j s past records goes h n start page opened loads kept keeps
+returns c = record {
+  own = λ k s past records kept h keeps n start page rec opened loads is.
+      own_is_kept k s past records h kept keeps n start page opened loads rec is;
+  fresh = λ k s past records kept h keeps n start page version tag opened loads last.
+      comes_fresh k s past records h kept keeps n start page opened loads version tag last;
+}

@@ -1,5 +1,5 @@
 use Rattle.std.proofs.Common.{None, option_map, ap, sym, ◌∙◌}
-use Rattle.audit_records.specs.inner.Kept.{rec_of, records_of}
+use Rattle.audit_records.specs.inner.Kept.{kept_of, records_of}
 use Rattle.audit_records.specs.inner.Views.{key_of}
 use Rattle.audit_records.proofs.MapLaws.{record_after, record_at}
 use Rattle.audit_records.proofs.old_records.OldRecords.take.Goals as goal
@@ -7,7 +7,7 @@ use Rattle.audit_records.proofs.old_records.OldRecords.take.Goals as goal
 pub returns-clause-taken : goal.returns-clause-taken
 returns-clause-taken c =
     let value = rw c.key_of.ensures at c.remove.ensures.value in
-    ap (option_map rec_of) value ∙ sym (record_at c.self.inside.works.entries c.args.page)
+    ap (option_map kept_of) value ∙ sym (record_at c.self.inside.works.entries c.args.page)
     ∙ ap (λ pairs. records_of pairs c.args.page) c.self.view_is
 
 pub returns-clause-gone : goal.returns-clause-gone
