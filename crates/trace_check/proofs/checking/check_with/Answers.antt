@@ -1,0 +1,34 @@
+use Rattle.std.proofs.Common.{◌≡◌, ◌≤◌, ◌∙◌, ℕ, sym, subst, arith}
+use Rattle.trace_check.specs.inner.Tests.{IsActor}
+use Rattle.trace_check.proofs.PlaceLaws.{any_actor, can_check, fault_at, kept_throughout, taken_at}
+use Rattle.trace_check.proofs.checking.check_with.Goals as goal
+
+over : {n count i : ℕ} → count ≡ n → count ≤ i → n ≤ i
+over value past = omega (arith, value, past)
+
+pub loop-place-init : goal.loop-place-init
+loop-place-init c = (c.requires.cpus, c.requires.checked)
+
+pub ask-requires-clause-actor : goal.ask-requires-clause-actor
+ask-requires-clause-actor c = subst (λ n. IsActor n _) (sym c.loop-place.invariant.0) (any_actor _)
+
+pub ask-requires-clause-can : goal.ask-requires-clause-can
+ask-requires-clause-can c =
+    can_check c.args.job.now 16 c.loop-place.machine _ c.args.entries.now c.loop-place.place c.loop-place.invariant.1
+
+pub returns-in-Some : goal.returns-in-Some
+returns-in-Some c =
+    fault_at c.args.job.now 16 c.loop-place.machine _ c.args.entries.now c.loop-place.place c.loop-place.invariant.1 _
+    (omega (arith, c.count-count.ensures.value, c.loop-place-test.true)) _ _ _ c.in_ok-rule.ensures.answer c.in-Some.rule c.in-Some.is
+
+pub loop-place-preserved : goal.loop-place-preserved
+loop-place-preserved c = (
+  c.in_ok-rule.ensures.cpus ∙ c.loop-place.invariant.0,
+  taken_at c.args.job.now 16 c.loop-place.machine _ c.args.entries.now c.loop-place.place c.loop-place.invariant.1 _
+      (omega (arith, c.count-count.ensures.value, c.loop-place-test.true)) _ _ _ c.in_ok-rule.ensures.answer c.in_default.is,
+)
+
+pub returns : goal.returns
+returns c =
+    kept_throughout c.args.job.now 16 c.loop-place.machine _ c.args.entries.now c.loop-place.place c.loop-place.invariant.1
+    (over c.count-count.ensures.value c.loop-place-test.false)

@@ -1,0 +1,65 @@
+//! The check of a whole trace.
+
+ghost use Rattle.std.specs.Prelude.{[], ◌≡◌, ◌<◌, ◌^◌, IfOk, length, reverse};
+ghost use Rattle.audit_records.specs.inner.Kept.{records_of};
+ghost use Rattle.trace_check.specs.Checked.{Checks};
+ghost use Rattle.trace_check.specs.inner.Asks.{Checked};
+
+use crate::asking::ask;
+use crate::verdict::Verdict;
+use audit_records::old_records::OldRecords;
+use job_grammar::jobs::Job;
+use paging_machine::machine::Machine;
+use sgx_rules::entries::Entry;
+use sgx_types::names::Memory;
+use std::alloc::Global;
+
+/// Judges a trace, oldest entry first, whoever made it, by the processor's rules alone: `Yes` exactly where it keeps each of them at every
+/// place, else the first place at which one fails, and the first that fails there. Fits and Stale are never named: an entry that breaks one
+/// of them breaks another that is named before.
+///
+/// Of the job only the EPC's size, the key and the first epoch and version count. Processors are 0 to 15, whatever the job has. Linear in
+/// the entries, with the SHA-256 of each page that goes out, and of each enclave's measurement.
+pub fn check(alloc: Global, job: &Job, entries: &[Entry]) -> Result<Verdict, Memory>
+    ensures { IfOk result (Checks job.now (reverse entries.now)) }
+{
+    let mut records = OldRecords::new(alloc);
+    // The machine comes last, so that no other refusal has to give it back.
+    let mut machine = Machine::new(
+        alloc,
+        job.epc(),
+        16,
+        *job.key(),
+        job.start_epoch(),
+        job.start_version(),
+    )?;
+    check_with(&mut machine, &mut records, alloc, job, entries)
+}
+
+// Checks the trace with a machine and records that stand for an empty one.
+fn check_with(
+    machine: &mut Machine,
+    records: &mut OldRecords,
+    alloc: Global,
+    job: &Job,
+    entries: &[Entry],
+) -> Result<Verdict, Memory>
+    requires cpus { length machine.old.cpus ≡ 16 }
+    requires checked { Checked job.now 16 [] machine.old (records_of records.old) }
+    ensures { IfOk result (Checks job.now (reverse entries.now)) }
+{
+    let count = count(entries);
+    for place in 0..count {
+        if let Some(rule) = ask(alloc, machine, records, &entries[place])? {
+            return Ok(Verdict::No { place, rule });
+        }
+    }
+    Ok(Verdict::Yes)
+}
+
+fn count(entries: &[Entry]) -> usize
+    ensures value { result ≡ length entries.now }
+    ensures few { result < 2 ^ 63 }
+{
+    entries.len()
+}
