@@ -4,8 +4,8 @@ use Rattle.std.specs.Fmt.{decimal}
 use Rattle.run_history.specs.declared.rules.Rule.{Rule}
 use Rattle.run_history.specs.declared.rules.Rule.TheVariants as rules
 use Rattle.text_words.specs.Words.{Words, line_text}
-use Rattle.trace_auditor.specs.declared.verdict.Verdict.{Verdict}
-use Rattle.trace_auditor.specs.declared.verdict.Verdict.TheVariants as verdicts
+use Rattle.trace_check.specs.declared.verdict.Verdict.{Verdict}
+use Rattle.trace_check.specs.declared.verdict.Verdict.TheVariants as verdicts
 
 abbrev pub rule_name : Rule → List ℕ
 rule_name rules.Script = codes "Script"

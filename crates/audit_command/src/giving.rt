@@ -4,7 +4,7 @@ ghost use Rattle.std.specs.Prelude.{◌≡◌, IfOk, IsErrOf, reverse};
 ghost use Rattle.audit_command.specs.VerdictText.{verdict_text};
 ghost use Rattle.io_edges.specs.inner.Faults.{HasCause};
 ghost use Rattle.io_edges.specs.Sinks.{GivesPart, followed_by};
-ghost use Rattle.trace_auditor.specs.declared.verdict.Verdict.{Verdict};
+ghost use Rattle.trace_check.specs.declared.verdict.Verdict.{Verdict};
 ghost use Rattle.trace_auditor.specs.Judged.{Judges};
 
 use crate::verdicts::print_verdict;
@@ -14,7 +14,7 @@ use job_grammar::jobs::Job;
 use sgx_rules::entries::Entry;
 use std::alloc::Global;
 use trace_auditor::audit::audit;
-use trace_auditor::verdict::Verdict;
+use trace_check::verdict::Verdict;
 use trace_pieces::ungiven::Ungiven;
 
 /// Audits a trace of a job, and gives the line on the verdict, which is answered too. The entries stand oldest first.

@@ -8,7 +8,7 @@ use sgx_types::names::Memory;
 use std::alloc::Global;
 use text_words::words::Word::{Decimal, Name};
 use text_words::words::push_line;
-pub use trace_auditor::verdict::Verdict;
+pub use trace_check::verdict::Verdict;
 
 /// The line on a verdict: `yes`, or `no` with the place, counted from 0, and the name of the rule that fails there.
 #[tactic(auto, unfolding(crate::specs::VerdictText::verdict_text))]

@@ -7,7 +7,7 @@ use sgx_rules::entries::Entry;
 use sgx_types::names::Memory;
 use std::alloc::Global;
 use trace_auditor::audit::audit;
-use trace_auditor::verdict::Verdict;
+use trace_check::verdict::Verdict;
 use trace_reader::reader::read_trace;
 
 /// What the auditor says of a right trace and of its wrong ones.

@@ -1,7 +1,7 @@
 //! How a verdict is printed.
 
 use std::fmt;
-use trace_auditor::verdict::Verdict;
+use trace_check::verdict::Verdict;
 
 /// A verdict as text: `yes`, or the place and the rule.
 #[derive(Clone, Copy)]

@@ -4,7 +4,7 @@ use run_history::rules::Rule;
 use sgx_rules::entries::Entry;
 use sgx_types::names::Memory;
 use std::alloc::Global;
-use trace_auditor::verdict::Verdict;
+use trace_check::verdict::Verdict;
 use trace_lines::lines::read_line;
 use trace_text::edition::Edition;
 

@@ -1,6 +1,6 @@
 -- What is said of one entry.
 use Rattle.std.proofs.Common.{◌≡◌, ℕ, Bool, true, false, refl, sym, ap, subst, ◌∙◌, List, [], ◌∷◌, Option, Some, None, is_some}
-use Rattle.std.proofs.Common.{length}
+use Rattle.std.proofs.Common.{length, inl}
 use Rattle.std.proofs.lemmas.Bool.{false≢true}
 use Rattle.sgx_rules.specs.declared.entries.Entry.{Entry}
 use Rattle.sgx_rules.specs.declared.entries.Action.TheVariants.{EldStart, EwbStart}
@@ -9,6 +9,7 @@ use Rattle.sgx_rules.specs.declared.entries.Event.TheVariants.{Age, Bus, Did, Ki
 use Rattle.sgx_types.specs.declared.names.Actor.{Actor}
 use Rattle.sgx_types.specs.declared.names.Actor.TheVariants as actors
 use Rattle.sgx_types.specs.declared.names.Frame.{Frame}
+use Rattle.sgx_types.specs.declared.names.Page.{Page}
 use Rattle.sgx_types.specs.Making.{Making}
 use Rattle.sgx_rules.specs.Rules.{Along}
 use Rattle.cached_translations.specs.declared.processor.Mode.{Mode}
@@ -40,9 +41,13 @@ use Rattle.turn_tables.specs.inner.Holding.{mode_of}
 use Rattle.turn_tables.specs.inner.Noting.{IsAmong}
 use Rattle.turn_tables.specs.inner.Shown.{ShowsTurns}
 use Rattle.audit_rules.specs.inner.Rivals.{KeepsMachines}
-use Rattle.audit_rules.proofs.OrderLaws.{age_fails, kick_fails}
 use Rattle.audit_laws.proofs.AgreeLaws.{tells_by_rules, tells_shown}
+use Rattle.machine_history.proofs.SomeLaws.{first_of_all}
 use Rattle.audit_machine.proofs.KeptLaws.{last_kept}
+use Rattle.audit_records.specs.inner.Kept.{KeepsRecords, Kept, Records, records_of}
+use Rattle.trace_check.specs.inner.Asks as asks
+use Rattle.trace_check.specs.inner.Asks.{CanCheck, IsAnswered}
+use Rattle.trace_check.specs.inner.Tests.{IsActor}
 use Rattle.reclaim_pass.specs.inner.Dues.{CanBeDue, HasAllSlots, ShowsOuts}
 use Rattle.reclaim_pass.specs.inner.Noted.{gone_by, IsSeen}
 use Rattle.reclaim_pass.specs.inner.Standing.{StandsAt}
@@ -52,9 +57,10 @@ use Rattle.audit_tables.specs.inner.Followed.{frame_begun, frame_ended}
 use Rattle.audit_tables.proofs.SpareLaws.{looked_here}
 use Rattle.audit_tables.proofs.StartLaws.{here_there}
 use Rattle.trace_auditor.specs.declared.auditing.Auditing.{Auditing}
-use Rattle.trace_auditor.specs.inner.Audits.{CanAsk, CanFollow, IsAnswered, IsAsked, IsAuditing, IsJudged, KeepsAudit}
+use Rattle.trace_auditor.specs.inner.Audits.{CanFollow, IsAuditing, IsJudged, KeepsAudit}
+use Rattle.trace_auditor.proofs.AskLaws.{taken}
 use Rattle.trace_auditor.proofs.OutLaws.{all_slots, outs_shown}
-use Rattle.trace_auditor.proofs.RuleLaws.{goes_on_more, script_fails}
+use Rattle.trace_auditor.proofs.RuleLaws.{age_fails, goes_on_more, kick_fails, script_fails}
 
 -- each entry is its actor's next
 along : (j : JobView) (past : List Entry) → Before (Says j rules.Script) past → Along (ScriptRule j) past
@@ -70,6 +76,14 @@ module _ (j : JobView) (a : Auditing) (at : IsAuditing j a) where
 
   pub ready : IsReady j a.driver a.machine a.turns
   ready = record { keeping = auditors; past = at.past; shown = its_shown; shows = at.keeps.trace.turns }
+
+  pub can_check : CanCheck a.machine (records_of a.records)
+  can_check = record {
+    j = j;
+    cpus = length j.scripts;
+    past = at.past;
+    checked = record { stands = at.keeps.trace.stands; records = at.keeps.records };
+  }
 
   pub ended_told : (b : Bool) → ((k : Keeping) (past : List Entry) → IsShown k j past a.driver a.machine → ShowsTurns j past a.turns
       → Along (ScriptRule j) past → EndsAreTold past → b ≡ is_ended j past) → b ≡ is_ended j at.past
@@ -106,24 +120,34 @@ module _ (j : JobView) (a : Auditing) (e : Entry) (at : IsAuditing j a) where
         (at.keeps.trace.turns.each ∙ sym (at.keeps.trace.cpus ∙ at.keeps.trace.shows.cpus))
         (is_among j past a.turns e.actor e.event at.keeps.trace.turns.each script.next)
 
-    pub can_ask : (v : PassView) → CanAsk (record a { pass = v }) e
-    can_ask v = record { j = j; past = past; trace = at.keeps.trace; records = at.keeps.records; script = script }
+    pub is_actor : IsActor (length a.machine.cpus) e.actor
+    is_actor = by_actor e.actor among
+      where
+        by_actor : (x : Actor) → IsAmong (length a.machine.cpus) x → IsActor (length a.machine.cpus) x
+        by_actor (actors.Cpu p) low = inl low
+        by_actor actors.Builder low = tt
+        by_actor actors.Reclaimer low = tt
 
-    pub answered_by : (v : PassView) (new : Auditing) (broken : Option Rule)
-        → ((can : CanAsk (record a { pass = v }) e) → IsAnswered can.j can.past (record a { pass = v }) e new broken)
-        → IsAnswered j past (record a { pass = v }) e new broken
-    unfolding can_ask
-    answered_by v new broken told = told (can_ask v)
+    module _ (t : Parts) (kept : Records) (broken : Option Rule)
+        (told : (can : CanCheck a.machine (records_of a.records)) → IsAnswered can.j can.cpus can.past a.machine e t kept broken) where
+      answered : IsAnswered j (length j.scripts) past a.machine e t kept broken
+      unfolding can_check
+      answered = told (can_check j a at)
 
-    pub broken_judged : (v : PassView) (new : Auditing) (broken : Option Rule) → is_some broken ≡ true
-        → IsAnswered j past (record a { pass = v }) e new broken → IsJudged j past e new broken
-    broken_judged v new None some told = absurd (false≢true some)
-    broken_judged v new (Some rule) some told = told
+      pub broken_judged : (new : Auditing) → is_some broken ≡ true → IsJudged j past e new broken
+      broken_judged new some = by_answer broken some answered
+        where
+          by_answer : (o : Option Rule) → is_some o ≡ true → IsAnswered j (length j.scripts) past a.machine e t kept o → IsJudged j past e new o
+          by_answer None some said = absurd (false≢true some)
+          by_answer (Some rule) some said = first_of_all j past e rule script said
 
-    pub asked_by : (v : PassView) (new : Auditing) (broken : Option Rule) → is_some broken ≡ false
-        → IsAnswered j past (record a { pass = v }) e new broken → IsAsked j past (record a { pass = v }) e new
-    asked_by v new None some told = told
-    asked_by v new (Some rule) some told = absurd (false≢true (sym some))
+      pub asked_by : is_some broken ≡ false → asks.IsTaken j (length j.scripts) past a.machine e t kept
+      asked_by none = by_answer broken none answered
+        where
+          by_answer : (o : Option Rule) → is_some o ≡ false → IsAnswered j (length j.scripts) past a.machine e t kept o
+              → asks.IsTaken j (length j.scripts) past a.machine e t kept
+          by_answer None none said = said
+          by_answer (Some rule) none said = absurd (false≢true (sym none))
 
     -- ---- Age and Kick
 
@@ -162,9 +186,9 @@ module _ (j : JobView) (a : Auditing) (e : Entry) (at : IsAuditing j a) where
         by_entry actors.Builder ev age = tt
         by_entry (actors.Cpu c) ev age = tt
 
-    module _ (v : PassView) (new : Auditing) (asked : IsAsked j past (record a { pass = v }) e new) where
+    module _ (t : Parts) (kept : Records) (asked : asks.IsTaken j (length j.scripts) past a.machine e t kept) where
       machines : KeepsMachines j past e
-      machines = last_kept j (state_of new.machine) past e (made_by j.key (e ∷ past)) asked.taken.stands
+      machines = last_kept j (length j.scripts) (state_of t) past e (made_by j.key (e ∷ past)) asked.checked.stands
 
       pub age_broken : (b : Bool) → ToldAge b → b ≡ false → FailsHere j past (Some e) rules.Age
       age_broken b told is = age_fails j past e script machines
@@ -183,61 +207,37 @@ module _ (j : JobView) (a : Auditing) (e : Entry) (at : IsAuditing j a) where
           kick = (kick_tells j past e).0 (sym (kick_is k said) ∙ too)
 
           goes : GoesOn j (e ∷ past)
-          goes = goes_on_more j (state_of new.machine) past e (made_by j.key (e ∷ past)) at.keeps.trace.goes_on script
-              asked.taken.stands age
-              kick
+          goes = goes_on_more j (state_of t) past e (made_by j.key (e ∷ past)) at.keeps.trace.goes_on script asked.checked.stands age kick
 
-          module _ (before : Mode) (start : Option starts.Start) (stood : before ≡ mode_of a.machine e.actor)
+          module _ (v : PassView) (pairs : List (Page × Kept)) (same : records_of pairs ≡ kept) (cpus : length t.cpus ≡ length a.machine.cpus)
+              (before : Mode) (start : Option starts.Start) (stood : before ≡ mode_of a.machine e.actor)
               (ends : (f : Frame) → frame_ended e.event ≡ Some f → start_of start ≡ (state_of a.machine).start f.0)
-              (begins : (f : Frame) → frame_begun e.event ≡ Some f → start_of start ≡ (state_of new.machine).start f.0)
-              (gone : b ≡ true → v ≡ gone_by a.driver a.machine e.actor e.event a.pass)
-              (others : new ≡ record (record a { pass = v }) { machine = new.machine; records = new.records }) where
-            ready_to : CanFollow j (record (record a { pass = v }) { machine = new.machine; records = new.records }) before start e
-            ready_to = record {
+              (begins : (f : Frame) → frame_begun e.event ≡ Some f → start_of start ≡ (state_of t).start f.0)
+              (gone : b ≡ true → v ≡ gone_by a.driver a.machine e.actor e.event a.pass) where
+            pub can_follow : CanFollow j (record a { pass = v; machine = t; records = pairs }) before start e
+            can_follow = record {
               past = past;
               m = a.machine;
               v = a.pass;
               trace = at.keeps.trace;
               arrays = at.keeps.arrays;
-              taken = asked.taken;
+              taken = taken j past e script age a.machine t kept among asked cpus;
               pass = at.keeps.pass;
               gone = gone yes;
               goes_on = goes;
-              records = asked.records goes;
+              records = subst (KeepsRecords j.key (e ∷ past)) (sym same) asked.checked.records;
               stood = stood;
               ended = λ f is. ends f is ∙ start_is at.keeps.trace.stands.shaped.shape.columns f.0;
-              begun = λ f is. begins f is ∙ start_is asked.taken.stands.shaped.shape.columns f.0;
+              begun = λ f is. begins f is ∙ start_is asked.checked.stands.shaped.shape.columns f.0;
               few = at.few;
             }
 
-            pub can_follow : CanFollow j new before start e
-            can_follow = subst (λ x. CanFollow j x before start e) (sym others) ready_to
-
             -- whatever all stands for behind it, it does for this trace
-            pub judged : (last : Auditing) → ((can : CanFollow j new before start e) → KeepsAudit j (e ∷ can.past) last)
+            pub judged : (last : Auditing)
+                → ((can : CanFollow j (record a { pass = v; machine = t; records = pairs }) before start e) → KeepsAudit j (e ∷ can.past) last)
                 → KeepsAudit j (e ∷ past) last
-            judged last told = by_equal new others told
-              where
-                by_equal : (x : Auditing) → x ≡ record (record a { pass = v }) { machine = new.machine; records = new.records }
-                    → ((can : CanFollow j x before start e) → KeepsAudit j (e ∷ can.past) last) → KeepsAudit j (e ∷ past) last
-                by_equal x is say =
-                    subst (λ y. ((can : CanFollow j y before start e) → KeepsAudit j (e ∷ can.past) last) → KeepsAudit j (e ∷ past) last)
-                    (sym is) (λ say. say (record {
-                      past = past;
-                      m = a.machine;
-                      v = a.pass;
-                      trace = at.keeps.trace;
-                      arrays = at.keeps.arrays;
-                      taken = asked.taken;
-                      pass = at.keeps.pass;
-                      gone = gone yes;
-                      goes_on = goes;
-                      records = asked.records goes;
-                      stood = stood;
-                      ended = λ f is. ends f is ∙ start_is at.keeps.trace.stands.shaped.shape.columns f.0;
-                      begun = λ f is. begins f is ∙ start_is asked.taken.stands.shaped.shape.columns f.0;
-                      few = at.few;
-                    })) say
+            unfolding can_follow
+            judged last told = told can_follow
 
 -- ---- the start that an entry ends or opens
 

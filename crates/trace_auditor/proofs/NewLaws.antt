@@ -13,7 +13,7 @@ use Rattle.run_steps.proofs.FreshLaws.{IsFresh, fresh_cpus, fresh_making}
 use Rattle.run_steps.proofs.TcsLaws.{tcs_apart}
 use Rattle.reclaim_pass.specs.inner.Standing.{StandsAt}
 use Rattle.audit_records.proofs.StayLaws.{none_out}
-use Rattle.audit_records.specs.inner.Kept.{records_of}
+use Rattle.audit_records.specs.inner.Kept.{KeepsRecords, no_records, records_of}
 use Rattle.trace_auditor.specs.declared.auditing.Auditing.{Auditing}
 use Rattle.trace_auditor.specs.inner.Audits.{KeepsAudit}
 use Rattle.driver_tables.proofs.FirstLaws.{shows_first}
@@ -41,8 +41,8 @@ goes-on-first j = record {
 
 -- machine, driver, tables and pass are new
 pub keeps_first : (j : JobView) (a : Auditing) → IsFresh j a.machine → IsNew j a.driver → ShowsTurns j [] a.turns
-    → StandsAt j.start_epoch j [] a.pass → KeepsAudit j [] a
-keeps_first j a fresh new turns pass = record {
+    → StandsAt j.start_epoch j [] a.pass → records_of a.records ≡ no_records → KeepsAudit j [] a
+keeps_first j a fresh new turns pass empty = record {
   trace = record {
     tcs = tcs_apart j turns.valid;
     goes_on = goes-on-first j;
@@ -56,5 +56,5 @@ keeps_first j a fresh new turns pass = record {
   };
   arrays = arrays_begin j a.driver new;
   pass = pass;
-  records = none_out j.key (records_of a.records);
+  records = subst (KeepsRecords j.key []) (sym empty) (none_out j.key);
 }

@@ -1,5 +1,5 @@
 -- What an auditor's answers are by the rules.
-use Rattle.std.proofs.Common.{◌≡◌, ℕ, refl, List, ◌∷◌, ◌++◌, Option, Some, None, length, arith}
+use Rattle.std.proofs.Common.{◌≡◌, ◌<◌, ℕ, refl, List, ◌∷◌, ◌++◌, Option, Some, None, length, arith}
 use Rattle.sgx_rules.specs.declared.entries.Entry.{Entry}
 use Rattle.sgx_rules.specs.Rules.{NoPageTwice, NoneStale}
 use Rattle.sgx_rules.specs.inner.Rules.{KeepsRules}
@@ -13,7 +13,7 @@ use Rattle.paging_laws.specs.inner.State.{State}
 use Rattle.paging_laws.proofs.TestLaws.{last_place}
 use Rattle.run_history.specs.declared.rules.Rule.{Rule}
 use Rattle.run_history.specs.declared.rules.Rule.TheVariants as rules
-use Rattle.run_history.specs.Histories.{Before, FailsFirst, FailsHere, History, Says}
+use Rattle.run_history.specs.Histories.{Before, FailsFirst, FailsHere, History, Says, rank}
 use Rattle.run_history.specs.inner.Histories.{GoesOn}
 use Rattle.audit_rules.specs.inner.Rivals.{KeepsMachines}
 use Rattle.audit_machine.proofs.KeptLaws.{last_kept, own_rules}
@@ -24,6 +24,44 @@ use Rattle.audit_machine.proofs.KeptLaws.{last_kept, own_rules}
 pub script_fails : (j : JobView) (past : List Entry) (next : Option Entry) → (Says j rules.Script past next → ⊥)
     → FailsHere j past next rules.Script
 script_fails j past next fails = record { earlier = λ r low. absurd (omega (arith, low)); fails = fails }
+
+-- ---- of an entry that keeps each rule of the machine
+
+machines_before : (j : JobView) (past : List Entry) (e : Entry) → ScriptRule j past e → KeepsMachines j past e → (r : Rule) → rank r < 9
+    → Says j r past (Some e)
+machines_before j past e script keeps rules.Script low = script
+machines_before j past e script keeps rules.Refusal low = keeps.each rules.Refusal refl
+machines_before j past e script keeps rules.Flat low = keeps.each rules.Flat refl
+machines_before j past e script keeps rules.Fits low = keeps.each rules.Fits refl
+machines_before j past e script keeps rules.Stale low = keeps.each rules.Stale refl
+machines_before j past e script keeps rules.Evict low = keeps.each rules.Evict refl
+machines_before j past e script keeps rules.Fresh low = keeps.each rules.Fresh refl
+machines_before j past e script keeps rules.Sealed low = keeps.each rules.Sealed refl
+machines_before j past e script keeps rules.Measure low = keeps.each rules.Measure refl
+machines_before j past e script keeps r low = absurd (omega (arith, low))
+
+pub age_fails : (j : JobView) (past : List Entry) (e : Entry) → ScriptRule j past e → KeepsMachines j past e → (AgeRule j past e → ⊥)
+    → FailsHere j past (Some e) rules.Age
+age_fails j past e script keeps fails = record { earlier = machines_before j past e script keeps; fails = fails }
+
+pub kick_fails : (j : JobView) (past : List Entry) (e : Entry) → ScriptRule j past e → KeepsMachines j past e → AgeRule j past e
+    → (KickRule j past e → ⊥) → FailsHere j past (Some e) rules.Kick
+kick_fails j past e script keeps age fails = record { earlier = before; fails = fails }
+  where
+    before : (r : Rule) → rank r < 10 → Says j r past (Some e)
+    before rules.Age low = age
+    before rules.Kick low = absurd (omega (arith, low))
+    before rules.Script low = script
+    before rules.Refusal low = keeps.each rules.Refusal refl
+    before rules.Flat low = keeps.each rules.Flat refl
+    before rules.Fits low = keeps.each rules.Fits refl
+    before rules.Stale low = keeps.each rules.Stale refl
+    before rules.Evict low = keeps.each rules.Evict refl
+    before rules.Fresh low = keeps.each rules.Fresh refl
+    before rules.Sealed low = keeps.each rules.Sealed refl
+    before rules.Measure low = keeps.each rules.Measure refl
+
+-- ---- a trace that goes on
 
 -- with an entry that keeps each rule the trace goes on
 pub goes_on_more : (j : JobView) (t : State) (past : List Entry) (e : Entry) (records : List Made) → GoesOn j past → ScriptRule j past e
@@ -44,7 +82,7 @@ goes_on_more j t past e records h script stands age kick =
     }
   where
     k : KeepsMachines j past e
-    k = last_kept j t past e records stands
+    k = last_kept j (length j.scripts) t past e records stands
 
     keeps : KeepsRules (machine_of j) (e ∷ past)
     keeps = own_rules (machine_of j) t (e ∷ past) records stands

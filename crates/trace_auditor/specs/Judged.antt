@@ -3,8 +3,8 @@ use Rattle.std.specs.Prelude.{List}
 use Rattle.sgx_rules.specs.declared.entries.Entry.{Entry}
 use Rattle.job_grammar.specs.Jobs.{JobView}
 use Rattle.run_history.specs.Histories.{FailsFirst, History}
-use Rattle.trace_auditor.specs.declared.verdict.Verdict.{Verdict}
-use Rattle.trace_auditor.specs.declared.verdict.Verdict.TheVariants as verdicts
+use Rattle.trace_check.specs.declared.verdict.Verdict.{Verdict}
+use Rattle.trace_check.specs.declared.verdict.Verdict.TheVariants as verdicts
 
 abbrev pub Judges : JobView → List Entry → Verdict → Type 0
 Judges j whole verdicts.Yes = History j whole

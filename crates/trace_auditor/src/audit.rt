@@ -5,7 +5,7 @@ ghost use Rattle.trace_auditor.specs.inner.Audits.{KeepsAudit};
 ghost use Rattle.trace_auditor.specs.Judged.{Judges};
 
 use crate::auditing::Auditing;
-use crate::verdict::Verdict;
+use trace_check::verdict::Verdict;
 use job_grammar::jobs::Job;
 use run_history::rules::Rule;
 use sgx_rules::entries::Entry;

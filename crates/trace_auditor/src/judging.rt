@@ -21,6 +21,7 @@ use run_history::rules::Rule;
 use sgx_rules::entries::{Action, Entry, Event};
 use sgx_types::names::{Frame, Memory};
 use std::alloc::Global;
+use trace_check::asking::ask;
 use turn_tables::holding::mode_of;
 
 impl Auditing {
@@ -50,7 +51,7 @@ impl Auditing {
             entry,
             keeps_age,
         );
-        let broken = self.ask(alloc, entry)?;
+        let broken = ask(alloc, &mut self.machine, &mut self.records, entry)?;
         if broken.is_some() {
             return Ok(broken);
         }

@@ -1,9 +1,7 @@
 // The auditor of traces: whoever made a trace, it says whether it is a history of its job, and else where it fails first.
 #![tactic(auto)]
 
-mod asking;
 pub mod audit;
 mod auditing;
 mod following;
 mod judging;
-pub mod verdict;

@@ -14,7 +14,6 @@ use Rattle.paging_laws.specs.inner.Histories.{StandsWithAllRules}
 use Rattle.paging_laws.specs.inner.Steps.{IsStep}
 use Rattle.paging_machine.specs.declared.starts.Start as starts
 use Rattle.paging_machine.specs.inner.Parts.{Parts, start_of, state_of}
-use Rattle.driver_rules.specs.Scripts.{ScriptRule}
 use Rattle.run_history.specs.declared.rules.Rule.{Rule}
 use Rattle.run_history.specs.Histories.{FailsHere}
 use Rattle.run_history.specs.inner.Histories.{GoesOn}
@@ -52,16 +51,6 @@ abbrev pub IsJudged : JobView → List Entry → Entry → Auditing → Option R
 IsJudged j past e new None = KeepsAudit j (e ∷ past) new
 IsJudged j past e new (Some rule) = FailsHere j past (Some e) rule
 
--- ---- what is asked of the machine
-
--- an entry that its actor may make. The pass may have noted it
-pub record CanAsk (a : Auditing) (e : Entry) : Type 0 where
-  pub j : JobView
-  pub past : List Entry
-  pub trace : ShowsTrace j past a.driver a.machine a.turns
-  pub records : KeepsRecords j.key past (records_of a.records)
-  pub script : ScriptRule j past e
-
 -- the machine stands in all for the entries with this one, which is its own
 pub record IsTaken (j : JobView) (past : List Entry) (old : Parts) (e : Entry) (new : Parts) : Type 0 where
   pub stands : StandsWithAllRules (machine_of j) (state_of new) (e ∷ past) (made_by j.key (e ∷ past))
@@ -70,15 +59,6 @@ pub record IsTaken (j : JobView) (past : List Entry) (old : Parts) (e : Entry) (
       → IsStep (state_of old) e.actor action e (state_of new)
   -- who enters names two frames
   pub enters : EntersApart e.event
-
--- .. and where the entry keeps the other rules too, the records are those of the pages that are outside then
-pub record IsAsked (j : JobView) (past : List Entry) (old : Auditing) (e : Entry) (new : Auditing) : Type 0 where
-  pub taken : IsTaken j past old.machine e new.machine
-  pub records : GoesOn j (e ∷ past) → KeepsRecords j.key (e ∷ past) (records_of new.records)
-
-abbrev pub IsAnswered : JobView → List Entry → Auditing → Entry → Auditing → Option Rule → Type 0
-IsAnswered j past old e new None = IsAsked j past old e new
-IsAnswered j past old e new (Some rule) = FailsHere j past (Some e) rule
 
 -- ---- an entry that keeps each rule
 

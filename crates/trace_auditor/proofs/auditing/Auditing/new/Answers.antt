@@ -18,4 +18,4 @@ returns c =
       history = c.in_ok-machine.ensures.history;
     })
     c.in_ok-driver.ensures c.in_ok-turns.ensures (subst (StandsAt c.args.job.now.start_epoch c.args.job.now []) (sym c.in_ok-pass.ensures)
-    (first_stands c.args.job.now.start_epoch c.args.job.now))
+    (first_stands c.args.job.now.start_epoch c.args.job.now)) c.new-records.ensures
