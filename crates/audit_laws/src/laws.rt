@@ -4,12 +4,10 @@ ghost use Rattle.std.specs.Prelude.{ℕ, ◌≤◌, ◌∷◌, List};
 ghost use Rattle.sgx_types.specs.Making.{Making};
 ghost use Rattle.sgx_rules.specs.Rules.{RefusalRule};
 ghost use Rattle.sgx_rules.specs.inner.Starts.{LoadsAreApart};
-ghost use Rattle.sgx_rules.specs.declared.entries.Action.{Action};
 ghost use Rattle.sgx_rules.specs.declared.entries.Entry.{Entry};
 ghost use Rattle.job_grammar.specs.Jobs.{JobView};
 ghost use Rattle.turn_rules.specs.Machines.{machine_of};
-ghost use Rattle.paging_laws.specs.inner.Steps as steps;
-ghost use Rattle.paging_machine.specs.inner.Parts.{Parts, state_of};
+ghost use Rattle.paging_machine.specs.inner.Parts.{Parts};
 ghost use Rattle.driver_rules.specs.Scripts.{ScriptRule};
 ghost use Rattle.driver_laws.specs.inner.Agrees.{auditors, Keeping};
 ghost use Rattle.driver_laws.specs.inner.Kinds.{CanMove};
@@ -40,12 +38,6 @@ pub fn telling_tables_show()
 pub fn lawful_entries_can_move()
     ensures can { (j : JobView) (past : List Entry) (e : Entry) → 1 ≤ j.start_version → GoesOn j (e ∷ past) → CanMove past e.event }
     ensures starts { (j : JobView) (past : List Entry) (e : Entry) → 1 ≤ j.start_version → GoesOn j (e ∷ past) → StartTells past e.event }
-{}
-
-/// The machine may be asked for any instruction: fewer than 2^32 version array pages were made.
-pub fn asked_entries_can_move()
-    ensures { (j : JobView) (past : List Entry) (d : Driver) (m : Parts) (t : Turns) (action : Action)
-        → ShowsTrace j past d m t → steps.CanMove (state_of m) action }
 {}
 
 /// No frame holds a page that is being loaded, and no page is loaded twice, where places and frames are sound.
