@@ -1,26 +1,28 @@
-//! What the auditor says of a trace and of the wrong ones beside it, against what is told of them.
+//! What auditor and checker say of a trace and of the wrong ones beside it, against what is told of them.
 
-use crate::wrong::Wrong;
+use crate::verdicts::goes_with;
+use crate::wrong::{Wrong, verdict_in};
 use job_grammar::jobs::Job;
 use job_text::reader::read_job;
 use sgx_rules::entries::Entry;
 use sgx_types::names::Memory;
 use std::alloc::Global;
 use trace_auditor::audit::audit;
+use trace_check::checking::check;
 use trace_check::verdict::Verdict;
 use trace_reader::reader::read_trace;
 
-/// What the auditor says of a right trace and of its wrong ones.
+/// What is said of a right trace and of its wrong ones.
 #[derive(Drop)]
 pub struct Report {
     pub right: Verdict,
     /// How many wrong traces there are.
     pub all: usize,
-    /// Those of which the auditor says another thing.
+    /// Those of which the auditor says another thing, or the checker one that does not go with it.
     pub others: Vec<Other>,
 }
 
-/// A wrong trace of which another thing is told than the auditor says.
+/// A trace of which another thing is told than is found.
 #[derive(Drop)]
 pub struct Other {
     pub what: String,
@@ -61,6 +63,7 @@ fn compare_with(
         others: Vec::new(alloc),
     };
     let mut report = Box::new(alloc, report)?;
+    report.compare(alloc, "right", Verdict::Yes, check(alloc, job, &right)?)?;
     let is_read = report.add_all(alloc, job, &right, wrong)?;
     Ok(if is_read { Some(report) } else { None })
 }
@@ -83,7 +86,7 @@ impl Report {
         Ok(true)
     }
 
-    // A wrong trace, and what the auditor finds of it.
+    // A wrong trace, and what is found of it.
     fn add(
         &mut self,
         alloc: Global,
@@ -91,17 +94,49 @@ impl Report {
         right: &[Entry],
         wrong: Wrong,
     ) -> Result<(), Memory> {
-        let found = found_in(alloc, job, right, &wrong)?;
-        self.all = self.all.saturating_add(1);
+        let entries = wrong.entries(alloc, right)?;
         let Wrong { what, told, .. } = wrong;
+        self.all = self.all.saturating_add(1);
+        self.compare(alloc, &what, told, check(alloc, job, &entries)?)?;
+        let found = audit(alloc, job, &entries)?;
         if found != told {
+            self.others.push(Other { what, found, told })?;
+        }
+        Ok(())
+    }
+
+    // What the checker found of a trace.
+    fn compare(
+        &mut self,
+        alloc: Global,
+        what: &str,
+        told: Verdict,
+        found: Verdict,
+    ) -> Result<(), Memory> {
+        if !goes_with(told, found) {
+            let what = format!(in alloc; "{what}, checked")?;
             self.others.push(Other { what, found, told })?;
         }
         Ok(())
     }
 }
 
-fn found_in(alloc: Global, job: &Job, right: &[Entry], wrong: &Wrong) -> Result<Verdict, Memory> {
-    let entries = wrong.entries(alloc, right)?;
-    audit(alloc, job, &entries)
+/// What the checker says of a trace of another driver, and what is told of it. None where one of the texts cannot be read.
+pub fn checked(
+    alloc: Global,
+    job: &[u8],
+    trace: &[u8],
+    told: &[u8],
+) -> Result<Option<(Verdict, Verdict)>, Memory> {
+    let Ok(job) = read_job(alloc, job) else {
+        return Ok(None);
+    };
+    let job = Box::new(alloc, job)?;
+    let Ok(entries) = read_trace(alloc, trace) else {
+        return Ok(None);
+    };
+    let Some(told) = str::from_utf8(told).ok().and_then(|line| verdict_in(line.trim_end())) else {
+        return Ok(None);
+    };
+    Ok(Some((check(alloc, &job, &entries)?, told)))
 }

@@ -1,18 +1,23 @@
 // Audits given traces, each right or wrong. Says of each right trace that it is a history of its job, and of its wrong ones that each
-// fails first at the place, and by the rule, that is told of it.
+// fails first at the place, and by the rule, that is told of it. Checks them by the processor's rules alone too, and traces of another driver,
+// of which nothing else is told.
 #![tactic(auto)]
 
 mod comparing;
 mod verdicts;
 mod wrong;
 
-use comparing::{Report, compare};
+use comparing::{Report, checked, compare};
 use std::{env, fs, io};
 use verdicts::Shown;
 
 fn main(rt: HostRuntime) -> io::Result<()> {
     for name in env::args(&rt)?.skip(1) {
-        tell(&rt, name.as_str())?;
+        if name.starts_with("linux-") {
+            tell_checked(&rt, name.as_str())?;
+        } else {
+            tell(&rt, name.as_str())?;
+        }
     }
     Ok(())
 }
@@ -25,6 +30,19 @@ fn tell(rt: &HostRuntime, name: &str) -> io::Result<()> {
     match compare(rt.alloc(), &job, &trace, &wrong) {
         Ok(Some(report)) => print(rt, name, &report),
         Ok(None) => println!(rt; "{name}: no job, no trace, or no wrong traces"),
+        Err(_) => println!(rt; "{name}: no memory"),
+    }
+}
+
+// Checks the trace of that name, which Linux's driver made.
+fn tell_checked(rt: &HostRuntime, name: &str) -> io::Result<()> {
+    let job = read(rt, name, ".job")?;
+    let trace = read(rt, name, ".trace")?;
+    let told = read(rt, name, ".verdict")?;
+    match checked(rt.alloc(), &job, &trace, &told) {
+        Ok(Some((found, told))) if found == told => println!(rt; "{name}: {}, as told", Shown(found)),
+        Ok(Some((found, told))) => println!(rt; "{name}: {} and not {}", Shown(found), Shown(told)),
+        Ok(None) => println!(rt; "{name}: no job, no trace, or no verdict"),
         Err(_) => println!(rt; "{name}: no memory"),
     }
 }

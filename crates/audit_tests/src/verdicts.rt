@@ -1,5 +1,6 @@
-//! How a verdict is printed.
+//! How a verdict is printed, and which verdict by the processor's rules goes with one by all rules.
 
+use run_history::rules::Rule;
 use std::fmt;
 use trace_check::verdict::Verdict;
 
@@ -14,4 +15,24 @@ impl fmt::Display for Shown {
             Verdict::No { place, rule } => write!(f, "{place} {rule:?}"),
         }
     }
+}
+
+/// Whether a trace of which this is told by all rules can be judged so by the processor's alone: one of which they tell is judged alike, and
+/// any other fails by them at no earlier place.
+pub fn goes_with(told: Verdict, checked: Verdict) -> bool {
+    let Verdict::No { place, rule } = told else {
+        return checked == Verdict::Yes;
+    };
+    if is_machines(rule) {
+        return checked == told;
+    }
+    match checked {
+        Verdict::Yes => true,
+        Verdict::No { place: found, rule } => place <= found && is_machines(rule),
+    }
+}
+
+// Whether a rule says nothing of a driver.
+fn is_machines(rule: Rule) -> bool {
+    !matches!(rule, Rule::Script | Rule::Age | Rule::Kick)
 }

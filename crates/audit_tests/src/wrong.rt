@@ -64,7 +64,8 @@ impl Wrong {
     }
 }
 
-fn verdict_in(line: &str) -> Option<Verdict> {
+/// The verdict that a line tells.
+pub fn verdict_in(line: &str) -> Option<Verdict> {
     if line == "yes" {
         return Some(Verdict::Yes);
     }
