@@ -304,9 +304,13 @@ module _ (s : State) (f : Frame) (own : Header) (other : Sealed) (waits : IsComi
         by_row k past records h (Some found) refused =
             let row = rw refused at step.row in
             let ended = ends_refused s past f.0 step.coming other found h.shaped.shape.columns h.standing.stands refused in
-            let headed : header_at past step.coming.page ≡ Some own =
-            coming_header s past f.0 h.standing.stands step.coming ∙ ap Some (sym (own-header-is step.coming)) in
+            let started : Some step.coming.start ≡ bare_start (Some ended.ends.start) =
+            sym step.coming.opened ∙ start_is h.shaped.shape.columns f.0 ∙ ap bare_start ended.ends.opened in
+            let page : ended.page ≡ step.coming.page = same_Some _ _ (sym ended.ends.loads
+            ∙ ap (λ (x : BareStart). x.loads) (sym (same_Some step.coming.start (without_place ended.ends.start) started)) ∙ step.coming.loads) in
+            let headed : header_at past ended.page ≡ Some own =
+            ap (header_at past) page ∙ coming_header s past f.0 h.standing.stands step.coming ∙ ap Some (sym (own-header-is step.coming)) in
             other_refusal past actor f found reason k t records
             (subst (λ x. StandsWithAllRules k t (x ∷ past) records) row.0
             (back k past records h (λ was_done. absurd (subst (λ (x : Entry). IsDone x.event) row.0 was_done))))
-            (record { page = step.coming.page; ends = ended.ends; unfit = does-not-fit past step.coming.page own reason headed unfit })
+            (record { page = ended.page; ends = ended.ends; unfit = does-not-fit past ended.page own reason headed unfit })

@@ -73,7 +73,7 @@ low : (cpus : ℕ) (a : Actor) → is_processor cpus a ≡ true → CanApply cpu
 low cpus (actors.Cpu p) is = by_test (tested (nat_lt p.0 cpus))
   where
     by_test : (nat_lt p.0 cpus ≡ true) ⊎ (nat_lt p.0 cpus ≡ false) → p.0 < cpus
-    by_test (inl less) = omega (arith, less)
+    by_test (inl less) = grind (arith, less)
     by_test (inr more) = absurd (false≢true (sym more ∙ is))
 low cpus actors.Builder is = cc is
 low cpus actors.Reclaimer is = cc is
@@ -116,7 +116,7 @@ pub can_move : (s : State) (action : Action) → is_one_too_many s.vas_made acti
 can_move s (Epa f) few = by_test (tested (nat_lt s.vas_made (2 ^ 32)))
   where
     by_test : (nat_lt s.vas_made (2 ^ 32) ≡ true) ⊎ (nat_lt s.vas_made (2 ^ 32) ≡ false) → s.vas_made < 2 ^ 32
-    by_test (inl less) = omega (arith, less)
+    by_test (inl less) = grind (arith, less)
     by_test (inr more) = absurd (false≢true (sym few ∙ ap not more))
 can_move s action few = tt
 

@@ -126,7 +126,7 @@ module _ (m : Parts) (kept : Records) (e : Entry) (can : CanCheck m kept) (f : F
 
   -- ---- a load that was done
 
-  module _ (page : Page) (version : ℕ) (loads : Loads (state_of m) f.0 page version) where
+  module _ (page : Page) (version : ℕ) (waits : Loads (state_of m) f.0 page version) where
     -- the open start by the entries
     record Begun : Type 0 where
       pub start : Start
@@ -136,12 +136,12 @@ module _ (m : Parts) (kept : Records) (e : Entry) (can : CanCheck m kept) (f : F
 
     begun : Begun
     begun =
-        let x = bare_of (open_start past f.0) loads.start (sym columns-start ∙ loads.opened) in
+        let x = bare_of (open_start past f.0) waits.start (sym columns-start ∙ waits.opened) in
         record {
           start = x.start;
           opened = x.opened;
-          loads = ap (λ (y : BareStart). y.loads) x.same ∙ loads.loads;
-          found = ap (λ (y : BareStart). y.version) x.same ∙ loads.found;
+          loads = ap (λ (y : BareStart). y.loads) x.same ∙ waits.loads;
+          found = ap (λ (y : BareStart). y.version) x.same ∙ waits.found;
         }
 
     module _ (done : IsDoneBack e.event f) where

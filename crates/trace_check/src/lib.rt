@@ -4,4 +4,5 @@
 
 pub mod asking;
 pub mod checking;
+pub mod laws;
 pub mod verdict;
