@@ -15,7 +15,7 @@ use Rattle.sgx_rules.specs.declared.refusals.Refusal.{Refusal}
 use Rattle.sgx_rules.specs.Processors.{Stay, stay}
 use Rattle.sgx_rules.specs.Flat.{FlatMemory, accepts, flat, is_processors, is_visible}
 use Rattle.sgx_rules.specs.Rules.{FlatRule, RefusalRule}
-use Rattle.sgx_rules.specs.Sights.{row_at, stay_of}
+use Rattle.sgx_rules.specs.Sights.{row_at, sight_at, stay_of}
 use Rattle.sgx_rules.specs.Table.{first_of_row}
 use Rattle.seal_record.specs.Records.{Made}
 use Rattle.job_grammar.specs.Jobs.{JobView}
@@ -66,10 +66,10 @@ module _ (j : JobView) (past : List Entry) (a : Actor) where
 -- flat memory takes none of its instructions
 seen : (action : Action) → is_processors action ≡ true → is_visible action ≡ true
 seen (Epa f) own = cc own
-seen (Create enclave f base size) own = cc own
-seen (Add enclave number f kind perm init) own = cc own
-seen (Extend f chunk) own = cc own
-seen (Init enclave expect) own = cc own
+seen (Create enclave f base size) own = refl
+seen (Add enclave number f kind perm init) own = refl
+seen (Extend f chunk) own = refl
+seen (Init enclave expect) own = refl
 seen (Fill number f) own = cc own
 seen (Block f) own = cc own
 seen (Track enclave) own = cc own
@@ -88,7 +88,7 @@ not_accepted m actors.Reclaimer action own nobody = rw own refl
 -- .. and a fill from outside is never allowed
 not_flat : (j : JobView) (past : List Entry) (a : Actor) (action : Action) (answer : Answer) → is_of_cpus action ≡ true → IsNoProcessor a
     → stay_of past a ≡ None → first j past a action ≡ None → FlatRule past (did_by a action answer) → ⊥
-not_flat j past a (Fill number f) answer own nobody outside none h = outside_refused number _ (rw outside at none)
+not_flat j past a (Fill number f) answer own nobody outside none h = outside_refused number (sight_at j.epc past f.0) (rw outside at none)
 not_flat j past a action answer own nobody outside none h =
     false≢true (sym (not_accepted (flat past) a action own nobody) ∙ (h (seen action own)).taken)
 

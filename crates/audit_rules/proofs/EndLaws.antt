@@ -185,7 +185,7 @@ module _ (j : JobView) (past : List Entry) (actor : Actor) (f : Frame) where
             → FailsAmong is_machines j past (Some (back (answers.Moved p version tag))) (rule_back (answers.Moved p version tag) (answers.Moved g v t))
 
         at-page : Says_of g
-        at-page held differs = rw (same_page-refl g) (back-at-page version tag held differs)
+        at-page differs = rw (same_page-refl g) (back-at-page version tag differs)
 
         by_test : (same_page page g ≡ true) ⊎ (same_page page g ≡ false)
             → FailsAmong is_machines j past (Some (back (answers.Moved page version tag)))

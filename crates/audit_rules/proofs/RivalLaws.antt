@@ -161,8 +161,9 @@ module _ (j : JobView) (past : List Entry) (actor : Actor) where
       → KeepsMachines j past (done action right) → (answer ≡ right → ⊥)
       → FailsAmong is_machines j past (Some (done action answer)) (rule_of_formed action)
   formed-done (Init enclave expect) answer right formed form keeps other =
-      subst Fails (sym form.1) (λ held. init-done enclave expect form.0 _ held keeps (keeps.each rules.Refusal refl).0 (λ h.
-      other (form.1 ∙ h.0 ∙ sym (keeps.each rules.Measure refl).0)))     where
+      subst Fails (sym form.1) (init-done enclave expect form.0 _ keeps (keeps.each rules.Refusal refl).0 (λ h.
+      other (form.1 ∙ h.0 ∙ sym (keeps.each rules.Measure refl).0)))
+    where
       Fails : Answer → Type 0
       Fails a = FailsAmong is_machines j past (Some (done (Init enclave expect) a)) rules.Measure
   formed-done (EwbStart f slot) answer right formed form keeps other =

@@ -158,6 +158,9 @@ plain-no-commit (Ewb f) h = cc h
 plain-no-commit (Eld f) h = cc h
 plain-no-commit action h = refl
 
+is-inside : (p cpus : ℕ) → p < cpus → nat_lt p cpus ≡ true
+is-inside p cpus low = grind (arith, low)
+
 and-false : (b : Bool) → (b && false) ≡ false
 and-false true = refl
 and-false false = refl
@@ -172,8 +175,7 @@ module _ (j : JobView) (past : List Entry) (e : Entry) (script : ScriptRule j pa
       by_actor : (a : Actor) → IsAmong (length m.cpus) a → IsActors j past a e.event
           → AgeRule j past (record { actor = a; event = e.event }) → is_outsiders (length m.cpus) a action ≡ false
       by_actor (actors.Cpu p) low next h =
-          let inside : nat_lt p.0 (length m.cpus) ≡ true = grind (arith, low) in
-          ap (λ b. is_of_cpus action && not b) inside ∙ and-false (is_of_cpus action)
+          ap (λ b. is_of_cpus action && not b) (is-inside p.0 (length m.cpus) low) ∙ and-false (is_of_cpus action)
       by_actor actors.Builder low next h =
           ap (λ b. b && true) (not-built (builder_due j past) e.event action (builder-builds j past) next own)
       by_actor actors.Reclaimer low next h = by_test (tested (is_of_cpus action))

@@ -1,5 +1,5 @@
 -- What an auditor keeps before the first entry.
-use Rattle.std.proofs.Common.{sym, subst, ◌∙◌, []}
+use Rattle.std.proofs.Common.{◌≡◌, sym, subst, ◌∙◌, []}
 use Rattle.std.proofs.lemmas.Bool.{false≢true}
 use Rattle.sgx_types.specs.Making.{Making}
 use Rattle.job_grammar.specs.Jobs.{JobView, va_pages}
