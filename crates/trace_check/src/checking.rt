@@ -3,13 +3,14 @@
 ghost use Rattle.std.specs.Prelude.{[], ◌≡◌, ◌<◌, ◌^◌, IfOk, length, reverse};
 ghost use Rattle.audit_records.specs.inner.Kept.{records_of};
 ghost use Rattle.trace_check.specs.Checked.{Checks};
-ghost use Rattle.trace_check.specs.inner.Asks.{Checked};
+ghost use Rattle.trace_check.specs.inner.Asks.{CanCheck, Checked, IsAnswered};
 
 use crate::asking::ask;
 use crate::verdict::Verdict;
 use audit_records::old_records::OldRecords;
 use job_grammar::jobs::Job;
 use paging_machine::machine::Machine;
+use run_history::rules::Rule;
 use sgx_rules::entries::Entry;
 use sgx_types::names::Memory;
 use std::alloc::Global;
@@ -50,11 +51,27 @@ fn check_with(
 {
     let count = count(entries);
     for place in 0..count {
-        if let Some(rule) = ask(alloc, machine, records, &entries[place])? {
+        if let Some(rule) = ask_any(alloc, machine, records, &entries[place])? {
             return Ok(Verdict::No { place, rule });
         }
     }
     Ok(Verdict::Yes)
+}
+
+// Asks a machine of 16 processors for an entry: each actor is one of them, or none of any machine.
+fn ask_any(
+    alloc: Global,
+    machine: &mut Machine,
+    records: &mut OldRecords,
+    entry: &Entry,
+) -> Result<Option<Rule>, Memory>
+    requires cpus { length machine.old.cpus ≡ 16 }
+    requires can { CanCheck machine.old (records_of records.old) }
+    ensures answer { IfOk result (λ broken. (can : CanCheck machine.old (records_of records.old))
+        → IsAnswered can.j can.cpus can.past machine.old entry.now machine.new (records_of records.new) broken) }
+    ensures cpus { length machine.new.cpus ≡ length machine.old.cpus }
+{
+    ask(alloc, machine, records, entry)
 }
 
 fn count(entries: &[Entry]) -> usize

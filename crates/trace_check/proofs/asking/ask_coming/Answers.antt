@@ -1,7 +1,7 @@
 use Rattle.std.proofs.Common.{sym, ◌∙◌}
 use Rattle.audit_machine.proofs.ComeLaws.{none_comes}
 use Rattle.trace_check.proofs.AskLaws.{breaks}
-use Rattle.trace_check.proofs.LoadLaws.{away_all, done_event, loads_by, none_loaded, refused_entry}
+use Rattle.trace_check.proofs.LoadLaws.{away_all, loads_by, none_loaded, refused_entry}
 use Rattle.trace_check.proofs.asking.ask_coming.Goals as goal
 
 pub returns-then-not-is_coming-clause-answer : goal.returns-then-not-is_coming-clause-answer

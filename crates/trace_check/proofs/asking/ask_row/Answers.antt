@@ -1,5 +1,5 @@
 use Rattle.std.proofs.Common.{sym, ◌∙◌, ap, subst}
-use Rattle.audit_machine.specs.inner.Asked.{Takes}
+use Rattle.paging_machine.specs.inner.Parts.{state_of}
 use Rattle.trace_check.specs.inner.Tests.{is_one_too_many, is_outsiders}
 use Rattle.trace_check.proofs.AskLaws.{answered, answered_outside, can_apply, can_move, nobody, of_cpus, out_of}
 use Rattle.trace_check.proofs.asking.ask_row.Goals as goal
@@ -22,20 +22,20 @@ returns-then-is_outsiders-clause-answer c =
     ∙ c.if-is_outsiders.true)
     c.ask_outside.result c.ask_outside.ensures
 
-pub ask_plain-requires-clause-asked : goal.ask_plain-requires-clause-asked
-ask_plain-requires-clause-asked c =
+pub ask-requires-clause-asked : goal.ask-requires-clause-asked
+ask-requires-clause-asked c =
     can_apply _ c.args.entry.now.actor c.args.action.now c.requires.row
     (ap (λ n. is_outsiders n c.args.entry.now.actor c.args.action.now) (sym c.cpus.ensures.value) ∙ sym c.is_outsiders.ensures
     ∙ c.if-is_outsiders.false)
 
-pub ask_plain-requires-clause-moves : goal.ask_plain-requires-clause-moves
-ask_plain-requires-clause-moves c =
-    can_move _ c.args.action.now
+pub ask-requires-clause-moves : goal.ask-requires-clause-moves
+ask-requires-clause-moves c =
+    can_move (state_of c.args.machine.now) c.args.action.now
     (ap (λ n. is_one_too_many n c.args.action.now) (sym c.arrays_made.ensures) ∙ sym c.is_one_too_many.ensures
     ∙ c.if-is_one_too_many.false)
 
 pub returns-clause-answer : goal.returns-clause-answer
 returns-clause-answer c =
-    out_of c.args.machine.now c.args.entry.now _ c.ask_plain.result
-    (λ kept can. answered c.args.machine.now kept c.args.entry.now can c.args.action.now c.requires.own c.requires.row _ c.ask_plain.result
-    c.ask_plain.ensures.takes c.ask_plain.ensures.step)
+    out_of c.args.machine.now c.args.entry.now _ c.ask.result
+    (λ kept can. answered c.args.machine.now kept c.args.entry.now can c.args.action.now c.requires.own c.requires.row _ c.ask.result
+    c.ask.ensures.takes c.ask.ensures.step)

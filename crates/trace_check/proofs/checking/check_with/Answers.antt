@@ -1,6 +1,5 @@
-use Rattle.std.proofs.Common.{◌≡◌, ◌≤◌, ◌∙◌, ℕ, sym, subst, arith}
-use Rattle.trace_check.specs.inner.Tests.{IsActor}
-use Rattle.trace_check.proofs.PlaceLaws.{any_actor, can_check, fault_at, kept_throughout, taken_at}
+use Rattle.std.proofs.Common.{◌≡◌, ◌≤◌, ◌∙◌, ℕ, arith}
+use Rattle.trace_check.proofs.PlaceLaws.{can_check, fault_at, kept_throughout, taken_at}
 use Rattle.trace_check.proofs.checking.check_with.Goals as goal
 
 over : {n count i : ℕ} → count ≡ n → count ≤ i → n ≤ i
@@ -9,11 +8,8 @@ over value past = omega (arith, value, past)
 pub loop-place-init : goal.loop-place-init
 loop-place-init c = (c.requires.cpus, c.requires.checked)
 
-pub ask-requires-clause-actor : goal.ask-requires-clause-actor
-ask-requires-clause-actor c = subst (λ n. IsActor n _) (sym c.loop-place.invariant.0) (any_actor _)
-
-pub ask-requires-clause-can : goal.ask-requires-clause-can
-ask-requires-clause-can c =
+pub ask_any-requires-clause-can : goal.ask_any-requires-clause-can
+ask_any-requires-clause-can c =
     can_check c.args.job.now 16 c.loop-place.machine _ c.args.entries.now c.loop-place.place c.loop-place.invariant.1
 
 pub returns-in-Some : goal.returns-in-Some
