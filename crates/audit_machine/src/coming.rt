@@ -24,12 +24,7 @@ use std::alloc::Global;
 /// the frame waits for, opened. Takes no SHA-256, since the work was opened before. None where the machine makes this very entry; else
 /// the rule that it breaks first. A version array page for which the frame waits is in no frame, as it is where `work` is its own record
 /// (`own_records_can_come`).
-pub fn bring(
-    machine: &mut Machine,
-    entry: &Entry,
-    frame: Frame,
-    work: UnsealedWork,
-) -> Option<Rule>
+pub fn bring(machine: &mut Machine, entry: &Entry, frame: Frame, work: UnsealedWork) -> Option<Rule>
     requires coming { is_loading ((state_of machine.old).content frame.0) ≡ true }
     requires can_bring { CanBring (state_of machine.old) frame.0 }
     requires done { IsDoneBack entry.now.event frame }

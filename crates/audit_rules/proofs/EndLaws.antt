@@ -99,7 +99,8 @@ module _ (j : JobView) (past : List Entry) (actor : Actor) (f : Frame) where
     of-page page version tag other =
         refusal_fails j past (out (answers.Moved page version tag)) (λ h. other (out-page past f.0 page g version v tag t h.1 ends))
 
-    at-version : (version : ℕ) (tag : List ℕ) → version ≡ v → (answers.Moved g version tag ≡ answers.Moved g v t → ⊥) → FailsAmong is_machines j past (Some (out (answers.Moved g version tag))) rules.Sealed
+    at-version : (version : ℕ) (tag : List ℕ) → version ≡ v → (answers.Moved g version tag ≡ answers.Moved g v t → ⊥)
+        → FailsAmong is_machines j past (Some (out (answers.Moved g version tag))) rules.Sealed
     at-version version tag same = subst Says_of (sym same) (λ other. of-tag tag (λ e. other (ap (answers.Moved g v) e)))
       where
         Says_of : ℕ → Type 0
@@ -129,7 +130,7 @@ module _ (j : JobView) (past : List Entry) (actor : Actor) (f : Frame) where
             (rule_out (answers.Moved page version tag) (answers.Moved g v t))
         by_test (inl same) = subst Says_of (sym (same_pages page g same)) (at-page version tag) other
         by_test (inr differs) =
-            rw differs (of-page page version tag             (λ e. false≢true (sym differs ∙ subst (λ x. same_page page x ≡ true) e (same_page-refl page))))
+            rw differs (of-page page version tag (λ e. false≢true (sym differs ∙ subst (λ x. same_page page x ≡ true) e (same_page-refl page))))
 
     -- an end that names nothing
     bare-out : (answer : Answer) → (EndsOut past f.0 answer → ⊥)
@@ -154,7 +155,8 @@ module _ (j : JobView) (past : List Entry) (actor : Actor) (f : Frame) where
     is-back = (keeps.each rules.Refusal refl).1
 
     -- the page, with another version or another tag
-    back-at-page : (version : ℕ) (tag : List ℕ) → (answers.Moved g version tag ≡ answers.Moved g v t → ⊥) → FailsAmong is_machines j past (Some (back (answers.Moved g version tag))) rules.Fresh
+    back-at-page : (version : ℕ) (tag : List ℕ) → (answers.Moved g version tag ≡ answers.Moved g v t → ⊥)
+        → FailsAmong is_machines j past (Some (back (answers.Moved g version tag))) rules.Fresh
     back-at-page version tag other =
         fresh_fails j past (back (answers.Moved g version tag)) (refl, named) (λ seen. absurd cc) (keeps.each rules.Fits refl)
         (keeps.each rules.Stale refl) tt (λ h. other (same h.reload))
@@ -177,12 +179,14 @@ module _ (j : JobView) (past : List Entry) (actor : Actor) (f : Frame) where
             λ i. answers.Moved g ((e i).version) ((e i).tag)
 
     moved-back : (page : Page) (version : ℕ) (tag : List ℕ) → (answers.Moved page version tag ≡ answers.Moved g v t → ⊥)
-        → FailsAmong is_machines j past (Some (back (answers.Moved page version tag))) (rule_back (answers.Moved page version tag) (answers.Moved g v t))
+        → FailsAmong is_machines j past (Some (back (answers.Moved page version tag)))
+        (rule_back (answers.Moved page version tag) (answers.Moved g v t))
     moved-back page version tag other = by_test (tested (same_page page g))
       where
         Says_of : Page → Type 0
         Says_of p = (answers.Moved p version tag ≡ answers.Moved g v t → ⊥)
-            → FailsAmong is_machines j past (Some (back (answers.Moved p version tag))) (rule_back (answers.Moved p version tag) (answers.Moved g v t))
+            → FailsAmong is_machines j past (Some (back (answers.Moved p version tag)))
+            (rule_back (answers.Moved p version tag) (answers.Moved g v t))
 
         at-page : Says_of g
         at-page differs = rw (same_page-refl g) (back-at-page version tag differs)

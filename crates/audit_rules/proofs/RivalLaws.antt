@@ -228,17 +228,20 @@ by-events : (j : JobView) (past : List Entry) (actor : Actor) (event made : Even
     → FailsAmong is_machines j past (Some (record { actor = actor; event = event })) (rule_of event made)
 by-events j past actor (Did one answer) (Did two right) action own same ends ended other keeps =
     let act : two ≡ one = same_Some _ _ (same ∙ sym own) in
-    done-done j past actor one answer right     (subst (λ a. KeepsMachines j past (record { actor = actor; event = Did a right })) act keeps)
+    done-done j past actor one answer right (subst (λ a. KeepsMachines j past (record { actor = actor; event = Did a right })) act keeps)
     (λ e. other (λ i. Did (sym act i) (e i)))
 by-events j past actor (Did one answer) (Refused two found) action own same ends ended other keeps =
     let act : two ≡ one = same_Some _ _ (same ∙ sym own) in
-    done-refused j past actor one answer found (subst (λ a. is_load_refused (Refused a found) ≡ false) act ended)     (subst (λ a. KeepsMachines j past (record { actor = actor; event = Refused a found })) act keeps)
+    done-refused j past actor one answer found (subst (λ a. is_load_refused (Refused a found) ≡ false) act ended)
+    (subst (λ a. KeepsMachines j past (record { actor = actor; event = Refused a found })) act keeps)
 by-events j past actor (Refused one refusal) (Did two right) action own same ends ended other keeps =
     let act : two ≡ one = same_Some _ _ (same ∙ sym own) in
-    refused-done j past actor one refusal right ends     (subst (λ a. KeepsMachines j past (record { actor = actor; event = Did a right })) act keeps)
+    refused-done j past actor one refusal right ends
+    (subst (λ a. KeepsMachines j past (record { actor = actor; event = Did a right })) act keeps)
 by-events j past actor (Refused one refusal) (Refused two found) action own same ends ended other keeps =
     let act : two ≡ one = same_Some _ _ (same ∙ sym own) in
-    refused-refused j past actor one refusal found ends (subst (λ a. is_load_refused (Refused a found) ≡ false) act ended)     (subst (λ a. KeepsMachines j past (record { actor = actor; event = Refused a found })) act keeps)
+    refused-refused j past actor one refusal found ends (subst (λ a. is_load_refused (Refused a found) ≡ false) act ended)
+    (subst (λ a. KeepsMachines j past (record { actor = actor; event = Refused a found })) act keeps)
     (λ e. other (λ i. Refused (sym act i) (e i)))
 by-events j past actor (Did one answer) made action own same ends ended other keeps = absurd (none-some _ same)
 by-events j past actor (Refused one refusal) made action own same ends ended other keeps = absurd (none-some _ same)
@@ -248,4 +251,5 @@ by-events j past actor event made action own same ends ended other keeps = absur
 pub first_broken : (j : JobView) (past : List Entry) (e made : Entry) → AreRivals e made → KeepsMachines j past made
     → FailsAmong is_machines j past (Some e) (rule_of e.event made.event)
 first_broken j past e made rivals keeps =
-    by-events j past e.actor e.event made.event rivals.action rivals.own rivals.same rivals.ends rivals.ended rivals.differ     (subst (λ a. KeepsMachines j past (record { actor = a; event = made.event })) (sym rivals.actor) keeps)
+    by-events j past e.actor e.event made.event rivals.action rivals.own rivals.same rivals.ends rivals.ended rivals.differ
+    (subst (λ a. KeepsMachines j past (record { actor = a; event = made.event })) (sym rivals.actor) keeps)

@@ -135,7 +135,10 @@ pub fn checked(
     let Ok(entries) = read_trace(alloc, trace) else {
         return Ok(None);
     };
-    let Some(told) = str::from_utf8(told).ok().and_then(|line| verdict_in(line.trim_end())) else {
+    let Some(told) = str::from_utf8(told)
+        .ok()
+        .and_then(|line| verdict_in(line.trim_end()))
+    else {
         return Ok(None);
     };
     Ok(Some((check(alloc, &job, &entries)?, told)))

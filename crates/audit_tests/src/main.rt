@@ -40,7 +40,10 @@ fn tell_checked(rt: &HostRuntime, name: &str) -> io::Result<()> {
     let trace = read(rt, name, ".trace")?;
     let told = read(rt, name, ".verdict")?;
     match checked(rt.alloc(), &job, &trace, &told) {
-        Ok(Some((found, told))) if found == told => println!(rt; "{name}: {}, as told", Shown(found)),
+        Ok(Some((found, told))) if found == told => println!(rt;
+            "{name}: {}, as told",
+            Shown(found)
+        ),
         Ok(Some((found, told))) => println!(rt; "{name}: {} and not {}", Shown(found), Shown(told)),
         Ok(None) => println!(rt; "{name}: no job, no trace, or no verdict"),
         Err(_) => println!(rt; "{name}: no memory"),

@@ -1,6 +1,7 @@
 -- The machine has made an entry that keeps each rule: it was asked for by who may make it.
 use Rattle.std.specs.Prelude.{slice_get, nat_lt, not, ◌&&◌}
-use Rattle.std.proofs.Common.{◌≡◌, ℕ, ◌<◌, ◌⊎◌, inl, inr, Bool, true, false, refl, sym, ap, subst, ◌∙◌, cond, arith, List, ◌∷◌, Option, Some, None, length}
+use Rattle.std.proofs.Common.{◌≡◌, ℕ, ◌<◌, ◌⊎◌, inl, inr, Bool, true, false, refl, sym}
+use Rattle.std.proofs.Common.{ap, subst, ◌∙◌, cond, arith, List, ◌∷◌, Option, Some, None, length}
 use Rattle.std.proofs.lemmas.Bool.{false≢true}
 use Rattle.std.proofs.lemmas.Option.{none-some, same_Some}
 use Rattle.sgx_rules.specs.declared.entries.Action.{Action}

@@ -5,12 +5,12 @@ ghost use Rattle.trace_auditor.specs.inner.Audits.{KeepsAudit};
 ghost use Rattle.trace_auditor.specs.Judged.{Judges};
 
 use crate::auditing::Auditing;
-use trace_check::verdict::Verdict;
 use job_grammar::jobs::Job;
 use run_history::rules::Rule;
 use sgx_rules::entries::Entry;
 use sgx_types::names::Memory;
 use std::alloc::Global;
+use trace_check::verdict::Verdict;
 
 /// Judges a trace of a job, oldest entry first, whoever made it: `Yes` exactly where it is a history of the job, else the first place at
 /// which a rule fails, and the first rule there. Linear in the entries, with the SHA-256 of each page that goes out, and of each enclave's

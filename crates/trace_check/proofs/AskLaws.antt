@@ -12,7 +12,8 @@ use Rattle.sgx_types.specs.declared.names.Page.{Page}
 use Rattle.sgx_types.specs.Making.{Making}
 use Rattle.sgx_types.proofs.Truths.{both_true, tested}
 use Rattle.sgx_rules.specs.declared.entries.Action.{Action}
-use Rattle.sgx_rules.specs.declared.entries.Action.TheVariants.{Add, Aex, Block, Create, Eld, EldStart, Enter, Epa, Ewb, EwbStart, Exit, Extend, Fill, Init}
+use Rattle.sgx_rules.specs.declared.entries.Action.TheVariants.{Add, Aex, Block, Create, Eld, EldStart, Enter}
+use Rattle.sgx_rules.specs.declared.entries.Action.TheVariants.{Epa, Ewb, EwbStart, Exit, Extend, Fill, Init}
 use Rattle.sgx_rules.specs.declared.entries.Action.TheVariants.{Load, OutLoad, OutStore, Pf, Plus, Resume, Set, Store, Track, Xadd}
 use Rattle.sgx_rules.specs.declared.entries.Answer.TheVariants.{Moved}
 use Rattle.sgx_rules.specs.declared.entries.Entry.{Entry}
@@ -215,7 +216,8 @@ module _ (m : Parts) (kept : Records) (e : Entry) (can : CanCheck m kept) where
       → IsTaken j can.cpus past m e t after
   committed action t after own is stands keeps = record {
     checked = record { stands = stands; records = keeps };
-    step = λ x named row. absurd (commit-no-row action is (subst (λ y. is_commit y ≡ false) (sym (same-action e.event action x own named)) row));
+    step = λ x named row. absurd (commit-no-row action is
+        (subst (λ y. is_commit y ≡ false) (sym (same-action e.event action x own named)) row));
   }
 
   module _ (f : Frame) (own : action_of e.event ≡ Some (Ewb f)) (work : UnsealedWork) (t : Parts)

@@ -191,14 +191,16 @@ module _ (m : Parts) (kept : Records) (e : Entry) (can : CanCheck m kept) (f : F
               let same : moved ≡ page = same_pages moved page says in
               let told : Moved moved version' tag ≡ Moved page version' tag = ap (λ g. Moved g version' tag) same in
               subst (λ x. FailsAmong is_machines j past (Some x) rules.Fresh) (sym (is ∙ ap (λ a. record { actor = e.actor; event = Did (Eld f) a }) told))
-              (fresh_fails j past (record { actor = e.actor; event = Did (Eld f) (Moved page version' tag) })
-              (refl, record {
-                page = page;
-                ends = record { start = begun.start; opened = begun.opened; loads = begun.loads };
-                version = version';
-                tag = tag;
-                told = refl;
-              })
+              (fresh_fails j past (record { actor = e.actor; event = Did (Eld f) (Moved page version' tag) }) (
+                refl,
+                record {
+                  page = page;
+                  ends = record { start = begun.start; opened = begun.opened; loads = begun.loads };
+                  version = version';
+                  tag = tag;
+                  told = refl;
+                },
+              )
               (λ visible. cc visible)
               ((open_below j.epc past f.0 keeps.fits.entries (rw begun.opened refl), tt), last_place NoPageTwice past keeps.fits.pages)
               (tt, last_place NoneStale past keeps.stale.places) tt

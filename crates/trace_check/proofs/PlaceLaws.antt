@@ -53,8 +53,11 @@ module _ (j : JobView) where
 
     pub keeps_all : MachineHistory j past
     keeps_all = record {
-      refusal = (tt, along (RefusalRule (made_for j cpus)) rules.Refusal
-          (λ before e said. refusal_any j cpus (length j.scripts) before e.actor e.event said) past keeps.refusal);
+      refusal = (
+        tt,
+        along (RefusalRule (made_for j cpus)) rules.Refusal
+            (λ before e said. refusal_any j cpus (length j.scripts) before e.actor e.event said) past keeps.refusal,
+      );
       flat = (tt, along _ rules.Flat (λ before e said. said) past keeps.flat);
       fits = ((tt, last_place NoPageTwice past keeps.fits.pages), fits-before past keeps.fits.entries keeps.fits.pages);
       stale = ((tt, last_place NoneStale past keeps.stale.places), stale-before past keeps.stale.entries keeps.stale.places);

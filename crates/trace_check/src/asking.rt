@@ -177,7 +177,11 @@ fn take_under(records: &mut OldRecords, page: Page, version: u64) -> Option<Unse
     ensures gone { records_of records.new ≡ without_record (records_of records.old) page }
 {
     let work = records.take(page)?;
-    if work.version == version { Some(work) } else { None }
+    if work.version == version {
+        Some(work)
+    } else {
+        None
+    }
 }
 
 // The instruction of an entry, done or refused.
