@@ -63,7 +63,8 @@ fn compare_with(
         others: Vec::new(alloc),
     };
     let mut report = Box::new(alloc, report)?;
-    report.compare(alloc, "right", Verdict::Yes, check(alloc, job, &right)?)?;
+    let told = report.right;
+    report.compare(alloc, "as it is", told, check(alloc, job, &right)?)?;
     let is_read = report.add_all(alloc, job, &right, wrong)?;
     Ok(if is_read { Some(report) } else { None })
 }

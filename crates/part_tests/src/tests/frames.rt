@@ -1,7 +1,5 @@
 //! The EPC's frames.
 
-ghost use Rattle.std.specs.Prelude.{◌≡◌};
-
 use epcm_entry::entry_view::EntryView;
 use epcm_entry::epc::Epc;
 use sgx_rules::refusals::Refusal;
@@ -21,22 +19,11 @@ const PERM: Perm = Perm {
     x: false,
 };
 
-fn is_entry(rt: &impl Abort, entry: EntryView, want: EntryView)
-    ensures { entry ≡ want }
-{
-    assert_eq!(rt; entry, want);
-}
-
-// Puts a page into a frame that holds nothing.
-fn hold(rt: &impl Abort, epc: &mut Epc, number: u32, page: Page, kind: Kind, perm: Perm) {
+fn hold_page(rt: &impl Abort, epc: &mut Epc, number: u32) {
     let frame = Frame(number);
     assert!(rt; number < epc.frames());
-    is_entry(rt, epc.entry(frame), EntryView::Free);
-    epc.set(frame, page, kind, perm);
-}
-
-fn hold_page(rt: &impl Abort, epc: &mut Epc, number: u32) {
-    hold(rt, epc, number, PAGE, Kind::Reg, PERM);
+    assert_eq!(rt; epc.entry(frame), EntryView::Free);
+    epc.set(frame, PAGE, Kind::Reg, PERM);
 }
 
 fn free(rt: &impl Abort, epc: &mut Epc, number: u32) {
@@ -95,62 +82,50 @@ fn words_are_bytes_low_first(rt: HostRuntime) -> Result<(), Fail> {
         &epc.bytes(Frame(1))[4088..],
         [1, 2, 3, 4, 5, 6, 7, 8].as_slice()
     );
-    let written = epc.word(Frame(1), 511);
+    assert_eq!(rt; epc.word(Frame(1), 511), 0x0807_0605_0403_0201);
     let mut from = [0; 4096];
     from[9] = 2;
     epc.set_bytes(Frame(0), &from);
-    let copied = epc.word(Frame(0), 1);
+    assert_eq!(rt; epc.word(Frame(0), 1), 512);
     epc.clear(Frame(1));
-    let words = [
-        written,
-        copied,
-        epc.word(Frame(1), 511),
-        epc.word(Frame(0), 1),
-    ];
-    assert_eq!(rt; words, [0x0807_0605_0403_0201, 512, 0, 512]);
+    assert_eq!(rt; epc.word(Frame(1), 511), 0);
+    assert_eq!(rt; epc.word(Frame(0), 1), 512);
     Ok(())
-}
-
-const LOADING: EntryView = EntryView::Loading { page: PAGE };
-
-const SEALING: EntryView = EntryView::Valid {
-    page: PAGE,
-    kind: Kind::Reg,
-    perm: PERM,
-    blocked: Some(7),
-    sealing: true,
-};
-
-fn is_answer(rt: &impl Abort, answer: Result<(), Refusal>, want: Result<(), Refusal>)
-    ensures { answer ≡ want }
-{
-    assert_eq!(rt; answer, want);
 }
 
 #[test]
 fn claims_a_frame_once(rt: HostRuntime) -> Result<(), Fail> {
     let mut epc = Epc::new(rt.alloc(), 2)?;
-    is_answer(&rt, epc.claim_load(Frame(0), PAGE), Ok(()));
-    is_answer(&rt, epc.claim_load(Frame(0), PAGE), Err(Refusal::Conflict));
-    is_entry(&rt, epc.entry(Frame(0)), LOADING);
+    assert_eq!(rt; epc.claim_load(Frame(0), PAGE), Ok(()));
+    assert_eq!(rt; epc.claim_load(Frame(0), PAGE), Err(Refusal::Conflict));
+    assert_eq!(rt; epc.entry(Frame(0)), EntryView::Loading { page: PAGE });
     epc.set(Frame(0), PAGE, Kind::Reg, PERM);
     epc.block(Frame(0), 7);
-    is_answer(&rt, epc.claim_seal(Frame(0)), Ok(()));
-    is_answer(&rt, epc.claim_seal(Frame(0)), Err(Refusal::Conflict));
-    is_entry(&rt, epc.entry(Frame(0)), SEALING);
+    assert_eq!(rt; epc.claim_seal(Frame(0)), Ok(()));
+    assert_eq!(rt; epc.claim_seal(Frame(0)), Err(Refusal::Conflict));
+    let sealing = EntryView::Valid {
+        page: PAGE,
+        kind: Kind::Reg,
+        perm: PERM,
+        blocked: Some(7),
+        sealing: true,
+    };
+    assert_eq!(rt; epc.entry(Frame(0)), sealing);
     Ok(())
 }
 
 // The SECS of an enclave in a frame that holds nothing.
 fn hold_secs(rt: &impl Abort, epc: &mut Epc, number: u32, enclave: u16) {
+    let frame = Frame(number);
+    assert!(rt; number < epc.frames());
+    assert_eq!(rt; epc.entry(frame), EntryView::Free);
     let page = Page {
         enclave,
         number: SECS_NUMBER,
     };
-    hold(rt, epc, number, page, Kind::Secs, Perm::NONE);
+    epc.set(frame, page, Kind::Secs, Perm::NONE);
     assert!(rt; number < epc.frames());
-    let entry = epc.entry(Frame(number));
-    assert!(rt; entry.is_secs_of(enclave) && !entry.is_secs_of(3));
+    assert!(rt; epc.entry(frame).is_secs_of(enclave) && !epc.entry(frame).is_secs_of(3));
 }
 
 // Frames that are cleared, and then the frames of the SECS of the enclaves 1 to 3.
