@@ -5,34 +5,47 @@ ghost use Rattle.audit_command.specs.VerdictText.{verdict_text};
 ghost use Rattle.io_edges.specs.inner.Faults.{HasCause};
 ghost use Rattle.io_edges.specs.Sinks.{GivesPart, followed_by};
 ghost use Rattle.trace_check.specs.declared.verdict.Verdict.{Verdict};
-ghost use Rattle.trace_auditor.specs.Judged.{Judges};
+ghost use Rattle.audit_command.specs.JudgedBy.{JudgesBy};
 
 use crate::verdicts::print_verdict;
+use command_words::rules::Rules;
 use io_edges::giving::give_all;
 use io_edges::sinks::Sink;
 use job_grammar::jobs::Job;
 use sgx_rules::entries::Entry;
+use sgx_types::names::Memory;
 use std::alloc::Global;
 use trace_auditor::audit::audit;
+use trace_check::checking::check;
 use trace_check::verdict::Verdict;
 use trace_pieces::ungiven::Ungiven;
 
-/// Audits a trace of a job, and gives the line on the verdict, which is answered too. The entries stand oldest first.
-pub fn give_audit<K: Sink>(
+/// Judges a trace of a job by these rules, and gives the line on the verdict, which is answered too. The entries stand oldest first.
+pub fn give_verdict<K: Sink>(
     alloc: Global,
+    rules: Rules,
     job: &Job,
     entries: &[Entry],
     out: &mut K,
 ) -> Result<Verdict, Ungiven>
-    ensures judged { IfOk result (λ verdict. Judges job.now (reverse entries.now) verdict) }
+    ensures judged { IfOk result (JudgesBy rules job.now (reverse entries.now)) }
     ensures gave { IfOk result (λ verdict. K.given out.new ≡ followed_by (K.given out.old) (verdict_text verdict)) }
-    ensures broke { IsErrOf result Ungiven.Failed → (verdict : Verdict) × Judges job.now (reverse entries.now) verdict
+    ensures broke { IsErrOf result Ungiven.Failed → (verdict : Verdict) × JudgesBy rules job.now (reverse entries.now) verdict
         × GivesPart (K.given out.old) (K.given out.new) (verdict_text verdict) }
     ensures memory { IsErrOf result Ungiven.Memory → out.new ≡ out.old }
     ensures cause { HasCause (K.faults out.old) (K.faults out.new) (IsErrOf result Ungiven.Failed) }
 {
-    let verdict = audit(alloc, job, entries)?;
+    let verdict = judge(alloc, rules, job, entries)?;
     let text = print_verdict(alloc, verdict)?;
     give_all(out, &text)?;
     Ok(verdict)
+}
+
+fn judge(alloc: Global, rules: Rules, job: &Job, entries: &[Entry]) -> Result<Verdict, Memory>
+    ensures { IfOk result (JudgesBy rules job.now (reverse entries.now)) }
+{
+    match rules {
+        Rules::All => audit(alloc, job, entries),
+        Rules::Processors => check(alloc, job, entries),
+    }
 }

@@ -16,6 +16,8 @@ use std::thread::Threads;
 
 const AUDIT: &[&str] = &["audit", "t"];
 
+const CHECK: &[&str] = &["check", "t"];
+
 const MAKE: &[&str] = &["make", "1", "200"];
 
 /// The trace of the first job without its last entry.
@@ -152,14 +154,110 @@ const ROWS: &[Row] = &[
     },
 ];
 
+// All that `check` uses of a job: frames, and the key and the first numbers as they are where none are told.
+const THREE_LINES: &[u8] = b"epc 6\nenclave A 0x0 0x2000\ncpu 0\n";
+
+/// An enclave is built as in the first job.
+const BUILT: &[u8] =
+    b"trace 2\nb epa 0 0\nb create A 1 0x10000 0x10000\nb add A 0 2 tcs - tcs 1 1\nb add A 1 3 reg rw words 0\n\
+    b add A 2 4 reg rw words 7\nb init A - 006d518bbd8825da4a0e7d35d418aaf16b7749c62854a6f40d8d58db415a8c31\n";
+
+/// A driver that takes frames from the top, and any slot, and evicts while a processor is inside: up to a block.
+const BLOCKED: &[u8] =
+    b"trace 2\nb epa 5 0\nb create A 0 0x10000 0x10000\nb add A 0 4 tcs - tcs 1 1\nb add A 1 3 reg rw words 0\n\
+    b add A 2 1 reg rw words 7\nb init A - 006d518bbd8825da4a0e7d35d418aaf16b7749c62854a6f40d8d58db415a8c31\n\
+    p3 enter A 0 4 3 0\np3 fill 2 1\np3 load 0x2000 7\nr block 1\n";
+
+const TRACKED: &[u8] = b"r track A\nr refused ewbstart 1 5 100 NotTracked 2 1\n";
+
+// The tag is that of the page's bytes under version 1, by a program in Python.
+const WRITTEN: &[u8] =
+    b"p3 exit\nr ewbstart 1 5 100 1\nr ewb 1 A 2 1 b40eef08eb5a9b63894de250d90fd8369e8a79857a9d785288566a63671d4a6f\n\
+    b eldstart 2 A 2 5 100 1\nb eld 2 A 2 1 b40eef08eb5a9b63894de250d90fd8369e8a79857a9d785288566a63671d4a6f\n";
+
+// Traces by the processor's rules alone.
+const CHECKED: &[Row] = &[
+    Row {
+        job: THREE_LINES,
+        old: &[TRACE],
+        piece: 7,
+        fails: NO_FAULT,
+        status: Status::Done,
+        told: b"yes\n",
+        unread: false,
+    },
+    // What is missing at the end is a driver's.
+    Row {
+        job: JOB,
+        old: &[INSIDE],
+        piece: 100,
+        fails: NO_FAULT,
+        status: Status::Done,
+        told: b"yes\n",
+        unread: false,
+    },
+    Row {
+        job: RELOAD_JOB,
+        old: &[BEFORE_ELD, OLDER_ELD, BEHIND_ELD],
+        piece: 100,
+        fails: NO_FAULT,
+        status: Status::AuditNo,
+        told: b"no 36 Fresh\n",
+        unread: false,
+    },
+    // A processor that the job has not, and what is refused to a driver as it should be.
+    Row {
+        job: THREE_LINES,
+        old: &[
+            BUILT,
+            b"r refused load 0x0 WrongMode\np15 enter A 0 2 3 0\np15 fill 2 4\np15 load 0x2000 7\np15 exit\nend 11\n",
+        ],
+        piece: 100,
+        fails: NO_FAULT,
+        status: Status::Done,
+        told: b"yes\n",
+        unread: false,
+    },
+    // The example of the page on traces, and without its track.
+    Row {
+        job: THREE_LINES,
+        old: &[BLOCKED, TRACKED, WRITTEN, b"end 17\n"],
+        piece: 100,
+        fails: NO_FAULT,
+        status: Status::Done,
+        told: b"yes\n",
+        unread: false,
+    },
+    Row {
+        job: THREE_LINES,
+        old: &[BLOCKED, WRITTEN, b"end 15\n"],
+        piece: 100,
+        fails: NO_FAULT,
+        status: Status::AuditNo,
+        told: b"no 11 Refusal\n",
+        unread: false,
+    },
+    // A driver loads nothing from outside.
+    Row {
+        job: THREE_LINES,
+        old: &[BUILT, b"r outload A 0x0 18446744073709551615\nend 7\n"],
+        piece: 100,
+        fails: NO_FAULT,
+        status: Status::AuditNo,
+        told: b"no 6 Flat\n",
+        unread: false,
+    },
+];
+
 fn gets_its_verdict(
     rt: &(impl Abort + Alloc<A = Global> + Threads + Wait + Sync),
+    words: &[&str],
     row: &Row,
 ) -> Result<(), Fail> {
     let alloc = rt.alloc();
     let old = joined(alloc, row.old)?;
     let fails = [row.fails[0], row.fails[1], row.fails[2], &[1]];
-    let given = given_with(rt, alloc, AUDIT, [row.job, &old], row.piece.max(1), fails)?;
+    let given = given_with(rt, alloc, words, [row.job, &old], row.piece.max(1), fails)?;
     compare(rt, &given, row.status, row.told);
     let unread = given.old_left == old.len();
     assert_eq!(rt; (unread, given.trace.len()), (row.unread, 0));
@@ -168,8 +266,10 @@ fn gets_its_verdict(
 
 #[test]
 fn an_old_trace_gets_its_verdict_or_its_first_faulty_line(rt: HostRuntime) -> Result<(), Fail> {
-    for row in ROWS {
-        gets_its_verdict(&rt, row)?;
+    for (words, rows) in [(AUDIT, ROWS), (CHECK, CHECKED)] {
+        for row in rows {
+            gets_its_verdict(&rt, words, row)?;
+        }
     }
     Ok(())
 }

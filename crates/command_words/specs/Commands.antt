@@ -4,6 +4,7 @@ use Rattle.std.specs.Prelude.{length, nat_le, nat_lt}
 use Rattle.text_words.specs.Reading.{◌>>=◌}
 use Rattle.command_words.specs.declared.command.Command.{Command}
 use Rattle.command_words.specs.declared.command.Command.TheVariants as commands
+use Rattle.command_words.specs.declared.rules.Rules.TheVariants as rules
 use Rattle.command_words.specs.Numbers.{count_of}
 use Rattle.command_words.specs.Questions.{asks_behind, asks_moves}
 
@@ -23,12 +24,13 @@ abbrev pub path_by : List ℕ → Option Command
 path_by name =
     if bytes_eq name (codes "run") then Some commands.Run
     else if bytes_eq name (codes "least") then Some commands.Least
-    else if bytes_eq name (codes "audit") then Some commands.Audit
+    else if bytes_eq name (codes "audit") then Some (commands.Judge rules.All)
+    else if bytes_eq name (codes "check") then Some (commands.Judge rules.Processors)
     else if bytes_eq name (codes "migrate") then Some commands.Migrate
     else if bytes_eq name (codes "picture") then Some commands.Picture
     else None
 
--- `run PATH`, `least PATH`, `audit PATH`, `migrate PATH` and `picture PATH`, where PATH is any word that is not empty
+-- `run PATH`, `least PATH`, `audit PATH`, `check PATH`, `migrate PATH` and `picture PATH`, where PATH is any word that is not empty
 abbrev pub with_path : List ℕ → List ℕ → Option Command
 with_path name path = if nat_lt 0 (length path) then path_by name else None
 

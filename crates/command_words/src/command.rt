@@ -9,6 +9,7 @@ ghost use Rattle.std.specs.List.{list_all};
 ghost use Rattle.std.specs.Prelude.{◌≡◌, ◌≤◌, ◌^◌, IfSome, map, string_bytes};
 
 use crate::question::Question;
+use crate::rules::Rules;
 use sgx_types::names::{Page, SECS_NUMBER};
 use text_words::readers::{letter, number};
 
@@ -27,9 +28,9 @@ pub enum Command {
     /// `least PATH`: the fewest loads for what a trace of a job accesses, which is the file at the path, which is not empty.
     Least,
 
-    /// `audit PATH`: whether a trace of a job, which is the file at the path, which is not empty, is a history of it, and else where it
-    /// fails first.
-    Audit,
+    /// `audit PATH` or `check PATH`: whether a trace of a job, which is the file at the path, which is not empty, keeps the rules, all of them or
+    /// the processor's alone, and else where it fails first.
+    Judge { rules: Rules },
 
     /// `migrate PATH`: the text in the second edition of a trace in the first, which is the file at the path, which is not empty.
     Migrate,
@@ -92,7 +93,11 @@ fn path_command_by(name: &str) -> Option<Command>
     } else if name == "least" {
         Some(Command::Least)
     } else if name == "audit" {
-        Some(Command::Audit)
+        Some(Command::Judge { rules: Rules::All })
+    } else if name == "check" {
+        Some(Command::Judge {
+            rules: Rules::Processors,
+        })
     } else if name == "migrate" {
         Some(Command::Migrate)
     } else if name == "picture" {

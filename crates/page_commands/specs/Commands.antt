@@ -3,6 +3,7 @@ use Rattle.std.specs.Prelude.{ℕ, ◌≡◌, ◌⊎◌, Option, Some}
 use Rattle.command_words.specs.declared.command.Command.{Command}
 use Rattle.command_words.specs.declared.command.Command.TheVariants as commands
 use Rattle.command_words.specs.declared.question.Question.{Question}
+use Rattle.command_words.specs.declared.rules.Rules.{Rules}
 use Rattle.io_edges.specs.Faults.{HasRisen}
 use Rattle.run_jobs.specs.declared.ends.End.{End}
 use Rattle.run_jobs.specs.declared.ends.End.TheVariants as ends
@@ -17,9 +18,13 @@ NoFault old new = HasRisen old new → ⊥
 abbrev pub Asks : Option Command → Type 0
 Asks command = (question : Question) × (command ≡ Some (commands.Ask question))
 
+-- the command judges an old trace by some rules
+abbrev pub Judges : Option Command → Type 0
+Judges command = (rules : Rules) × (command ≡ Some (commands.Judge rules))
+
 -- the command reads an old trace, behind its job
 abbrev pub ReadsOld : Option Command → Type 0
-ReadsOld command = (command ≡ Some commands.Least) ⊎ (command ≡ Some commands.Audit) ⊎ Asks command
+ReadsOld command = (command ≡ Some commands.Least) ⊎ Judges command ⊎ Asks command
 
 -- the command reads a trace in the first edition
 abbrev pub Migrates : Option Command → Type 0

@@ -7,12 +7,12 @@ use Rattle.job_grammar.specs.Jobs.{JobView}
 use Rattle.job_text.specs.Reading.{read}
 use Rattle.old_trace.specs.Reading.{Reads, fault_line}
 use Rattle.run_history.specs.declared.rules.Rule.{Rule}
-use Rattle.run_history.specs.Histories.{FailsFirst, History}
 use Rattle.audit_command.specs.Verdict.{Verdict}
 use Rattle.audit_command.specs.Verdict.TheVariants as verdicts
-use Rattle.audit_command.specs.Judged.{Judges}
+use Rattle.audit_command.specs.JudgedBy.{JudgesBy}
 use Rattle.audit_command.specs.VerdictText.{verdict_text}
 use Rattle.command_words.specs.declared.question.Question.{Question}
+use Rattle.command_words.specs.declared.rules.Rules.{Rules}
 use Rattle.least_command.specs.Fewest.{IsLeastText}
 use Rattle.picture_text.specs.PictureText.{picture_of}
 use Rattle.query_command.specs.AnswerText.{answer_text}
@@ -59,33 +59,33 @@ pub record TracedBy (bytes old_bytes : List ℕ) (Is : JobView → List Entry �
 abbrev pub AnsweredBy : Question → List ℕ → List ℕ → (List ℕ → Type 0) → Type 0
 AnsweredBy question bytes old_bytes Given = TracedBy bytes old_bytes (λ j past. Given (answer_text question past))
 
--- the trace is a history of the job
-abbrev pub IsRight : List ℕ → List ℕ → Type 0
-IsRight bytes old_bytes = TracedBy bytes old_bytes History
+-- the trace keeps these rules
+abbrev pub IsRight : Rules → List ℕ → List ℕ → Type 0
+IsRight rules bytes old_bytes = TracedBy bytes old_bytes (λ j whole. JudgesBy rules j whole verdicts.Yes)
 
--- .. or this rule fails first, at this place
-abbrev pub IsWrongBy : ℕ → Rule → List ℕ → List ℕ → Type 0
-IsWrongBy place rule bytes old_bytes = TracedBy bytes old_bytes (λ j whole. FailsFirst j whole place rule)
+-- .. or this one fails first, at this place
+abbrev pub IsWrongBy : Rules → ℕ → Rule → List ℕ → List ℕ → Type 0
+IsWrongBy rules place rule bytes old_bytes = TracedBy bytes old_bytes (λ j whole. JudgesBy rules j whole (verdicts.No place rule))
 
-abbrev pub IsWrong : List ℕ → List ℕ → Type 0
-IsWrong bytes old_bytes = (place : ℕ) × (rule : Rule) × IsWrongBy place rule bytes old_bytes
+abbrev pub IsWrong : Rules → List ℕ → List ℕ → Type 0
+IsWrong rules bytes old_bytes = (place : ℕ) × (rule : Rule) × IsWrongBy rules place rule bytes old_bytes
 
--- a sink got `yes`, of a history
-pub record YesTold (bytes old_bytes : List ℕ) (out out' : Option (List ℕ)) : Type 0 where
-  pub right : IsRight bytes old_bytes
+-- a sink got `yes`, of a trace that keeps them
+pub record YesTold (rules : Rules) (bytes old_bytes : List ℕ) (out out' : Option (List ℕ)) : Type 0 where
+  pub right : IsRight rules bytes old_bytes
   pub told : out' ≡ followed_by out (verdict_text verdicts.Yes)
 
 -- .. or `no` with the place and the rule that fails first
-pub record NoTold (bytes old_bytes : List ℕ) (out out' : Option (List ℕ)) : Type 0 where
+pub record NoTold (rules : Rules) (bytes old_bytes : List ℕ) (out out' : Option (List ℕ)) : Type 0 where
   pub place : ℕ
   pub rule : Rule
-  pub wrong : IsWrongBy place rule bytes old_bytes
+  pub wrong : IsWrongBy rules place rule bytes old_bytes
   pub told : out' ≡ followed_by out (verdict_text (verdicts.No place rule))
 
 -- .. or a proper front of the text of the verdict
-pub record HalfJudged (bytes old_bytes : List ℕ) (out out' : Option (List ℕ)) : Type 0 where
+pub record HalfJudged (rules : Rules) (bytes old_bytes : List ℕ) (out out' : Option (List ℕ)) : Type 0 where
   pub verdict : Verdict
-  pub judged : TracedBy bytes old_bytes (λ j whole. Judges j whole verdict)
+  pub judged : TracedBy bytes old_bytes (λ j whole. JudgesBy rules j whole verdict)
   pub told : GivesPart out out' (verdict_text verdict)
 
 -- the bytes spell a trace, and something was given of the text of its picture

@@ -1,4 +1,4 @@
-//! The command `audit`: whether an old trace is a history of its job, and else where it fails first.
+//! The commands `audit` and `check`: whether an old trace keeps the rules, all of them or the processor's, and else where it fails first.
 
 ghost use Rattle.std.specs.Prelude.{◌≡◌, ◌+◌, ◌^◌, ◌⊎◌, IsSomeAnd};
 ghost use Rattle.io_edges.specs.Faults.{HasRisen};
@@ -11,18 +11,20 @@ ghost use Rattle.page_commands.specs.Traces.{NoTold, YesTold};
 
 use crate::status::Status;
 use crate::traces::read_traced;
-use audit_command::giving::give_audit;
+use audit_command::giving::give_verdict;
 use audit_command::verdicts::Verdict;
+use command_words::rules::Rules;
 use io_edges::sinks::Sink;
 use io_edges::sources::Source;
 use std::alloc::Global;
 use trace_pieces::ungiven::Ungiven;
 use trace_text::edition::Edition;
 
-/// Reads a job and then an old trace, whoever made it, and gives the verdict: `yes` where the trace is a history of the job, and else the
-/// first place at which a rule fails, and that rule. Where either text is none, `out` gets the line on that.
+/// Reads a job and then an old trace, whoever made it, and gives the verdict: `yes` where the trace keeps these rules, and else the first
+/// place at which one fails, and that rule. Where either text is none, `out` gets the line on that.
 pub(crate) fn audit_command<J: Source, O: Source, K: Sink>(
     alloc: Global,
+    rules: Rules,
     job: &mut J,
     old: &mut O,
     out: &mut K,
@@ -33,12 +35,12 @@ pub(crate) fn audit_command<J: Source, O: Source, K: Sink>(
     ensures behind { OfRead (J.left job.old) HasJob ⊎ (old.new ≡ old.old) }
 
     ensures audit { result ≡ Status.Done → OfRead (J.left job.old) (λ bytes. OfRead (O.left old.old) (λ old_bytes.
-        YesTold bytes old_bytes (K.given out.old) (K.given out.new))) }
+        YesTold rules bytes old_bytes (K.given out.old) (K.given out.new))) }
     ensures audit_no { result ≡ Status.AuditNo → OfRead (J.left job.old) (λ bytes. OfRead (O.left old.old) (λ old_bytes.
-        NoTold bytes old_bytes (K.given out.old) (K.given out.new))) }
-    // A history is never refused, and no other trace is taken for one.
-    ensures right { IsSomeAnd (J.left job.old) (λ bytes. IsSomeAnd (O.left old.old) (IsRight bytes)) → result ≡ Status.AuditNo → ⊥ }
-    ensures wrong { IsSomeAnd (J.left job.old) (λ bytes. IsSomeAnd (O.left old.old) (IsWrong bytes)) → result ≡ Status.Done → ⊥ }
+        NoTold rules bytes old_bytes (K.given out.old) (K.given out.new))) }
+    // What keeps them is never refused, and nothing else is taken for it.
+    ensures right { IsSomeAnd (J.left job.old) (λ bytes. IsSomeAnd (O.left old.old) (IsRight rules bytes)) → result ≡ Status.AuditNo → ⊥ }
+    ensures wrong { IsSomeAnd (J.left job.old) (λ bytes. IsSomeAnd (O.left old.old) (IsWrong rules bytes)) → result ≡ Status.Done → ⊥ }
 
     ensures read_fault { result ≡ Status.ReadFault →
         (HasRisen (J.faults job.old) (J.faults job.new) × (old.new ≡ old.old)
@@ -62,14 +64,14 @@ pub(crate) fn audit_command<J: Source, O: Source, K: Sink>(
         ⊎ OfRead (J.left job.old) HasJob × OfRead (O.left old.old)
         (λ bytes. HalfLineTold Edition.Two bytes (K.given out.old) (K.given out.new))
         ⊎ OfRead (J.left job.old) (λ bytes. OfRead (O.left old.old) (λ old_bytes.
-        HalfJudged bytes old_bytes (K.given out.old) (K.given out.new))) }
+        HalfJudged rules bytes old_bytes (K.given out.old) (K.given out.new))) }
     ensures memory { result ≡ Status.Memory → out.new ≡ out.old }
 {
     let traced = match read_traced(alloc, job, old, out) {
         Ok(traced) => traced,
         Err(status) => return status,
     };
-    match give_audit(alloc, &traced.job, &traced.entries, out) {
+    match give_verdict(alloc, rules, &traced.job, &traced.entries, out) {
         Ok(Verdict::Yes) => Status::Done,
         Ok(Verdict::No { .. }) => Status::AuditNo,
         Err(Ungiven::Failed) => Status::WriteFault,

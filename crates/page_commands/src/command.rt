@@ -5,6 +5,7 @@ ghost use Rattle.std.specs.Prelude.{Some};
 ghost use Rattle.command_words.specs.Commands.{command_in};
 ghost use Rattle.command_words.specs.declared.command.Command.TheVariants as commands;
 ghost use Rattle.command_words.specs.declared.question.Question.{Question};
+ghost use Rattle.command_words.specs.declared.rules.Rules.{Rules};
 ghost use Rattle.gate_command.specs.GateText.{gate_text};
 ghost use Rattle.io_edges.specs.Faults.{HasRisen};
 ghost use Rattle.io_edges.specs.Sinks.{GivesPart, followed_by};
@@ -14,7 +15,7 @@ ghost use Rattle.job_print.specs.JobText.{job_text};
 ghost use Rattle.run_summary.specs.Summary.{summary_of};
 ghost use Rattle.old_trace.specs.Reading.{OfRead};
 ghost use Rattle.page_commands.specs.Commands.{Asks, HasEnded, IsAuditEnd, IsDemoEnd, IsLeastEnd, IsMigrateEnd, MayStandIn, Migrates};
-ghost use Rattle.page_commands.specs.Commands.{NoFault, Pictures, ReadsAlone, ReadsJob, ReadsOld};
+ghost use Rattle.page_commands.specs.Commands.{Judges, NoFault, Pictures, ReadsAlone, ReadsJob, ReadsOld};
 ghost use Rattle.page_commands.specs.Commands.{status_of};
 ghost use Rattle.page_commands.specs.Runs.{BothGiven, DemoBy, HalfGiven, HalfTold, HasFault, HasJob, IsTextGiven, RanBy, Told};
 ghost use Rattle.page_commands.specs.Traces.{AnsweredBy, HalfJudged, HalfLineTold, HasTrace, HasWrongLine, IsRight, IsWrong, LeastBy};
@@ -56,7 +57,8 @@ use turn_gate::gate::Gate;
 /// read no further than one byte past them.
 ///
 /// `audit PATH` reads the same two, whoever made the trace, and gives to `out` the verdict: `yes` where the trace is a history of the job,
-/// and else the first place at which a rule fails, and that rule.
+/// and else the first place at which a rule fails, and that rule. `check PATH` does so by the processor's rules alone, which say nothing of a
+/// driver; of the job it uses the EPC's size, the key and the first epoch and version.
 ///
 /// `query PATH PLACE L PAGE` and `moves PATH L PAGE` read the same two, whoever made the trace, and answer a question to it. The one gives
 /// to `out` where the page was behind so many entries, which processors cached it there, and its first word. The other gives a line for
@@ -177,32 +179,33 @@ pub fn sgxpage<
     ensures least_else { command_in (map string_bytes words.now) ≡ Some commands.Least →
         IsLeastEnd result.status × (trace.new ≡ trace.old) × (result.store ≡ None) }
 
-    // The verdict on the old trace: it is a history of the job, or some rule fails.
-    ensures audit { command_in (map string_bytes words.now) ≡ Some commands.Audit → result.status ≡ Status.Done →
+    // The verdict on the old trace, by all rules or by the processor's: it keeps them, or some rule fails.
+    ensures judge { (rules : Rules) → command_in (map string_bytes words.now) ≡ Some (commands.Judge rules) → result.status ≡ Status.Done →
         OfRead (J.left job.old) (λ bytes. OfRead (O.left old.old) (λ old_bytes.
-        YesTold bytes old_bytes (K.given out.old) (K.given out.new))) }
-    ensures audit_no { result.status ≡ Status.AuditNo →
-        (command_in (map string_bytes words.now) ≡ Some commands.Audit)
+        YesTold rules bytes old_bytes (K.given out.old) (K.given out.new))) }
+    ensures judge_no { result.status ≡ Status.AuditNo →
+        (rules : Rules) × (command_in (map string_bytes words.now) ≡ Some (commands.Judge rules))
         × OfRead (J.left job.old) (λ bytes. OfRead (O.left old.old) (λ old_bytes.
-        NoTold bytes old_bytes (K.given out.old) (K.given out.new))) }
-    // A history is never refused, and no other trace is taken for one.
-    ensures audit_right { IsSomeAnd (J.left job.old) (λ bytes. IsSomeAnd (O.left old.old) (IsRight bytes)) →
-        result.status ≡ Status.AuditNo → ⊥ }
-    ensures audit_wrong { command_in (map string_bytes words.now) ≡ Some commands.Audit →
-        IsSomeAnd (J.left job.old) (λ bytes. IsSomeAnd (O.left old.old) (IsWrong bytes)) → result.status ≡ Status.Done → ⊥ }
-    ensures audit_complete { command_in (map string_bytes words.now) ≡ Some commands.Audit →
+        NoTold rules bytes old_bytes (K.given out.old) (K.given out.new))) }
+    // What keeps them is never refused, and nothing else is taken for it.
+    ensures judge_right { (rules : Rules) → command_in (map string_bytes words.now) ≡ Some (commands.Judge rules) →
+        IsSomeAnd (J.left job.old) (λ bytes. IsSomeAnd (O.left old.old) (IsRight rules bytes)) → result.status ≡ Status.AuditNo → ⊥ }
+    ensures judge_wrong { (rules : Rules) → command_in (map string_bytes words.now) ≡ Some (commands.Judge rules) →
+        IsSomeAnd (J.left job.old) (λ bytes. IsSomeAnd (O.left old.old) (IsWrong rules bytes)) → result.status ≡ Status.Done → ⊥ }
+    ensures judge_complete { Judges (command_in (map string_bytes words.now)) →
         IsSomeAnd (J.left job.old) HasJob → IsSomeAnd (O.left old.old) (HasTrace Edition.Two) →
         NoFault (J.faults job.old) (J.faults job.new) →
         NoFault (O.faults old.old) (O.faults old.new) →
         NoFault (K.faults out.old) (K.faults out.new) →
         (result.status ≡ Status.Done) ⊎ (result.status ≡ Status.AuditNo) ⊎ (result.status ≡ Status.Memory) }
-    ensures audit_broke { command_in (map string_bytes words.now) ≡ Some commands.Audit → result.status ≡ Status.WriteFault →
+    ensures judge_broke { (rules : Rules) → command_in (map string_bytes words.now) ≡ Some (commands.Judge rules) →
+        result.status ≡ Status.WriteFault →
         OfRead (J.left job.old) (λ bytes. HalfTold bytes (K.given out.old) (K.given out.new)) × (old.new ≡ old.old)
         ⊎ OfRead (J.left job.old) HasJob × OfRead (O.left old.old)
         (λ bytes. HalfLineTold Edition.Two bytes (K.given out.old) (K.given out.new))
         ⊎ OfRead (J.left job.old) (λ bytes. OfRead (O.left old.old) (λ old_bytes.
-        HalfJudged bytes old_bytes (K.given out.old) (K.given out.new))) }
-    ensures audit_else { command_in (map string_bytes words.now) ≡ Some commands.Audit →
+        HalfJudged rules bytes old_bytes (K.given out.old) (K.given out.new))) }
+    ensures judge_else { Judges (command_in (map string_bytes words.now)) →
         IsAuditEnd result.status × (trace.new ≡ trace.old) × (result.store ≡ None) }
 
     // The answer to a question to the old trace.
@@ -276,7 +279,7 @@ pub fn sgxpage<
             rt, alloc, number, size, out, store, gate,
         ),
         Some(Command::Least) => unrun(least_command(alloc, job, old, out)),
-        Some(Command::Audit) => unrun(audit_command(alloc, job, old, out)),
+        Some(Command::Judge { rules }) => unrun(audit_command(alloc, rules, job, old, out)),
         Some(Command::Ask { question }) => unrun(ask_command(alloc, question, job, old, out)),
         Some(Command::Picture) => unrun(picture_command(alloc, old, out)),
         Some(Command::Migrate) => unrun(migrate_command(alloc, old, out)),

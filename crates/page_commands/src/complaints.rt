@@ -8,7 +8,7 @@ use std::io::{self, Eprint};
 pub fn complain(to: &impl Eprint, status: Status, failed: Option<&str>) -> io::Result<()> {
     match (status, failed) {
         (Status::BadWords, _) => eprintln!(to;
-            "usage: sgxpage run PATH | audit PATH | make NUMBER SIZE | demo NUMBER SIZE | least PATH | \
+            "usage: sgxpage run PATH | audit PATH | check PATH | make NUMBER SIZE | demo NUMBER SIZE | least PATH | \
             query PATH PLACE L PAGE | moves PATH L PAGE | picture PATH | migrate PATH | gate ROUNDS"
         ),
         (Status::ReadFault, Some(path)) => eprintln!(to; "sgxpage: cannot read the trace: {path}"),

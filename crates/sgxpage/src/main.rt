@@ -90,7 +90,7 @@ fn trace_path(words: &[String]) -> &str {
         (
             Some(
                 Command::Run
-                | Command::Audit
+                | Command::Judge { .. }
                 | Command::Least
                 | Command::Ask { .. }
                 | Command::Migrate

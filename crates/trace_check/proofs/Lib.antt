@@ -1,3 +1,4 @@
 pub mod AskLaws
+pub mod FollowLaws
 pub mod LoadLaws
 pub mod PlaceLaws

@@ -28,7 +28,9 @@ use Rattle.audit_machine.proofs.KeptLaws.{own_rules, refusal_any}
 use Rattle.audit_records.specs.inner.Kept.{Records, no_records}
 use Rattle.audit_records.proofs.StayLaws.{none_out}
 use Rattle.trace_check.specs.inner.Asks.{CanCheck, Checked, IsAnswered, IsTaken}
+use Rattle.trace_check.specs.inner.Named.{is_named}
 use Rattle.trace_check.specs.inner.Tests.{IsActor}
+use Rattle.trace_check.proofs.FollowLaws.{never_first}
 
 -- ---- the processor's rules along a trace
 
@@ -143,7 +145,13 @@ module _ (j : JobView) (cpus : ℕ) (m : Parts) (kept : Records) (entries : List
         subst (IsAnswered j cpus (before_place entries i) m (get_or entries i d) t after) none answered in
         subst (λ past. Checked j cpus past t after) (sym (newest-more entries i d within)) taken.checked
 
-    -- it breaks one
+    -- it breaks one, which is neither Fits nor Stale
+    pub named_at : (rule : Rule) → broken ≡ Some rule → is_named rule ≡ true
+    named_at rule some =
+        never_first j cpus (state_of m) (before_place entries i) checked.stands (get_or entries i d) rule
+        (subst (IsAnswered j cpus (before_place entries i) m (get_or entries i d) t after) some answered)
+
+    -- .. and one fails first
     pub fault_at : (rule : Rule) → broken ≡ Some rule → FailsFirstAmong is_machines j (reverse entries) i rule
     fault_at rule some = record {
       past = before_place entries i;

@@ -4,6 +4,7 @@ ghost use Rattle.std.specs.Prelude.{[], ◌≡◌, ◌<◌, ◌^◌, IfOk, lengt
 ghost use Rattle.audit_records.specs.inner.Kept.{records_of};
 ghost use Rattle.trace_check.specs.Checked.{Checks};
 ghost use Rattle.trace_check.specs.inner.Asks.{CanCheck, Checked, IsAnswered};
+ghost use Rattle.trace_check.specs.inner.Named.{NamesOne};
 
 use crate::asking::ask;
 use crate::verdict::Verdict;
@@ -16,13 +17,14 @@ use sgx_types::names::Memory;
 use std::alloc::Global;
 
 /// Judges a trace, oldest entry first, whoever made it, by the processor's rules alone: `Yes` exactly where it keeps each of them at every
-/// place, else the first place at which one fails, and the first that fails there. Fits and Stale are never named: an entry that breaks one
-/// of them breaks another that is named before.
+/// place, else the first place at which one fails, and the first that fails there. Fits and Stale are never named: where one of them
+/// fails first, Refusal fails too.
 ///
 /// Of the job only the EPC's size, the key and the first epoch and version count. Processors are 0 to 15, whatever the job has. Linear in
 /// the entries, with the SHA-256 of each page that goes out, and of each enclave's measurement.
 pub fn check(alloc: Global, job: &Job, entries: &[Entry]) -> Result<Verdict, Memory>
-    ensures { IfOk result (Checks job.now (reverse entries.now)) }
+    ensures verdict { IfOk result (Checks job.now (reverse entries.now)) }
+    ensures named { IfOk result NamesOne }
 {
     let mut records = OldRecords::new(alloc);
     // The machine comes last, so that no other refusal has to give it back.
@@ -47,7 +49,8 @@ fn check_with(
 ) -> Result<Verdict, Memory>
     requires cpus { length machine.old.cpus ≡ 16 }
     requires checked { Checked job.now 16 [] machine.old (records_of records.old) }
-    ensures { IfOk result (Checks job.now (reverse entries.now)) }
+    ensures verdict { IfOk result (Checks job.now (reverse entries.now)) }
+    ensures named { IfOk result NamesOne }
 {
     let count = count(entries);
     for place in 0..count {

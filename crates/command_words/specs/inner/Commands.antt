@@ -7,7 +7,7 @@ use Rattle.command_words.specs.declared.command.Command.TheVariants as commands
 abbrev pub IsSized : Command → Type 0
 IsSized commands.Run = Unit {0}
 IsSized commands.Least = Unit {0}
-IsSized commands.Audit = Unit {0}
+IsSized (commands.Judge rules) = Unit {0}
 IsSized commands.Migrate = Unit {0}
 IsSized commands.Picture = Unit {0}
 IsSized (commands.Ask question) = Unit {0}

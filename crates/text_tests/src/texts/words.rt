@@ -1,12 +1,13 @@
 //! Words of the command line, and the commands that they name.
 
 use command_words::command::{Command, command_of};
+use command_words::rules::Rules;
 use sgx_types::names::Memory;
 use std::alloc::Global;
 use std::test::Fail;
 
 // The words, with a space between two, and the command.
-const ROWS: [(&str, Option<Command>); 35] = [
+const ROWS: [(&str, Option<Command>); 37] = [
     ("run t", Some(Command::Run)),
     ("run ", None),
     ("Run t", None),
@@ -47,7 +48,14 @@ const ROWS: [(&str, Option<Command>); 35] = [
     ("least", None),
     ("least t t", None),
     ("leas t", None),
-    ("audit t", Some(Command::Audit)),
+    ("audit t", Some(Command::Judge { rules: Rules::All })),
+    (
+        "check t",
+        Some(Command::Judge {
+            rules: Rules::Processors,
+        }),
+    ),
+    ("check ", None),
     ("audit ", None),
     ("audit", None),
     ("audit t x", None),

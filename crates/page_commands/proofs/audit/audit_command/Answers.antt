@@ -11,8 +11,8 @@ returns-in-Err-clause-broke g c = λ failed. ⊎_elim (λ line. inl line) (λ li
 
 pub returns-in-Ok-Yes-clause-wrong : goal.returns-in-Ok-Yes-clause-wrong
 returns-in-Ok-Yes-clause-wrong g c = λ wrong done.
-    read_right (g.J.Source.left c.args.job.now) (g.O.Source.left c.args.old.now) wrong (search rules)
+    read_right c.args.rules (g.J.Source.left c.args.job.now) (g.O.Source.left c.args.old.now) wrong (search rules)
 
 pub returns-in-Ok-No-clause-right : goal.returns-in-Ok-No-clause-right
 returns-in-Ok-No-clause-right g c = λ right done.
-    read_wrong (g.J.Source.left c.args.job.now) (g.O.Source.left c.args.old.now) right (search rules)
+    read_wrong c.args.rules (g.J.Source.left c.args.job.now) (g.O.Source.left c.args.old.now) right (search rules)

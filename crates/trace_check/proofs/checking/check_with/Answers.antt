@@ -1,5 +1,5 @@
 use Rattle.std.proofs.Common.{◌≡◌, ◌≤◌, ◌∙◌, ℕ, arith}
-use Rattle.trace_check.proofs.PlaceLaws.{can_check, fault_at, kept_throughout, taken_at}
+use Rattle.trace_check.proofs.PlaceLaws.{can_check, fault_at, kept_throughout, named_at, taken_at}
 use Rattle.trace_check.proofs.checking.check_with.Goals as goal
 
 over : {n count i : ℕ} → count ≡ n → count ≤ i → n ≤ i
@@ -12,8 +12,8 @@ pub ask_any-requires-clause-can : goal.ask_any-requires-clause-can
 ask_any-requires-clause-can c =
     can_check c.args.job.now 16 c.loop-place.machine _ c.args.entries.now c.loop-place.place c.loop-place.invariant.1
 
-pub returns-in-Some : goal.returns-in-Some
-returns-in-Some c =
+pub returns-in-Some-clause-verdict : goal.returns-in-Some-clause-verdict
+returns-in-Some-clause-verdict c =
     fault_at c.args.job.now 16 c.loop-place.machine _ c.args.entries.now c.loop-place.place c.loop-place.invariant.1 _
     (omega (arith, c.count-count.ensures.value, c.loop-place-test.true)) _ _ _ c.in_ok-rule.ensures.answer c.in-Some.rule c.in-Some.is
 
@@ -24,7 +24,12 @@ loop-place-preserved c = (
       (omega (arith, c.count-count.ensures.value, c.loop-place-test.true)) _ _ _ c.in_ok-rule.ensures.answer c.in_default.is,
 )
 
-pub returns : goal.returns
-returns c =
+pub returns-clause-verdict : goal.returns-clause-verdict
+returns-clause-verdict c =
     kept_throughout c.args.job.now 16 c.loop-place.machine _ c.args.entries.now c.loop-place.place c.loop-place.invariant.1
     (over c.count-count.ensures.value c.loop-place-test.false)
+
+pub returns-in-Some-clause-named : goal.returns-in-Some-clause-named
+returns-in-Some-clause-named c =
+    named_at c.args.job.now 16 c.loop-place.machine _ c.args.entries.now c.loop-place.place c.loop-place.invariant.1 _
+    (omega (arith, c.count-count.ensures.value, c.loop-place-test.true)) _ _ _ c.in_ok-rule.ensures.answer c.in-Some.rule c.in-Some.is
