@@ -1,15 +1,14 @@
 -- The text of a picture: strict JSON in the Trace Event Format, one event a line.
-use Rattle.std.specs.Prelude.{ℕ, ◌+◌, List, [], ◌∷◌, ◌++◌, Option, Some, None, codes, flat_map, length, reverse, slice_get, take}
+use Rattle.std.specs.Prelude.{ℕ, ◌+◌, List, [], ◌∷◌, ◌++◌, Option, Some, None, codes, flat_map, length, reverse, slice_get}
 use Rattle.std.specs.Fmt.{decimal}
 use Rattle.std.specs.List.{join_with_byte}
-use Rattle.sgx_rules.specs.declared.entries.Action.{Action}
 use Rattle.sgx_rules.specs.declared.entries.Entry.{Entry}
 use Rattle.sgx_rules.specs.declared.entries.Event.{Event}
 use Rattle.sgx_rules.specs.declared.entries.Event.TheVariants as events
 use Rattle.text_words.specs.Words.{Words, enclave_word}
 use Rattle.trace_text.specs.declared.edition.Edition.TheVariants as editions
-use Rattle.trace_text.specs.Fields.{action_fields, page_words, words_of}
-use Rattle.trace_text.specs.TraceText.{spelling}
+use Rattle.trace_text.specs.Fields.{page_words}
+use Rattle.trace_text.specs.TraceText.{action_name, spelling}
 use Rattle.picture_text.specs.declared.events.Counter.{Counter}
 use Rattle.picture_text.specs.declared.events.Counter.TheVariants as counters
 use Rattle.picture_text.specs.declared.events.Lane.{Lane}
@@ -33,10 +32,6 @@ span_words spans.Sealing = codes "sealing" ∷ []
 span_words (spans.At f) = codes "frame" ∷ decimal f.0 ∷ []
 span_words (spans.Loading f) = codes "loading" ∷ decimal f.0 ∷ []
 span_words (spans.Sealed version) = codes "sealed" ∷ decimal version ∷ []
-
--- an instruction's name, without its operands
-abbrev pub action_name : Action → Words
-action_name action = take 1 (words_of editions.Two (action_fields action))
 
 -- the instruction that was done or refused, or what else happened and to whom. The entry's line, which stands beside it, has the rest
 abbrev pub event_words : Event → Words

@@ -13,12 +13,13 @@ ghost use Rattle.picture_text.specs.inner.Parts.{parts_room, parts_text};
 
 use crate::events::{Lane, Mark, PictureEvent, Span};
 use crate::lanes::{Lanes, process};
-use crate::names::{action_name, counter_name};
+use crate::names::counter_name;
 use sgx_rules::entries::{Entry, Event};
 use sgx_types::names::Page;
 use text_words::words::Word::{self, Decimal, Enclave, Name};
 use text_words::words::{write_word, write_words};
 use trace_text::edition::Edition;
+use trace_text::names::action_name;
 use trace_text::room::SPELLING_ROOM;
 use trace_text::trace::print_spelling;
 

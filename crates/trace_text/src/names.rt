@@ -2,10 +2,10 @@
 
 ghost use Rattle.std.specs.Prelude.{◌≡◌, ◌≤◌, [], ◌∷◌, length};
 ghost use Rattle.trace_text.specs.Names.{access_word, cause_word, fault_word, kind_word, look_word, perms_word, stop_word};
-ghost use Rattle.trace_text.specs.TraceText.{refusal_name};
+ghost use Rattle.trace_text.specs.TraceText.{action_name, refusal_name};
 
 use crate::room::LONGEST_NAME;
-use sgx_rules::entries::{AccessOp, BusWhy, Cause, Look, PfWhy};
+use sgx_rules::entries::{AccessOp, Action, BusWhy, Cause, Look, PfWhy};
 use sgx_rules::refusals::Refusal;
 use sgx_types::names::{Kind, Perm};
 
@@ -94,6 +94,39 @@ pub(crate) fn stop_name(stop: BusWhy) -> &'static str
         BusWhy::Mac => "mac",
         BusWhy::Header => "header",
         BusWhy::Slot => "slot",
+    }
+}
+
+/// The name of an instruction, without its operands.
+pub fn action_name(action: &Action) -> &'static str
+    ensures name { action_name action.now ≡ result.now ∷ [] }
+    ensures short { length result.now ≤ LONGEST_NAME }
+{
+    match action {
+        Action::Epa { .. } => "epa",
+        Action::Create { .. } => "create",
+        Action::Add { .. } => "add",
+        Action::Extend { .. } => "extend",
+        Action::Init { .. } => "init",
+        Action::Enter { .. } => "enter",
+        Action::Resume { .. } => "resume",
+        Action::Exit => "exit",
+        Action::Aex { .. } => "aex",
+        Action::Fill { .. } => "fill",
+        Action::Load { .. } => "load",
+        Action::Store { .. } => "store",
+        Action::Xadd { .. } => "xadd",
+        Action::Set { .. } => "set",
+        Action::Plus { .. } => "plus",
+        Action::Pf { .. } => "pf",
+        Action::OutLoad { .. } => "outload",
+        Action::OutStore { .. } => "outstore",
+        Action::Block { .. } => "block",
+        Action::Track { .. } => "track",
+        Action::EwbStart { .. } => "ewbstart",
+        Action::Ewb { .. } => "ewb",
+        Action::EldStart { .. } => "eldstart",
+        Action::Eld { .. } => "eld",
     }
 }
 
