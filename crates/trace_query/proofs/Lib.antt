@@ -6,6 +6,7 @@ pub mod SpanWrites
 pub mod SpanLaws
 pub mod SpanPlaces
 pub mod SeenLaws
+pub mod InsideLaws
 pub mod WordKeys
 pub mod WordLaws
 pub mod FirstWords

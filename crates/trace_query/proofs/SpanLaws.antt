@@ -20,6 +20,7 @@ use Rattle.trace_query.specs.declared.processors.Filled.{Filled}
 use Rattle.trace_query.specs.declared.steps.Step.{Step}
 use Rattle.trace_query.specs.declared.steps.Step.TheVariants.{Turns, Fills}
 use Rattle.trace_query.specs.Spans.{is_inside, caches}
+use Rattle.trace_query.specs.inner.Insides.{is_in, sees}
 use Rattle.trace_query.specs.inner.SpanLists.{same_key, key_of, lasts, end_by, ended, begun, all_ended, ended_of}
 use Rattle.trace_query.specs.inner.Sights.{Sight, sight_by, sight, step_of, step_by, is_among, newest, dropped, first_of, filled_in}
 use Rattle.trace_query.specs.inner.Sights.{sight_filled, sight_after}
@@ -65,20 +66,12 @@ settled_same false place s h = ended_closed place s h
 
 -- ---- what is seen
 
-pub is_in : Option ℕ → ℕ → Bool
-is_in None enclave = false
-is_in (Some here) enclave = here == enclave
-
-pub sees : Sight → ℕ → ℕ → Bool
-sees s enclave n = is_in s.enclave enclave && is_among s.numbers n
-
 among_map : (t : List BareTranslation) (n : ℕ) → holds_number t n ≡ is_among (map (λ x. x.number) t) n
 among_map [] n = refl
 among_map (x ∷ t) n = ap (λ b. (x.number == n) || b) (among_map t n)
 
 seen_by : (o : Option Stay) (t : List BareTranslation) (enclave n : ℕ)
     → (is_inside o enclave && holds_number t n) ≡ sees (sight_by o t) enclave n
-unfolding sees is_in
 seen_by None t enclave n = refl
 seen_by (Some here) t enclave n = ap (λ b. (here.seat.enclave == enclave) && b) (among_map t n)
 
@@ -276,7 +269,6 @@ all_here place p enclave (n ∷ ns) q l own h =
 turned_here : (o to : Option ℕ) (place p : ℕ) (ns : List ℕ) (q : SpanKey) (l : List Span) → (p == q.cpu) ≡ true
     → lasts l ≡ sees (record { enclave = o; numbers = ns }) q.enclave q.number
     → ended_of o place p ns q l ≡ settled (sees (record { enclave = to; numbers = [] }) q.enclave q.number) place l
-unfolding sees is_in
 turned_here None to place p ns q l own h = rw (and_false (is_in to q.enclave)) (sym (ended_closed place l h))
 turned_here (Some enclave) to place p ns q l own h =
     rw (and_false (is_in to q.enclave)) (all_here place p enclave ns q l own (λ last. sym h ∙ last))
@@ -378,7 +370,6 @@ filled_by_test : (b : Bool) (place p enclave n : ℕ) (ns : List ℕ) (q : SpanK
     → is_among ns n ≡ b → IsOnce ns → lasts l ≡ ((enclave == q.enclave) && is_among ns q.number)
     → spans_filled (filled_in (Some enclave) ns n) place p n q l
     ≡ settled (sees (sight_filled n (record { enclave = Some enclave; numbers = ns })) q.enclave q.number) place l
-unfolding sees is_in
 filled_by_test true place p enclave n ns q l own e once h =
     rw e (sym (settled_same ((enclave == q.enclave) && is_among ns q.number) place l h))
 filled_by_test false place p enclave n ns q l own e once h =
@@ -388,7 +379,6 @@ filled_here : (o : Option ℕ) (place p n : ℕ) (ns : List ℕ) (q : SpanKey) (
     → IsOnce ns → lasts l ≡ sees (record { enclave = o; numbers = ns }) q.enclave q.number
     → spans_filled (filled_in o ns n) place p n q l
     ≡ settled (sees (sight_filled n (record { enclave = o; numbers = ns })) q.enclave q.number) place l
-unfolding sees is_in
 filled_here None place p n ns q l own once h = sym (ended_closed place l h)
 filled_here (Some enclave) place p n ns q l own once h = filled_by_test (is_among ns n) place p enclave n ns q l own refl once h
 

@@ -3,6 +3,7 @@
 ghost use Rattle.std.specs.Prelude.{◌≡◌, ◌+◌, ◌≤◌, ◌++◌, ◌∷◌, [], ℕ, if◌then◌else◌, OnOk, IfSome, IsSome, Some, ◌==◌};
 ghost use Rattle.std.specs.Prelude.{vec_len, vec_capacity};
 ghost use Rattle.trace_query.specs.declared.span_lists.SpanKey.{SpanKey};
+ghost use Rattle.trace_query.specs.inner.Insides.{is_in, sees, entered_below, cached_below};
 ghost use Rattle.trace_query.specs.inner.SpanLists.{spans_in, ended_of, Covers};
 ghost use Rattle.trace_query.specs.inner.Sights.{
   outside,
@@ -18,7 +19,7 @@ ghost use Rattle.trace_query.specs.inner.Sights.{
 };
 
 use crate::span_lists::SpanLists;
-use sgx_types::names::Memory;
+use sgx_types::names::{Memory, Page};
 use std::alloc::Global;
 use std::collections::HashMap;
 
@@ -112,6 +113,49 @@ impl Processors {
             Some(processor) => processor.enclave,
             None => None,
         }
+    }
+
+    // Whether a processor is inside an enclave.
+    fn is_in(&self, cpu: u8, enclave: u16) -> bool
+        ensures { result ≡ is_in (sight_in self.now cpu).enclave enclave }
+    {
+        self.enclave(cpu) == Some(enclave)
+    }
+
+    // Whether a processor caches a page.
+    fn sees(&self, cpu: u8, page: Page) -> bool
+        ensures { result ≡ sees (sight_in self.now cpu) page.enclave page.number }
+    {
+        match self.processors.get(&cpu) {
+            Some(processor) => {
+                processor.enclave == Some(page.enclave) && is_among(&processor.numbers, page.number)
+            }
+            None => false,
+        }
+    }
+
+    /// Whether one of the processors below a number is inside an enclave.
+    pub(crate) fn is_entered(&self, cpus: u16, enclave: u16) -> bool
+        requires { cpus ≤ 256 }
+        ensures { result ≡ entered_below cpus self.now enclave }
+    {
+        let mut found = false;
+        for cpu in 0..cpus {
+            found = found || self.is_in(cpu as u8, enclave);
+        }
+        found
+    }
+
+    /// Whether one of the processors below a number caches a page.
+    pub(crate) fn is_cached(&self, cpus: u16, page: Page) -> bool
+        requires { cpus ≤ 256 }
+        ensures { result ≡ cached_below cpus self.now page }
+    {
+        let mut found = false;
+        for cpu in 0..cpus {
+            found = found || self.sees(cpu as u8, page);
+        }
+        found
     }
 
     /// Makes a place for a processor.
