@@ -11,6 +11,7 @@ use trace_auditor::audit::audit;
 use trace_check::checking::check;
 use trace_check::verdict::Verdict;
 use trace_reader::reader::read_trace;
+use trace_tally::tally::push_tally;
 
 /// What is said of a right trace and of its wrong ones.
 #[derive(Drop)]
@@ -122,13 +123,22 @@ impl Report {
     }
 }
 
-/// What the checker says of a trace of another driver, and what is told of it. None where one of the texts cannot be read.
+/// What is found of a trace of another driver, and what is told of it.
+#[derive(Clone, Copy)]
+pub struct Finding {
+    pub found: Verdict,
+    pub told: Verdict,
+    /// The tally is the one that is told.
+    pub is_tallied: bool,
+}
+
+/// Checks a trace of another driver. Told is the verdict on its first line, and then the tally. None where one of the texts cannot be read.
 pub fn checked(
     alloc: Global,
     job: &[u8],
     trace: &[u8],
     told: &[u8],
-) -> Result<Option<(Verdict, Verdict)>, Memory> {
+) -> Result<Option<Finding>, Memory> {
     let Ok(job) = read_job(alloc, job) else {
         return Ok(None);
     };
@@ -136,11 +146,20 @@ pub fn checked(
     let Ok(entries) = read_trace(alloc, trace) else {
         return Ok(None);
     };
-    let Some(told) = str::from_utf8(told)
+    let Some((line, lines)) = str::from_utf8(told)
         .ok()
-        .and_then(|line| verdict_in(line.trim_end()))
+        .and_then(|told| told.split_once('\n'))
     else {
         return Ok(None);
     };
-    Ok(Some((check(alloc, &job, &entries)?, told)))
+    let Some(told) = verdict_in(line) else {
+        return Ok(None);
+    };
+    let mut tally = Vec::new(alloc);
+    push_tally(alloc, &entries, &mut tally)?;
+    Ok(Some(Finding {
+        found: check(alloc, &job, &entries)?,
+        told,
+        is_tallied: tally.as_slice() == lines.as_bytes(),
+    }))
 }

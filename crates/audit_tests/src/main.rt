@@ -7,7 +7,7 @@ mod comparing;
 mod verdicts;
 mod wrong;
 
-use comparing::{Report, checked, compare};
+use comparing::{Finding, Report, checked, compare};
 use std::{env, fs, io};
 use verdicts::Shown;
 
@@ -38,14 +38,21 @@ fn tell(rt: &HostRuntime, name: &str) -> io::Result<()> {
 fn tell_checked(rt: &HostRuntime, name: &str) -> io::Result<()> {
     let job = read(rt, name, ".job")?;
     let trace = read(rt, name, ".trace")?;
-    let told = read(rt, name, ".verdict")?;
+    let told = read(rt, name, ".told")?;
     match checked(rt.alloc(), &job, &trace, &told) {
-        Ok(Some((found, told))) if found == told => println!(rt;
-            "{name}: {}, as told",
-            Shown(found)
-        ),
-        Ok(Some((found, told))) => println!(rt; "{name}: {} and not {}", Shown(found), Shown(told)),
-        Ok(None) => println!(rt; "{name}: no job, no trace, or no verdict"),
+        Ok(Some(Finding { found, told, .. })) if found != told => {
+            println!(rt; "{name}: {} and not {}", Shown(found), Shown(told))
+        }
+        Ok(
+            Some(
+                Finding {
+                    is_tallied: false,
+                    ..
+                },
+            ),
+        ) => println!(rt; "{name}: another tally"),
+        Ok(Some(Finding { found, .. })) => println!(rt; "{name}: {}, as told", Shown(found)),
+        Ok(None) => println!(rt; "{name}: no job, no trace, or nothing told"),
         Err(_) => println!(rt; "{name}: no memory"),
     }
 }

@@ -168,14 +168,42 @@ const BLOCKED: &[u8] =
     b add A 2 1 reg rw words 7\nb init A - 006d518bbd8825da4a0e7d35d418aaf16b7749c62854a6f40d8d58db415a8c31\n\
     p3 enter A 0 4 3 0\np3 fill 2 1\np3 load 0x2000 7\nr block 1\n";
 
-const TRACKED: &[u8] = b"r track A\nr refused ewbstart 1 5 100 NotTracked 2 1\n";
+const TRACKED: &[u8] = b"r track A\n";
 
-// The tag is that of the page's bytes under version 1, by a program in Python.
+const ASKED: &[u8] = b"r refused ewbstart 1 5 100 NotTracked 2 1\n";
+
+// The tags are those of the pages' bytes under versions 1 and 2, by a program in Python.
+const STARTED: &[u8] = b"p3 exit\nr ewbstart 1 5 100 1\n";
+
 const WRITTEN: &[u8] =
-    b"p3 exit\nr ewbstart 1 5 100 1\nr ewb 1 A 2 1 b40eef08eb5a9b63894de250d90fd8369e8a79857a9d785288566a63671d4a6f\n\
-    b eldstart 2 A 2 5 100 1\nb eld 2 A 2 1 b40eef08eb5a9b63894de250d90fd8369e8a79857a9d785288566a63671d4a6f\n";
+    b"r ewb 1 A 2 1 b40eef08eb5a9b63894de250d90fd8369e8a79857a9d785288566a63671d4a6f\n";
 
-// Traces by the processor's rules alone.
+const WRITTEN_BY_BUILDER: &[u8] =
+    b"b ewb 1 A 2 1 b40eef08eb5a9b63894de250d90fd8369e8a79857a9d785288566a63671d4a6f\n";
+
+const RELOADED: &[u8] =
+    b"b eldstart 2 A 2 5 100 1\nb eld 2 A 2 1 b40eef08eb5a9b63894de250d90fd8369e8a79857a9d785288566a63671d4a6f\n";
+
+// A load of a page that is here, from the slot of another one.
+const HERE_STARTED: &[u8] = b"b eldstart 2 A 1 5 100 1\n";
+
+const HERE_REFUSED: &[u8] =
+    b"b refused eld 2 MacFail b40eef08eb5a9b63894de250d90fd8369e8a79857a9d785288566a63671d4a6f \
+    b6771e6b5fb6b2e1b2e9727e6cce063fe54f9a852ddacc0da4984f760de30999\n";
+
+const HERE_DONE: &[u8] =
+    b"b eld 2 A 1 1 b40eef08eb5a9b63894de250d90fd8369e8a79857a9d785288566a63671d4a6f\n";
+
+// Two pages go out, and one comes back by two loads at once, the second of which is from the slot of the other.
+const TWICE: &[u8] = b"p3 exit\nr block 3\nr track A\n\
+    r ewbstart 1 5 100 1\nr ewb 1 A 2 1 b40eef08eb5a9b63894de250d90fd8369e8a79857a9d785288566a63671d4a6f\n\
+    r ewbstart 3 5 101 2\nr ewb 3 A 1 2 b6771e6b5fb6b2e1b2e9727e6cce063fe54f9a852ddacc0da4984f760de30999\n\
+    b eldstart 2 A 2 5 100 1\nb eldstart 1 A 2 5 101 2\n\
+    b eld 2 A 2 1 b40eef08eb5a9b63894de250d90fd8369e8a79857a9d785288566a63671d4a6f\n\
+    b refused eld 1 MacFail b40eef08eb5a9b63894de250d90fd8369e8a79857a9d785288566a63671d4a6f \
+    b6771e6b5fb6b2e1b2e9727e6cce063fe54f9a852ddacc0da4984f760de30999\nend 21\n";
+
+// Traces by the processor's rules alone. The lines behind the verdict are those of bench/tally.py, which reads the text alone.
 const CHECKED: &[Row] = &[
     Row {
         job: THREE_LINES,
@@ -183,7 +211,7 @@ const CHECKED: &[Row] = &[
         piece: 7,
         fails: NO_FAULT,
         status: Status::Done,
-        told: b"yes\n",
+        told: b"yes\nentries 10\nwritten 0\nentered 0\ncached 0\nreloaded 0\nagain 0\ndriver yes\n",
         unread: false,
     },
     // What is missing at the end is a driver's.
@@ -193,7 +221,7 @@ const CHECKED: &[Row] = &[
         piece: 100,
         fails: NO_FAULT,
         status: Status::Done,
-        told: b"yes\n",
+        told: b"yes\nentries 9\nwritten 0\nentered 0\ncached 0\nreloaded 0\nagain 0\ndriver yes\n",
         unread: false,
     },
     Row {
@@ -202,7 +230,8 @@ const CHECKED: &[Row] = &[
         piece: 100,
         fails: NO_FAULT,
         status: Status::AuditNo,
-        told: b"no 36 Fresh\n",
+        told: b"no 36 Fresh\nentries 76\nwritten 7\nentered 2\ncached 0\nreloaded 3\nagain 0\n\
+            refused ewbstart NotTracked 8 9\ndriver yes\n",
         unread: false,
     },
     // A processor that the job has not, and what is refused to a driver as it should be.
@@ -215,26 +244,116 @@ const CHECKED: &[Row] = &[
         piece: 100,
         fails: NO_FAULT,
         status: Status::Done,
-        told: b"yes\n",
+        told: b"yes\nentries 11\nwritten 0\nentered 0\ncached 0\nreloaded 0\nagain 0\nrefused load WrongMode 1 6\n\
+            driver yes\n",
         unread: false,
     },
     // The example of the page on traces, and without its track.
     Row {
         job: THREE_LINES,
-        old: &[BLOCKED, TRACKED, WRITTEN, b"end 17\n"],
+        old: &[
+            BLOCKED,
+            TRACKED,
+            ASKED,
+            STARTED,
+            WRITTEN,
+            RELOADED,
+            b"end 17\n",
+        ],
         piece: 100,
         fails: NO_FAULT,
         status: Status::Done,
-        told: b"yes\n",
+        told: b"yes\nentries 17\nwritten 1\nentered 1\ncached 1\nreloaded 1\nagain 0\n\
+            refused ewbstart NotTracked 1 11\ndriver yes\n",
         unread: false,
     },
     Row {
         job: THREE_LINES,
-        old: &[BLOCKED, WRITTEN, b"end 15\n"],
+        old: &[BLOCKED, STARTED, WRITTEN, RELOADED, b"end 15\n"],
         piece: 100,
         fails: NO_FAULT,
         status: Status::AuditNo,
-        told: b"no 11 Refusal\n",
+        told: b"no 11 Refusal\nentries 15\nwritten 1\nentered 1\ncached 1\nreloaded 1\nagain 0\ndriver yes\n",
+        unread: false,
+    },
+    // A driver that asks a third time, and is refused so.
+    Row {
+        job: THREE_LINES,
+        old: &[BLOCKED, TRACKED, ASKED, ASKED, ASKED, b"end 14\n"],
+        piece: 100,
+        fails: NO_FAULT,
+        status: Status::Done,
+        told: b"yes\nentries 14\nwritten 0\nentered 0\ncached 1\nreloaded 0\nagain 0\n\
+            refused ewbstart NotTracked 3 11\ndriver no 13\n",
+        unread: false,
+    },
+    // The builder ends the write-out that the reclaimer started.
+    Row {
+        job: THREE_LINES,
+        old: &[
+            BLOCKED,
+            TRACKED,
+            ASKED,
+            STARTED,
+            WRITTEN_BY_BUILDER,
+            RELOADED,
+            b"end 17\n",
+        ],
+        piece: 100,
+        fails: NO_FAULT,
+        status: Status::Done,
+        told: b"yes\nentries 17\nwritten 1\nentered 1\ncached 1\nreloaded 1\nagain 0\n\
+            refused ewbstart NotTracked 1 11\ndriver yes\n",
+        unread: false,
+    },
+    // A load of a page that is here ends in vain, and may not end otherwise.
+    Row {
+        job: THREE_LINES,
+        old: &[
+            BLOCKED,
+            TRACKED,
+            ASKED,
+            STARTED,
+            WRITTEN,
+            HERE_STARTED,
+            HERE_REFUSED,
+            b"end 17\n",
+        ],
+        piece: 100,
+        fails: NO_FAULT,
+        status: Status::Done,
+        told: b"yes\nentries 17\nwritten 1\nentered 1\ncached 1\nreloaded 0\nagain 0\n\
+            refused ewbstart NotTracked 1 11\nrefused eld MacFail 1 16\ndriver no 16\n",
+        unread: false,
+    },
+    Row {
+        job: THREE_LINES,
+        old: &[
+            BLOCKED,
+            TRACKED,
+            ASKED,
+            STARTED,
+            WRITTEN,
+            HERE_STARTED,
+            HERE_DONE,
+            b"end 17\n",
+        ],
+        piece: 100,
+        fails: NO_FAULT,
+        status: Status::AuditNo,
+        told: b"no 16 Fresh\nentries 17\nwritten 1\nentered 1\ncached 1\nreloaded 1\nagain 0\n\
+            refused ewbstart NotTracked 1 11\ndriver yes\n",
+        unread: false,
+    },
+    // Two loads of one page at once.
+    Row {
+        job: THREE_LINES,
+        old: &[BLOCKED, TWICE],
+        piece: 100,
+        fails: NO_FAULT,
+        status: Status::Done,
+        told: b"yes\nentries 21\nwritten 2\nentered 1\ncached 1\nreloaded 1\nagain 0\nrefused eld MacFail 1 20\n\
+            driver no 20\n",
         unread: false,
     },
     // A driver loads nothing from outside.
@@ -244,7 +363,7 @@ const CHECKED: &[Row] = &[
         piece: 100,
         fails: NO_FAULT,
         status: Status::AuditNo,
-        told: b"no 6 Flat\n",
+        told: b"no 6 Flat\nentries 7\nwritten 0\nentered 0\ncached 0\nreloaded 0\nagain 0\ndriver yes\n",
         unread: false,
     },
 ];

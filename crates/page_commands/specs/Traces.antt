@@ -10,7 +10,7 @@ use Rattle.run_history.specs.declared.rules.Rule.{Rule}
 use Rattle.audit_command.specs.Verdict.{Verdict}
 use Rattle.audit_command.specs.Verdict.TheVariants as verdicts
 use Rattle.audit_command.specs.JudgedBy.{JudgesBy}
-use Rattle.audit_command.specs.VerdictText.{verdict_text}
+use Rattle.audit_command.specs.VerdictText.{judged_text}
 use Rattle.command_words.specs.declared.question.Question.{Question}
 use Rattle.command_words.specs.declared.rules.Rules.{Rules}
 use Rattle.least_command.specs.Fewest.{IsLeastText}
@@ -63,30 +63,28 @@ AnsweredBy question bytes old_bytes Given = TracedBy bytes old_bytes (λ j past.
 abbrev pub IsRight : Rules → List ℕ → List ℕ → Type 0
 IsRight rules bytes old_bytes = TracedBy bytes old_bytes (λ j whole. JudgesBy rules j whole verdicts.Yes)
 
--- .. or this one fails first, at this place
-abbrev pub IsWrongBy : Rules → ℕ → Rule → List ℕ → List ℕ → Type 0
-IsWrongBy rules place rule bytes old_bytes = TracedBy bytes old_bytes (λ j whole. JudgesBy rules j whole (verdicts.No place rule))
-
+-- .. or some rule fails first, at some place
 abbrev pub IsWrong : Rules → List ℕ → List ℕ → Type 0
-IsWrong rules bytes old_bytes = (place : ℕ) × (rule : Rule) × IsWrongBy rules place rule bytes old_bytes
+IsWrong rules bytes old_bytes = (place : ℕ) × (rule : Rule)
+    × TracedBy bytes old_bytes (λ j whole. JudgesBy rules j whole (verdicts.No place rule))
 
--- a sink got `yes`, of a trace that keeps them
-pub record YesTold (rules : Rules) (bytes old_bytes : List ℕ) (out out' : Option (List ℕ)) : Type 0 where
-  pub right : IsRight rules bytes old_bytes
-  pub told : out' ≡ followed_by out (verdict_text verdicts.Yes)
+-- the trace gets this verdict, and something was given of the text on it
+abbrev pub JudgedBy : Rules → Verdict → List ℕ → List ℕ → (List ℕ → Type 0) → Type 0
+JudgedBy rules verdict bytes old_bytes Given =
+    TracedBy bytes old_bytes (λ j whole. JudgesBy rules j whole verdict × Given (judged_text rules whole verdict))
 
--- .. or `no` with the place and the rule that fails first
-pub record NoTold (rules : Rules) (bytes old_bytes : List ℕ) (out out' : Option (List ℕ)) : Type 0 where
-  pub place : ℕ
-  pub rule : Rule
-  pub wrong : IsWrongBy rules place rule bytes old_bytes
-  pub told : out' ≡ followed_by out (verdict_text (verdicts.No place rule))
+-- a sink got the text on a trace that keeps the rules
+abbrev pub YesTold : Rules → List ℕ → List ℕ → Option (List ℕ) → Option (List ℕ) → Type 0
+YesTold rules bytes old_bytes out out' = JudgedBy rules verdicts.Yes bytes old_bytes (λ text. out' ≡ followed_by out text)
 
--- .. or a proper front of the text of the verdict
-pub record HalfJudged (rules : Rules) (bytes old_bytes : List ℕ) (out out' : Option (List ℕ)) : Type 0 where
-  pub verdict : Verdict
-  pub judged : TracedBy bytes old_bytes (λ j whole. JudgesBy rules j whole verdict)
-  pub told : GivesPart out out' (verdict_text verdict)
+-- .. or on one that does not
+abbrev pub NoTold : Rules → List ℕ → List ℕ → Option (List ℕ) → Option (List ℕ) → Type 0
+NoTold rules bytes old_bytes out out' = (place : ℕ) × (rule : Rule)
+    × JudgedBy rules (verdicts.No place rule) bytes old_bytes (λ text. out' ≡ followed_by out text)
+
+-- .. or a proper front of the text
+abbrev pub HalfJudged : Rules → List ℕ → List ℕ → Option (List ℕ) → Option (List ℕ) → Type 0
+HalfJudged rules bytes old_bytes out out' = (verdict : Verdict) × JudgedBy rules verdict bytes old_bytes (GivesPart out out')
 
 -- the bytes spell a trace, and something was given of the text of its picture
 pub record PicturedBy (old_bytes : List ℕ) (Given : List ℕ → Type 0) : Type 0 where

@@ -1,0 +1,4 @@
+pub mod Tests
+pub mod Tally
+pub mod TallyText
+pub mod inner
