@@ -7,11 +7,30 @@ use page_commands::status::Status;
 use std::alloc::{Alloc, Global};
 use std::cell::Cell;
 use std::fmt::Display;
-use std::io::{self, Eprint, ErrorKind};
+use std::io::{self, Eprint};
 use std::process::Abort;
 use std::sync::Wait;
 use std::test::Fail;
 use std::thread::Threads;
+
+const USAGE: &str = "\
+usage: sgxpage COMMAND
+
+  run PATH                 run a job; its trace goes to PATH
+  make NUMBER SIZE         print a job made of two numbers
+  demo NUMBER SIZE         run that job and sum it up
+  least PATH               compare a trace's reloads with the fewest
+  audit PATH               judge a trace of a job by all rules
+  check PATH               judge any driver's trace by the processor's rules
+  query PATH PLACE L PAGE  tell where a page was behind PLACE entries
+  moves PATH L PAGE        tell where a page went
+  picture PATH             print a trace as a picture for a browser
+  migrate PATH             print a trace of the first edition in the second
+  gate ROUNDS              try the gate that has no lock
+  help                     print this
+
+A job is read from standard input, and a trace from PATH. L is an enclave's letter and PAGE a page's number in it or secs, or L is va.
+";
 
 const SUMMARY: &str = "pages 209\noperations 808\nloads 1955\nxadds 217\n";
 
@@ -24,6 +43,8 @@ const MADE: &[(&[&str], &str)] = &[
         &["demo", "00000000000000000007", "4"],
         "pages 13\noperations 24\nloads 50\nxadds 2\n",
     ),
+    (&["help"], USAGE),
+    (&["--help"], USAGE),
     (&["gate", "1"], "enters 4\nstale 0\n"),
     (&["gate", "1000"], "enters 4000\nstale 0\n"),
 ];
@@ -77,6 +98,8 @@ const NO_COMMANDS: &[&[&str]] = &[
     &["gate", "100001"],
     &["gate"],
     &["gate", "1", "2"],
+    &["-h"],
+    &["help", "run"],
 ];
 
 // Calls the program with these words, which are to read nothing and to give no trace: each edge but the output would fail
@@ -111,7 +134,7 @@ fn other_words_are_no_command(rt: HostRuntime) -> Result<(), Fail> {
     Ok(())
 }
 
-// A terminal that keeps the last line printed on it.
+// A terminal that keeps what was printed on it last.
 #[derive(Drop)]
 struct Terminal {
     alloc: Global,
@@ -119,8 +142,9 @@ struct Terminal {
 }
 
 impl Eprint for Terminal {
-    fn eprint<D: Display + Drop>(&self, _value: D) -> io::Result<()> {
-        Err(ErrorKind::Unsupported.into())
+    fn eprint<D: Display + Drop>(&self, value: D) -> io::Result<()> {
+        self.line.set(Some(value.to_string(self.alloc)?));
+        Ok(())
     }
 
     fn eprintln<D: Display + Drop>(&self, value: D) -> io::Result<()> {
@@ -133,15 +157,7 @@ impl Eprint for Terminal {
 const ENDINGS: &[(Status, u8, Option<&str>, Option<&str>)] = &[
     (Status::Done, 0, None, None),
     (Status::BadJob, 1, None, None),
-    (
-        Status::BadWords,
-        2,
-        None,
-        Some(
-            "usage: sgxpage run PATH | audit PATH | make NUMBER SIZE | demo NUMBER SIZE | least PATH | \
-            query PATH PLACE L PAGE | moves PATH L PAGE | picture PATH | migrate PATH | gate ROUNDS",
-        ),
-    ),
+    (Status::BadWords, 2, None, Some(USAGE)),
     (
         Status::ReadFault,
         3,

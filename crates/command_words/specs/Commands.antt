@@ -1,5 +1,5 @@
 -- The command that the words of the command line name, which stand without the program's name.
-use Rattle.std.specs.Prelude.{ℕ, ◌&&◌, if◌then◌else◌, List, [], ◌∷◌, Option, Some, None, bytes_eq, codes}
+use Rattle.std.specs.Prelude.{ℕ, ◌&&◌, ◌||◌, Bool, if◌then◌else◌, List, [], ◌∷◌, Option, Some, None, bytes_eq, codes}
 use Rattle.std.specs.Prelude.{length, nat_le, nat_lt}
 use Rattle.text_words.specs.Reading.{◌>>=◌}
 use Rattle.command_words.specs.declared.command.Command.{Command}
@@ -56,7 +56,15 @@ with_size name first second = do
   size ← size_of second
   sized_by name number size
 
+abbrev pub is_help : List ℕ → Bool
+is_help name = bytes_eq name (codes "help") || bytes_eq name (codes "--help")
+
+-- `help` and `--help`
+abbrev pub alone : List ℕ → Option Command
+alone name = if is_help name then Some commands.Help else None
+
 abbrev pub command_in : List (List ℕ) → Option Command
+command_in (name ∷ []) = alone name
 command_in (name ∷ word ∷ []) = with_word name word
 command_in (name ∷ first ∷ second ∷ []) = with_size name first second
 command_in (name ∷ path ∷ letter ∷ page ∷ []) = asks_moves name path letter page

@@ -1,10 +1,10 @@
 //! The command that the words of the command line name.
 
-ghost use Rattle.command_words.specs.Commands.{command_in, path_by, rounds_of, size_of, sized_by, with_path};
+ghost use Rattle.command_words.specs.Commands.{command_in, is_help, path_by, rounds_of, size_of, sized_by, with_path};
 ghost use Rattle.command_words.specs.Numbers.{count_of, is_digit};
 ghost use Rattle.command_words.specs.Questions.{asks_behind, asks_moves, behind_of, moves_of, number_below, own_page, page_of};
 ghost use Rattle.command_words.specs.inner.Commands.{IsSized};
-ghost use Rattle.command_words.specs.Commands.{with_rounds, with_size, with_word};
+ghost use Rattle.command_words.specs.Commands.{alone, with_rounds, with_size, with_word};
 ghost use Rattle.std.specs.List.{list_all};
 ghost use Rattle.std.specs.Prelude.{◌≡◌, ◌≤◌, ◌^◌, IfSome, map, string_bytes};
 
@@ -44,6 +44,9 @@ pub enum Command {
 
     /// `gate ROUNDS`: from 1 to 100,000 rounds of four processors and a pager at a gate with no lock.
     Gate { rounds: u32 },
+
+    /// `help` or `--help`: what the commands are.
+    Help,
 }
 
 /// The command that these words name, which stand without the program's name. NUMBER, SIZE, ROUNDS and PLACE are one to twenty decimal
@@ -54,12 +57,30 @@ pub fn command_of(words: &[String]) -> Option<Command>
     ensures sized { IfSome result IsSized }
 {
     match words {
+        [name] => lone_command(name),
         [name, word] => word_command(name, word),
         [name, first, second] => sized_command(name, first, second),
         [name, path, letter, page] => moves_command(name, path, letter, page),
         [name, path, place, letter, page] => query_command(name, path, place, letter, page),
         _ => None,
     }
+}
+
+fn lone_command(name: &str) -> Option<Command>
+    ensures value { result ≡ alone name.now }
+    ensures sized { IfSome result IsSized }
+{
+    if is_help(name) {
+        Some(Command::Help)
+    } else {
+        None
+    }
+}
+
+fn is_help(name: &str) -> bool
+    ensures { result ≡ is_help name.now }
+{
+    name == "help" || name == "--help"
 }
 
 fn word_command(name: &str, word: &str) -> Option<Command>

@@ -27,6 +27,7 @@ use crate::asking::ask_command;
 use crate::audit::audit_command;
 use crate::ended::{Ended, unrun};
 use crate::gates::rounds_command;
+use crate::help::{HELP, help_command};
 use crate::least::least_command;
 use crate::making::{demo_command, make_command};
 use crate::migrate::migrate_command;
@@ -58,7 +59,7 @@ use turn_gate::gate::Gate;
 ///
 /// `audit PATH` reads the same two, whoever made the trace, and gives to `out` the verdict: `yes` where the trace is a history of the job,
 /// and else the first place at which a rule fails, and that rule. `check PATH` does so by the processor's rules alone, which say nothing of a
-/// driver; of the job it uses the EPC's size, the key and the first epoch and version.
+/// driver, and gives the trace's tally behind the verdict; of the job it uses the EPC's size, the key and the first epoch and version.
 ///
 /// `query PATH PLACE L PAGE` and `moves PATH L PAGE` read the same two, whoever made the trace, and answer a question to it. The one gives
 /// to `out` where the page was behind so many entries, which processors cached it there, and its first word. The other gives a line for
@@ -69,6 +70,8 @@ use turn_gate::gate::Gate;
 ///
 /// `migrate PATH` reads a trace in the first edition from `old`, without a job, and gives to `out` the text of its entries in the second,
 /// whose version array pages are numbered. The other commands read and write the second edition alone.
+///
+/// `help` and `--help` give the text on the commands to `out`.
 ///
 /// Other words are no command, and then nothing is read or written. `gate`, which is another, is told of each turn of a run. A run whose
 /// store fails for ever may not return.
@@ -158,6 +161,10 @@ pub fn sgxpage<
 
     ensures gate { (rounds : ℕ) → command_in (map string_bytes words.now) ≡ Some (commands.Gate rounds) →
         IsTextGiven (gate_text rounds) result.status (K.given out.old) (K.given out.new)
+        × (job.new ≡ job.old) × (trace.new ≡ trace.old) × (result.store ≡ None) }
+
+    ensures help { command_in (map string_bytes words.now) ≡ Some commands.Help →
+        IsTextGiven HELP.now result.status (K.given out.old) (K.given out.new)
         × (job.new ≡ job.old) × (trace.new ≡ trace.old) × (result.store ≡ None) }
 
     // The numbers of the old trace, for the job.
@@ -284,5 +291,6 @@ pub fn sgxpage<
         Some(Command::Picture) => unrun(picture_command(alloc, old, out)),
         Some(Command::Migrate) => unrun(migrate_command(alloc, old, out)),
         Some(Command::Gate { rounds }) => unrun(rounds_command(rt, alloc, rounds, out)),
+        Some(Command::Help) => unrun(help_command(out)),
     }
 }

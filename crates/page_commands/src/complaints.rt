@@ -1,16 +1,14 @@
 //! What is told on standard error of a command that was not carried out.
 
+use crate::help::HELP;
 use crate::status::Status;
 use std::io::{self, Eprint};
 
-/// One line on why a command was not carried out, with the path of the trace where that is what could not be read or written. Nothing
+/// Why a command was not carried out: one line, or the text on the commands where the words are none; with the path of the trace where that is what could not be read or written. Nothing
 /// is told where the output and the status tell all: of a run that came to its end, of a verdict, and of a job that is none.
 pub fn complain(to: &impl Eprint, status: Status, failed: Option<&str>) -> io::Result<()> {
     match (status, failed) {
-        (Status::BadWords, _) => eprintln!(to;
-            "usage: sgxpage run PATH | audit PATH | check PATH | make NUMBER SIZE | demo NUMBER SIZE | least PATH | \
-            query PATH PLACE L PAGE | moves PATH L PAGE | picture PATH | migrate PATH | gate ROUNDS"
-        ),
+        (Status::BadWords, _) => eprint!(to; "{HELP}"),
         (Status::ReadFault, Some(path)) => eprintln!(to; "sgxpage: cannot read the trace: {path}"),
         (Status::ReadFault, None) => eprintln!(to;
             "sgxpage: cannot read the job from standard input"

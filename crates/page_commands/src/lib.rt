@@ -8,6 +8,7 @@ pub mod complaints;
 pub mod ended;
 mod fault_lines;
 mod gates;
+pub mod help;
 mod jobs;
 mod least;
 mod making;

@@ -14,3 +14,4 @@ IsSized (commands.Ask question) = Unit {0}
 IsSized (commands.Make number size) = (4 ≤ size) × (size ≤ 2000)
 IsSized (commands.Demo number size) = (4 ≤ size) × (size ≤ 2000)
 IsSized (commands.Gate rounds) = (1 ≤ rounds) × (rounds ≤ 100000)
+IsSized commands.Help = Unit {0}

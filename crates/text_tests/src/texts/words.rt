@@ -7,7 +7,7 @@ use std::alloc::Global;
 use std::test::Fail;
 
 // The words, with a space between two, and the command.
-const ROWS: [(&str, Option<Command>); 37] = [
+const ROWS: [(&str, Option<Command>); 43] = [
     ("run t", Some(Command::Run)),
     ("run ", None),
     ("Run t", None),
@@ -65,6 +65,12 @@ const ROWS: [(&str, Option<Command>); 37] = [
     ("picture t", Some(Command::Picture)),
     ("picture ", None),
     ("pictures t", None),
+    ("help", Some(Command::Help)),
+    ("--help", Some(Command::Help)),
+    ("-h", None),
+    ("Help", None),
+    ("help run", None),
+    ("", None),
 ];
 
 // What stands between the spaces of a text.

@@ -14,6 +14,11 @@ pub returns-in-Some-Least-clause-least_broke : goal.returns-in-Some-Least-clause
 returns-in-Some-Least-clause-least_broke g c = λ named failed.
     c.least_command.ensures.broke (sym c.unrun-in-Some-Least.ensures.status ∙ failed)
 
+pub returns-in-Some-Least-clause-least_complete : goal.returns-in-Some-Least-clause-least_complete
+returns-in-Some-Least-clause-least_complete g c = λ named job trace job_read trace_read given.
+    let Ends : Status → Type 0 = λ status. (status ≡ statuses.Done) ⊎ (status ≡ statuses.Memory) in
+    subst Ends (sym c.unrun-in-Some-Least.ensures.status) (c.least_command.ensures.complete job trace job_read trace_read given)
+
 pub returns-in-Some-Judge-clause-read_fault : goal.returns-in-Some-Judge-clause-read_fault
 returns-in-Some-Judge-clause-read_fault g c = λ fault.
     let read = c.audit_command.ensures.read_fault (sym c.unrun-in-Some-Judge.ensures.status ∙ fault) in
