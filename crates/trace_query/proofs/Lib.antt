@@ -1,8 +1,5 @@
-pub mod MapLaws
-pub mod LastLaws
 pub mod PageKeys
 pub mod PlaceLaws
-pub mod SpanWrites
 pub mod SpanLaws
 pub mod SpanPlaces
 pub mod SeenLaws

@@ -12,7 +12,7 @@ use Rattle.trace_places.specs.Places.{same_where, moved, moved_by, place_of}
 use Rattle.trace_query.specs.declared.page_moves.Move.{Move}
 use Rattle.trace_query.specs.Moves.{before, moves_at, moves}
 use Rattle.trace_query.specs.inner.Lists.{at_place_from, at_place, Rises}
-use Rattle.trace_query.proofs.LastLaws.{last_append}
+use Rattle.trace_spans.proofs.LastLaws.{last_append}
 
 -- ---- places
 

@@ -3,8 +3,8 @@ use Rattle.std.proofs.Common.{◌≡◌, ◌+◌, List, ◌∷◌, length, Optio
 use Rattle.sgx_rules.specs.declared.entries.Entry.{Entry}
 use Rattle.trace_query.specs.declared.steps.Step.{Step}
 use Rattle.trace_query.specs.declared.page_spans.PageSpans.{PageSpans}
-use Rattle.trace_query.specs.inner.SpanLists.{spans_in, Covers}
-use Rattle.trace_query.specs.declared.span_lists.SpanLists.{SpanLists}
+use Rattle.trace_spans.specs.inner.SpanLists.{spans_in, Covers}
+use Rattle.trace_spans.specs.declared.span_lists.SpanLists.{SpanLists}
 use Rattle.trace_query.specs.inner.Sights.{sight, sight_in, sight_after, step_by}
 use Rattle.trace_query.specs.inner.Seen.{Follows, Makes, Keeps, spans_after}
 use Rattle.trace_query.proofs.SpanLaws.{sight_more, spans_more}

@@ -14,14 +14,14 @@ use Rattle.sgx_rules.specs.Processors.{translations, translations_after}
 use Rattle.sgx_rules.specs.Processors as rules
 use Rattle.sgx_types.specs.declared.names.Page.{Page}
 use Rattle.sgx_types.specs.Pages.{page_at}
-use Rattle.trace_query.specs.declared.span_lists.Span.{Span}
-use Rattle.trace_query.specs.declared.span_lists.SpanKey.{SpanKey}
+use Rattle.trace_spans.specs.declared.span_lists.Span.{Span}
+use Rattle.trace_spans.specs.declared.span_lists.SpanKey.{SpanKey}
 use Rattle.trace_query.specs.declared.processors.Filled.{Filled}
 use Rattle.trace_query.specs.declared.steps.Step.{Step}
 use Rattle.trace_query.specs.declared.steps.Step.TheVariants.{Turns, Fills}
 use Rattle.trace_query.specs.Spans.{is_inside, caches}
 use Rattle.trace_query.specs.inner.Insides.{is_in, sees}
-use Rattle.trace_query.specs.inner.SpanLists.{same_key, key_of, lasts, end_by, ended, begun, all_ended, ended_of}
+use Rattle.trace_spans.specs.inner.SpanLists.{same_key, key_of, lasts, end_by, ended, begun, all_ended, ended_of}
 use Rattle.trace_query.specs.inner.Sights.{Sight, sight_by, sight, step_of, step_by, is_among, newest, dropped, first_of, filled_in}
 use Rattle.trace_query.specs.inner.Sights.{sight_filled, sight_after}
 use Rattle.trace_query.specs.inner.Seen.{settled, spans, spans_filled, ended_if, spans_after}

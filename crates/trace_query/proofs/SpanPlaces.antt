@@ -7,14 +7,14 @@ use Rattle.std.proofs.lemmas.Bool.{cases_lt, le-leb, lt-leb, lt-ltb, le-ltb}
 use Rattle.std.proofs.lemmas.List.Sorted.{IsNonDecreasingBy-push}
 use Rattle.sgx_rules.specs.declared.entries.Entry.{Entry}
 use Rattle.sgx_types.specs.Pages.{page_at}
-use Rattle.trace_query.specs.declared.span_lists.Span.{Span}
-use Rattle.trace_query.specs.declared.span_lists.SpanKey.{SpanKey}
+use Rattle.trace_spans.specs.declared.span_lists.Span.{Span}
+use Rattle.trace_spans.specs.declared.span_lists.SpanKey.{SpanKey}
 use Rattle.trace_query.specs.Moves.{before}
 use Rattle.sgx_types.specs.declared.names.Page.{Page}
 use Rattle.trace_query.specs.declared.page_spans.PageSpans.{PageSpans}
 use Rattle.trace_query.specs.Spans.{caches, cachers_before, cachers}
-use Rattle.trace_query.specs.inner.SpanLists.{lasts, end_by, ended, begun, Rises, is_before, cached_from, cached_at}
-use Rattle.trace_query.specs.inner.SpanLists.{key_of, up_to}
+use Rattle.trace_spans.specs.inner.SpanLists.{lasts, end_by, ended, begun, Rises, is_before, cached_from, cached_at}
+use Rattle.trace_spans.specs.inner.SpanLists.{key_of, up_to}
 use Rattle.trace_query.specs.inner.Seen.{settled, spans, Follows}
 use Rattle.trace_query.proofs.PlaceLaws.{before_more, before_all}
 use Rattle.trace_query.proofs.SpanLaws.{spans_last}

@@ -22,7 +22,7 @@ use Rattle.trace_query.specs.declared.word_lists.Change.{Change}
 use Rattle.trace_query.specs.Moves.{before}
 use Rattle.trace_query.specs.inner.WordLists.{same_word, word_at, value_at, Rises}
 use Rattle.trace_query.specs.inner.Written.{change_to, noted, changes_with, changes, added_with, added, word_by}
-use Rattle.trace_query.proofs.LastLaws.{last_append}
+use Rattle.trace_spans.proofs.LastLaws.{last_append}
 use Rattle.trace_query.proofs.WordKeys.{same_words, one_test}
 use Rattle.trace_query.proofs.PlaceLaws.{before_more, before_all}
 

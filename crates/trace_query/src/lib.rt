@@ -9,6 +9,5 @@ pub mod page_moves;
 pub mod page_spans;
 pub mod page_words;
 mod processors;
-mod span_lists;
 mod steps;
 mod word_lists;

@@ -12,7 +12,7 @@ use std::collections::HashMap;
 use trace_places::moves::Where;
 
 /// A page, as the key of a map.
-#[derive(Clone, Copy, Debug, PartialEq, Eq, Hash)]
+#[derive(Clone, Copy, PartialEq, Eq, Hash)]
 pub(crate) struct PageKey {
     pub enclave: u16,
     pub number: u32,

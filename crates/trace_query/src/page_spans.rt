@@ -5,16 +5,16 @@ ghost use Rattle.sgx_rules.specs.declared.entries.Entry.{Entry};
 ghost use Rattle.trace_query.specs.declared.steps.Step.TheVariants as steps;
 ghost use Rattle.trace_query.specs.Moves.{before};
 ghost use Rattle.trace_query.specs.Spans.{caches, cachers};
-ghost use Rattle.trace_query.specs.declared.span_lists.SpanKey.{SpanKey};
-ghost use Rattle.trace_query.specs.inner.SpanLists.{spans_in, Covers};
+ghost use Rattle.trace_spans.specs.declared.span_lists.SpanKey.{SpanKey};
+ghost use Rattle.trace_spans.specs.inner.SpanLists.{spans_in, Covers};
 ghost use Rattle.trace_query.specs.inner.Seen.{Follows, HasRoom, HasRoomToStep, Keeps, Makes, ended_if};
 
 use crate::processors::Processors;
-use crate::span_lists::{SpanKey, SpanLists};
 use crate::steps::{Step, step_by};
 use sgx_rules::entries::Entry;
 use sgx_types::names::{Cpu, Memory, Page};
 use std::alloc::Global;
+use trace_spans::span_lists::{SpanKey, SpanLists};
 
 /// Which processors cached each page along entries that were pushed one by one, any entries at all. A question takes one look into a
 /// hash table and one binary search for each processor up to the greatest number of one that cached a page.

@@ -27,14 +27,14 @@ use std::alloc::Global;
 use std::collections::HashMap;
 
 /// How a page was added: behind how many entries, and with which words.
-#[derive(Clone, Copy, Debug, PartialEq, Eq)]
+#[derive(Clone, Copy)]
 pub(crate) struct Added {
     pub place: u64,
     pub init: PageInit,
 }
 
 /// What flat memory took of an entry: the words that it may have written, and the page that it added.
-#[derive(Clone, Copy, Debug, PartialEq, Eq)]
+#[derive(Clone, Copy)]
 pub(crate) struct Taken {
     pub writes: Writes,
     pub page: Option<NewPage>,

@@ -2,9 +2,9 @@
 
 ghost use Rattle.std.specs.Prelude.{◌≡◌, ◌+◌, ◌≤◌, ◌++◌, ◌∷◌, [], ℕ, if◌then◌else◌, OnOk, IfSome, IsSome, Some, ◌==◌};
 ghost use Rattle.std.specs.Prelude.{vec_len, vec_capacity};
-ghost use Rattle.trace_query.specs.declared.span_lists.SpanKey.{SpanKey};
+ghost use Rattle.trace_spans.specs.declared.span_lists.SpanKey.{SpanKey};
 ghost use Rattle.trace_query.specs.inner.Insides.{is_in, sees, entered_below, cached_below};
-ghost use Rattle.trace_query.specs.inner.SpanLists.{spans_in, ended_of, Covers};
+ghost use Rattle.trace_spans.specs.inner.SpanLists.{spans_in, ended_of, Covers};
 ghost use Rattle.trace_query.specs.inner.Sights.{
   outside,
   sight_of,
@@ -18,10 +18,10 @@ ghost use Rattle.trace_query.specs.inner.Sights.{
   HasRoomFor,
 };
 
-use crate::span_lists::SpanLists;
 use sgx_types::names::{Memory, Page};
 use std::alloc::Global;
 use std::collections::HashMap;
+use trace_spans::span_lists::SpanLists;
 
 /// How many translations a processor caches at most.
 const HELD: usize = 64;
@@ -34,7 +34,7 @@ pub(crate) struct Processor {
 }
 
 /// A fill that changed a cache: the enclave of the page, and the number that went for it, if one did.
-#[derive(Clone, Copy, Debug, PartialEq, Eq)]
+#[derive(Clone, Copy)]
 pub(crate) struct Filled {
     pub enclave: u16,
     pub dropped: Option<u32>,

@@ -9,7 +9,7 @@ use sgx_rules::entries::{Action, Entry, Event};
 use sgx_types::names::Actor;
 
 /// A processor goes into an enclave, or out of all, and then caches nothing; or it fills a translation.
-#[derive(Clone, Copy, Debug, PartialEq, Eq)]
+#[derive(Clone, Copy)]
 pub(crate) enum Step {
     Turns { cpu: u8, to: Option<u16> },
     Fills { cpu: u8, number: u32 },

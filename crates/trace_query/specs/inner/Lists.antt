@@ -10,7 +10,7 @@ use Rattle.trace_places.specs.declared.moves.Where.TheVariants.{Nowhere}
 use Rattle.trace_query.specs.declared.page_moves.Move.{Move}
 use Rattle.trace_query.specs.declared.move_lists.PageKey.{PageKey}
 use Rattle.trace_query.specs.declared.move_lists.MoveLists.{MoveLists}
-use Rattle.trace_query.specs.inner.Last.{last_from}
+use Rattle.trace_spans.specs.inner.Last.{last_from}
 
 -- the keys are those of the same page
 abbrev pub same_key : PageKey → PageKey → Bool

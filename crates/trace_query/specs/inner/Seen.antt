@@ -3,15 +3,15 @@ use Rattle.std.specs.Prelude.{◌≡◌, ℕ, ◌+◌, ◌<◌, ◌^◌, Bool, t
 use Rattle.std.specs.Prelude.{Option, Some, None}
 use Rattle.sgx_rules.specs.declared.entries.Entry.{Entry}
 use Rattle.sgx_types.specs.Pages.{page_at}
-use Rattle.trace_query.specs.declared.span_lists.Span.{Span}
-use Rattle.trace_query.specs.declared.span_lists.SpanKey.{SpanKey}
+use Rattle.trace_spans.specs.declared.span_lists.Span.{Span}
+use Rattle.trace_spans.specs.declared.span_lists.SpanKey.{SpanKey}
 use Rattle.trace_query.specs.declared.steps.Step.{Step}
 use Rattle.trace_query.specs.declared.steps.Step.TheVariants.{Turns, Fills}
 use Rattle.trace_query.specs.declared.processors.Filled.{Filled}
 use Rattle.trace_query.specs.declared.page_spans.PageSpans.{PageSpans}
 use Rattle.trace_query.specs.Spans.{caches}
-use Rattle.trace_query.specs.inner.SpanLists.{same_key, key_of, spans_in, lasts, begun, ended, ended_of, Covers}
-use Rattle.trace_query.specs.inner.SpanLists as lists
+use Rattle.trace_spans.specs.inner.SpanLists.{same_key, key_of, spans_in, lasts, begun, ended, ended_of, Covers}
+use Rattle.trace_spans.specs.inner.SpanLists as lists
 use Rattle.trace_query.specs.inner.Sights.{Sight, sight, sight_in, sight_after, step_by, filled, HasPlace}
 use Rattle.trace_query.specs.inner.Sights as sights
 

@@ -7,7 +7,7 @@ use Rattle.flat_words.specs.declared.writes.WordAt.{WordAt}
 use Rattle.sgx_types.specs.declared.names.Page.{Page}
 use Rattle.trace_query.specs.declared.word_lists.Change.{Change}
 use Rattle.trace_query.specs.declared.word_lists.WordLists.{WordLists}
-use Rattle.trace_query.specs.inner.Last.{last_from}
+use Rattle.trace_spans.specs.inner.Last.{last_from}
 
 -- the keys are those of the same word
 abbrev pub same_word : WordAt → WordAt → Bool

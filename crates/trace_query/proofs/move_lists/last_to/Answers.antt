@@ -2,7 +2,7 @@ use Rattle.std.proofs.Common.{ℕ, ◌-◌, nat_le, sym, arith, rules}
 use Rattle.std.proofs.lemmas.List.Sorted.{IsPartitionedBy-leb, IsPartitionPoint-from_clause}
 use Rattle.trace_places.specs.declared.moves.Where.TheVariants.{Nowhere}
 use Rattle.trace_query.specs.declared.page_moves.Move.{Move}
-use Rattle.trace_query.proofs.LastLaws.{none_up_to, some_up_to}
+use Rattle.trace_spans.proofs.LastLaws.{none_up_to, some_up_to}
 use Rattle.trace_query.proofs.move_lists.last_to.Goals as goal
 
 abbrev none : Move

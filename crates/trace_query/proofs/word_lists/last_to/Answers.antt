@@ -1,7 +1,7 @@
 use Rattle.std.proofs.Common.{ℕ, ◌-◌, nat_le, sym, arith, rules}
 use Rattle.std.proofs.lemmas.List.Sorted.{IsPartitionedBy-leb, IsPartitionPoint-from_clause}
 use Rattle.trace_query.specs.declared.word_lists.Change.{Change}
-use Rattle.trace_query.proofs.LastLaws.{none_up_to, some_up_to}
+use Rattle.trace_spans.proofs.LastLaws.{none_up_to, some_up_to}
 use Rattle.trace_query.proofs.word_lists.last_to.Goals as goal
 
 abbrev none : Change

@@ -1,7 +1,7 @@
 use Rattle.std.proofs.Common.{sym, ◌∙◌}
 use Rattle.std.specs.HashMap.{get}
 use Rattle.trace_query.specs.inner.Lists.{same_key, page_key, items_of, HasSpare}
-use Rattle.trace_query.proofs.MapLaws.{begun, holds_begun}
+use Rattle.trace_spans.proofs.MapLaws.{begun, holds_begun}
 use Rattle.trace_query.proofs.PageKeys.{same_keys}
 use Rattle.trace_query.proofs.move_lists.MoveLists.begin.Goals as goal
 

@@ -4,7 +4,7 @@ use Rattle.std.specs.HashMap.{get}
 use Rattle.trace_query.specs.declared.page_moves.Move.{Move}
 use Rattle.trace_query.specs.declared.move_lists.PageKey.{PageKey}
 use Rattle.trace_query.specs.inner.Lists.{same_key, page_key, items_of, moves_in, HasSpare}
-use Rattle.trace_query.proofs.MapLaws.{written, holds_written}
+use Rattle.trace_spans.proofs.MapLaws.{written, holds_written}
 use Rattle.trace_query.proofs.PageKeys.{same_keys, spare_less}
 use Rattle.trace_query.proofs.move_lists.MoveLists.push.Goals as goal
 

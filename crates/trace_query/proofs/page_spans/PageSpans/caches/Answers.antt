@@ -1,6 +1,6 @@
 use Rattle.std.proofs.Common.{List, sym, ap, subst, ◌∙◌}
-use Rattle.trace_query.specs.declared.span_lists.Span.{Span}
-use Rattle.trace_query.specs.inner.SpanLists.{key_of, cached_at, Rises}
+use Rattle.trace_spans.specs.declared.span_lists.Span.{Span}
+use Rattle.trace_spans.specs.inner.SpanLists.{key_of, cached_at, Rises}
 use Rattle.trace_query.proofs.SpanPlaces.{spans_rise, cached_before}
 use Rattle.trace_query.proofs.page_spans.PageSpans.caches.Goals as goal
 

@@ -1,6 +1,6 @@
 use Rattle.std.proofs.Common.{sym, ap, ◌∙◌}
 use Rattle.trace_query.specs.inner.Sights.{sight_in}
-use Rattle.trace_query.specs.inner.SpanLists.{spans_in}
+use Rattle.trace_spans.specs.inner.SpanLists.{spans_in}
 use Rattle.trace_query.specs.inner.Seen.{ended_if, spans_filled}
 use Rattle.trace_query.proofs.page_spans.PageSpans.fill.Goals as goal
 

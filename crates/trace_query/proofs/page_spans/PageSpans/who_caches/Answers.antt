@@ -1,5 +1,5 @@
 use Rattle.std.proofs.Common.{◌≡◌, ◌∙◌, arith}
-use Rattle.trace_query.specs.inner.SpanLists.{up_to}
+use Rattle.trace_spans.specs.inner.SpanLists.{up_to}
 use Rattle.trace_query.proofs.SpanPlaces.{none_beyond}
 use Rattle.trace_query.proofs.page_spans.PageSpans.who_caches.Goals as goal
 

@@ -1,10 +1,10 @@
 use Rattle.std.proofs.Common.{◌≡◌, Some, refl, sym}
 use Rattle.std.specs.HashMap.{get}
-use Rattle.trace_query.specs.declared.span_lists.SpanKey.{SpanKey}
-use Rattle.trace_query.specs.inner.SpanLists.{same_key, items_of, ended}
-use Rattle.trace_query.proofs.MapLaws.{written}
-use Rattle.trace_query.proofs.SpanWrites.{same_keys, covers_ended}
-use Rattle.trace_query.proofs.span_lists.SpanLists.close_span.Goals as goal
+use Rattle.trace_spans.specs.declared.span_lists.SpanKey.{SpanKey}
+use Rattle.trace_spans.specs.inner.SpanLists.{same_key, items_of, ended}
+use Rattle.trace_spans.proofs.MapLaws.{written}
+use Rattle.trace_spans.proofs.SpanWrites.{same_keys, covers_ended}
+use Rattle.trace_spans.proofs.span_lists.SpanLists.close_span.Goals as goal
 
 pub returns-in-Some-clause-covers : goal.returns-in-Some-clause-covers
 returns-in-Some-clause-covers c = λ covers.

@@ -1,10 +1,10 @@
 use Rattle.std.proofs.Common.{◌≡◌, ℕ, ◌+◌, ◌-◌, ◌<◌, length, get_or, set, Some, subst, is_some, not, sym, ap, ◌∙◌, arith}
 use Rattle.std.proofs.lemmas.List.{get_or_read}
-use Rattle.trace_query.specs.declared.span_lists.Span.{Span}
-use Rattle.trace_query.specs.inner.SpanLists.{ended}
-use Rattle.trace_query.proofs.SpanWrites.{set_ended, same_ended, none_ended}
-use Rattle.trace_query.proofs.span_lists.end.Goals as goal
-use Rattle.trace_query.proofs.span_lists.end.Goals.{else-count-gt0-via-then-count-gt0+else-is_none, else-count-gt0-via-else-count-gt0}
+use Rattle.trace_spans.specs.declared.span_lists.Span.{Span}
+use Rattle.trace_spans.specs.inner.SpanLists.{ended}
+use Rattle.trace_spans.proofs.SpanWrites.{set_ended, same_ended, none_ended}
+use Rattle.trace_spans.proofs.span_lists.end.Goals as goal
+use Rattle.trace_spans.proofs.span_lists.end.Goals.{else-count-gt0-via-then-count-gt0+else-is_none, else-count-gt0-via-else-count-gt0}
 
 pub returns-then-is_none : goal.returns-then-is_none
 returns-then-is_none c =

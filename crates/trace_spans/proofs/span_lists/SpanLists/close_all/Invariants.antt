@@ -1,7 +1,7 @@
 use Rattle.std.proofs.Common.{◌≡◌, drop}
-use Rattle.trace_query.specs.declared.span_lists.SpanKey.{SpanKey}
-use Rattle.trace_query.specs.inner.SpanLists.{spans_in, all_ended, Covers}
-use Rattle.trace_query.proofs.span_lists.SpanLists.close_all.Given as goal
+use Rattle.trace_spans.specs.declared.span_lists.SpanKey.{SpanKey}
+use Rattle.trace_spans.specs.inner.SpanLists.{spans_in, all_ended, Covers}
+use Rattle.trace_spans.proofs.span_lists.SpanLists.close_all.Given as goal
 
 abbrev pub invariant-loop-number : goal.invariant-loop-number
 invariant-loop-number l = record {

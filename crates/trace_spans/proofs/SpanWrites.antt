@@ -4,9 +4,9 @@ use Rattle.std.proofs.Common.{List, [], ◌∷◌}
 use Rattle.std.proofs.Common.{length, drop, get_or, set, Option, Some, None, is_some, refl, sym, ap, ◌∙◌, arith}
 use Rattle.std.proofs.lemmas.Bool.{false≢true, eqb-true, leb-true, leb-false}
 use Rattle.sgx_types.proofs.Truths.{both_true, apart}
-use Rattle.trace_query.specs.declared.span_lists.Span.{Span}
-use Rattle.trace_query.specs.declared.span_lists.SpanKey.{SpanKey}
-use Rattle.trace_query.specs.inner.SpanLists.{same_key, end_by, begun, ended, greatest, up_to}
+use Rattle.trace_spans.specs.declared.span_lists.Span.{Span}
+use Rattle.trace_spans.specs.declared.span_lists.SpanKey.{SpanKey}
+use Rattle.trace_spans.specs.inner.SpanLists.{same_key, end_by, begun, ended, greatest, up_to}
 
 -- ---- maps
 

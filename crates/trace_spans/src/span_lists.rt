@@ -1,16 +1,16 @@
 //! The spans in which processors cached pages, by the places at which they began and ended.
 
 ghost use Rattle.std.specs.Prelude.{◌≡◌, ◌+◌, ◌≤◌, ◌∷◌, [], ℕ, if◌then◌else◌, OnOk, vec_len, vec_capacity};
-ghost use Rattle.trace_query.specs.inner.SpanLists.{same_key, spans_in, HasList, HasRoomFor};
-ghost use Rattle.trace_query.specs.inner.SpanLists.{begun, ended, all_ended, Rises, cached_at, is_before, greatest, up_to, Covers};
+ghost use Rattle.trace_spans.specs.inner.SpanLists.{same_key, spans_in, HasList, HasRoomFor};
+ghost use Rattle.trace_spans.specs.inner.SpanLists.{begun, ended, all_ended, Rises, cached_at, is_before, greatest, up_to, Covers};
 
 use sgx_types::names::Memory;
 use std::alloc::Global;
 use std::collections::HashMap;
 
 /// A processor and a page, as the key of a map.
-#[derive(Clone, Copy, Debug, PartialEq, Eq, Hash)]
-pub(crate) struct SpanKey {
+#[derive(Clone, Copy, PartialEq, Eq, Hash)]
+pub struct SpanKey {
     pub cpu: u8,
     pub enclave: u16,
     pub number: u32,
@@ -18,8 +18,8 @@ pub(crate) struct SpanKey {
 
 /// Cached behind `from` entries, and no more behind `to`. A span that lasts has no end, but the place for it, so to end it takes no
 /// memory.
-#[derive(Clone, Copy, Debug, PartialEq, Eq)]
-pub(crate) struct Span {
+#[derive(Clone, Copy)]
+pub struct Span {
     pub from: u64,
     pub to: Option<u64>,
 }
@@ -27,14 +27,14 @@ pub(crate) struct Span {
 /// For each processor and each page the spans in which the one cached the other, oldest first, and the greatest number of a processor
 /// that cached any.
 #[derive(Drop)]
-pub(crate) struct SpanLists {
+pub struct SpanLists {
     lists: HashMap<SpanKey, Vec<Span>>,
     last: Option<u8>,
 }
 
 impl SpanLists {
     /// Nothing was cached.
-    pub(crate) fn new(alloc: Global) -> SpanLists
+    pub fn new(alloc: Global) -> SpanLists
         ensures none { (q : SpanKey) → spans_in result q ≡ [] }
         ensures covers { Covers result }
     {
@@ -45,7 +45,7 @@ impl SpanLists {
     }
 
     /// How many numbers of processors there are up to the greatest one that cached a page.
-    pub(crate) fn cpus(&self) -> u16
+    pub fn cpus(&self) -> u16
         ensures value { result ≡ up_to self.now.last }
         ensures bound { result ≤ 256 }
     {
@@ -56,7 +56,7 @@ impl SpanLists {
     }
 
     /// Makes room for a span more.
-    pub(crate) fn reserve(&mut self, alloc: Global, key: SpanKey) -> Result<(), Memory>
+    pub fn reserve(&mut self, alloc: Global, key: SpanKey) -> Result<(), Memory>
         ensures same { (q : SpanKey) → spans_in self.new q ≡ spans_in self.old q }
         ensures covers { Covers self.old → Covers self.new }
         ensures room { OnOk result (HasRoomFor self.new key) }
@@ -81,7 +81,7 @@ impl SpanLists {
     }
 
     /// A span begins.
-    pub(crate) fn open_span(&mut self, key: SpanKey, place: u64)
+    pub fn open_span(&mut self, key: SpanKey, place: u64)
         requires room { HasRoomFor self.old key }
         ensures spans { (q : SpanKey) → spans_in self.new q
             ≡ (if same_key key q then begun place (spans_in self.old q) else spans_in self.old q) }
@@ -94,7 +94,7 @@ impl SpanLists {
     }
 
     /// The last span ends, if it lasts.
-    pub(crate) fn close_span(&mut self, key: SpanKey, place: u64)
+    pub fn close_span(&mut self, key: SpanKey, place: u64)
         ensures spans { (q : SpanKey) → spans_in self.new q
             ≡ (if same_key key q then ended place (spans_in self.old q) else spans_in self.old q) }
         ensures covers { Covers self.old → Covers self.new }
@@ -105,7 +105,7 @@ impl SpanLists {
     }
 
     /// The spans of these pages of an enclave end.
-    pub(crate) fn close_all(&mut self, cpu: u8, enclave: u16, numbers: &[u32], place: u64)
+    pub fn close_all(&mut self, cpu: u8, enclave: u16, numbers: &[u32], place: u64)
         ensures spans { (q : SpanKey) → spans_in self.new q ≡ all_ended place cpu enclave numbers.now q (spans_in self.old q) }
         ensures covers { Covers self.old → Covers self.new }
     {
@@ -122,7 +122,7 @@ impl SpanLists {
     }
 
     /// Whether the processor cached the page behind so many entries.
-    pub(crate) fn at(&self, n: u64, key: SpanKey) -> bool
+    pub fn at(&self, n: u64, key: SpanKey) -> bool
         ensures { Rises (spans_in self.now key) → result ≡ cached_at (spans_in self.now key) n }
     {
         match self.lists.get(&key) {

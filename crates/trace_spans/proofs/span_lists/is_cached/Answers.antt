@@ -1,9 +1,9 @@
 use Rattle.std.proofs.Common.{ℕ, ◌-◌, ◌<◌, nat_le, false, None, length, sym, ◌∙◌, arith, rules}
 use Rattle.std.proofs.lemmas.List.Sorted.{IsPartitionedBy-leb, IsPartitionPoint-from_clause}
-use Rattle.trace_query.specs.declared.span_lists.Span.{Span}
-use Rattle.trace_query.specs.inner.SpanLists.{is_before}
-use Rattle.trace_query.proofs.LastLaws.{none_up_to, some_up_to}
-use Rattle.trace_query.proofs.span_lists.is_cached.Goals as goal
+use Rattle.trace_spans.specs.declared.span_lists.Span.{Span}
+use Rattle.trace_spans.specs.inner.SpanLists.{is_before}
+use Rattle.trace_spans.proofs.LastLaws.{none_up_to, some_up_to}
+use Rattle.trace_spans.proofs.span_lists.is_cached.Goals as goal
 
 abbrev none : Span
 none = record { from = 0; to = None }

@@ -4,10 +4,10 @@ use Rattle.std.specs.Prelude.{IsSome, IsSomeAnd, is_none, Option, Some, None, ve
 use Rattle.std.specs.Global.{Vec}
 use Rattle.std.specs.HashMap.{get}
 use Rattle.std.specs.List.Sorted.{IsNonDecreasingBy}
-use Rattle.trace_query.specs.declared.span_lists.Span.{Span}
-use Rattle.trace_query.specs.declared.span_lists.SpanKey.{SpanKey}
-use Rattle.trace_query.specs.declared.span_lists.SpanLists.{SpanLists}
-use Rattle.trace_query.specs.inner.Last.{last_from}
+use Rattle.trace_spans.specs.declared.span_lists.Span.{Span}
+use Rattle.trace_spans.specs.declared.span_lists.SpanKey.{SpanKey}
+use Rattle.trace_spans.specs.declared.span_lists.SpanLists.{SpanLists}
+use Rattle.trace_spans.specs.inner.Last.{last_from}
 
 -- the keys are those of the same processor and page
 abbrev pub same_key : SpanKey → SpanKey → Bool

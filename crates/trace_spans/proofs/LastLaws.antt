@@ -1,7 +1,7 @@
 -- What the last of items up to a place tells, by how many items there are up to it.
 use Rattle.std.proofs.Common.{◌≡◌, ℕ, zero, suc, ◌<◌, ◌≤◌, true, false, nat_le, if◌then◌else◌}
 use Rattle.std.proofs.Common.{List, [], ◌∷◌, ◌++◌, length, get_or, refl, arith}
-use Rattle.trace_query.specs.inner.Last.{last_from}
+use Rattle.trace_spans.specs.inner.Last.{last_from}
 
 -- where all items are later
 pub none_up_to : {A B : Type 0} (place : A → ℕ) (told : A → B) (first : B) (xs : List A) (n : ℕ) (d : A)

@@ -1,7 +1,7 @@
 use Rattle.std.proofs.Common.{◌+◌, drop, sym, ap, ◌∙◌}
 use Rattle.std.proofs.lemmas.List.{drop_more}
-use Rattle.trace_query.specs.inner.SpanLists.{spans_in, all_ended}
-use Rattle.trace_query.proofs.span_lists.SpanLists.close_all.Goals as goal
+use Rattle.trace_spans.specs.inner.SpanLists.{spans_in, all_ended}
+use Rattle.trace_spans.proofs.span_lists.SpanLists.close_all.Goals as goal
 
 pub loop-number-preserved : goal.loop-number-preserved
 loop-number-preserved c =

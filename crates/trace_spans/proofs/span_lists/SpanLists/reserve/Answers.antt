@@ -1,9 +1,9 @@
 use Rattle.std.proofs.Common.{◌≡◌, ◌≤◌, Some, sym, subst, ◌∙◌}
 use Rattle.std.specs.HashMap.{get}
-use Rattle.trace_query.specs.inner.SpanLists.{same_key, items_of, up_to}
-use Rattle.trace_query.proofs.MapLaws.{rewritten}
-use Rattle.trace_query.proofs.SpanWrites.{same_keys}
-use Rattle.trace_query.proofs.span_lists.SpanLists.reserve.Goals as goal
+use Rattle.trace_spans.specs.inner.SpanLists.{same_key, items_of, up_to}
+use Rattle.trace_spans.proofs.MapLaws.{rewritten}
+use Rattle.trace_spans.proofs.SpanWrites.{same_keys}
+use Rattle.trace_spans.proofs.span_lists.SpanLists.reserve.Goals as goal
 
 pub returns-in_err-reserve-clause-same : goal.returns-in_err-reserve-clause-same
 returns-in_err-reserve-clause-same c = λ q.

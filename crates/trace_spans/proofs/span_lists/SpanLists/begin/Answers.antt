@@ -1,9 +1,9 @@
 use Rattle.std.proofs.Common.{sym, ◌∙◌}
 use Rattle.std.specs.HashMap.{get}
-use Rattle.trace_query.specs.inner.SpanLists.{same_key, items_of}
-use Rattle.trace_query.proofs.MapLaws.{begun}
-use Rattle.trace_query.proofs.SpanWrites.{same_keys}
-use Rattle.trace_query.proofs.span_lists.SpanLists.begin.Goals as goal
+use Rattle.trace_spans.specs.inner.SpanLists.{same_key, items_of}
+use Rattle.trace_spans.proofs.MapLaws.{begun}
+use Rattle.trace_spans.proofs.SpanWrites.{same_keys}
+use Rattle.trace_spans.proofs.span_lists.SpanLists.begin.Goals as goal
 
 pub returns-in_ok-insert-clause-same : goal.returns-in_ok-insert-clause-same
 returns-in_ok-insert-clause-same c = λ q.
