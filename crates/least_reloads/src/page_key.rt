@@ -6,7 +6,7 @@ ghost use Rattle.least_reloads.specs.inner.Keys.{key_of};
 use sgx_types::names::Page;
 
 /// A page, as the key of a map.
-#[derive(Clone, Copy, Debug, PartialEq, Eq, Hash)]
+#[derive(Clone, Copy, PartialEq, Eq, Hash)]
 pub(crate) struct PageKey {
     enclave: u16,
     number: u32,

@@ -11,7 +11,7 @@ use sgx_rules::entries::{Action, Answer, Event};
 use sgx_types::names::Memory;
 
 /// The values of the counters.
-#[derive(Clone, Copy, Debug, PartialEq, Eq)]
+#[derive(Clone, Copy)]
 pub(crate) struct Counts {
     pub frames: u64,
     pub pages: u64,

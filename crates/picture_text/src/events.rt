@@ -3,7 +3,7 @@
 use sgx_types::names::{Cpu, Frame, Page};
 
 /// A lane: a row of a picture, on which spans lie side by side or one within the other.
-#[derive(Clone, Copy, Debug, PartialEq, Eq)]
+#[derive(Clone, Copy)]
 pub enum Lane {
     Processor(Cpu),
     Frame(Frame),
@@ -16,7 +16,7 @@ pub enum Lane {
 }
 
 /// What is so from one place of a trace to another.
-#[derive(Clone, Copy, Debug, PartialEq, Eq)]
+#[derive(Clone, Copy, PartialEq, Eq)]
 pub enum Span {
     /// A processor is inside an enclave, by a TCS page of this number.
     Inside { enclave: u16, tcs: u32 },
@@ -44,7 +44,7 @@ pub enum Span {
 }
 
 /// What is counted along a trace.
-#[derive(Clone, Copy, Debug, PartialEq, Eq)]
+#[derive(Clone, Copy)]
 pub enum Counter {
     /// The frames that have a page or await one.
     Frames,
@@ -58,7 +58,7 @@ pub enum Counter {
 
 /// What an event does on its lane: a span begins, the innermost open one ends, the entry itself stands there, or a counter has another
 /// value from now on.
-#[derive(Clone, Copy, Debug, PartialEq, Eq)]
+#[derive(Clone, Copy)]
 pub enum Mark {
     Begins(Span),
     Ends,
@@ -68,7 +68,7 @@ pub enum Mark {
 
 /// An event, and the place of the entry that causes it: how many entries were before that one. An entry at place n lies at [n, n + 1);
 /// what it changes begins or ends at n + 1.
-#[derive(Clone, Copy, Debug, PartialEq, Eq)]
+#[derive(Clone, Copy)]
 pub struct PictureEvent {
     pub place: usize,
     pub lane: Lane,
@@ -77,7 +77,7 @@ pub struct PictureEvent {
 
 /// The spans that are open on a lane. Only a frame has more than the outer one: within what it has, that this was blocked, and within
 /// that, that it is on its way out.
-#[derive(Clone, Copy, Debug, PartialEq, Eq)]
+#[derive(Clone, Copy)]
 pub(crate) struct Open {
     pub outer: Option<Span>,
     pub middle: Option<Span>,

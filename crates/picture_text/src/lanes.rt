@@ -12,7 +12,7 @@ use std::alloc::Global;
 use std::collections::HashMap;
 
 // A lane, as the key of a map.
-#[derive(Clone, Copy, Debug, PartialEq, Eq, Hash)]
+#[derive(Clone, Copy, PartialEq, Eq, Hash)]
 struct LaneKey {
     group: u8,
     enclave: u16,

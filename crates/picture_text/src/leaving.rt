@@ -11,7 +11,7 @@ use std::alloc::Global;
 use std::collections::HashMap;
 
 /// How far what is in a frame is on its way out.
-#[derive(Clone, Copy, Debug, PartialEq, Eq)]
+#[derive(Clone, Copy)]
 pub(crate) struct Leaving {
     pub blocked: bool,
     pub sealing: bool,

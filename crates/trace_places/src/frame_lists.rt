@@ -11,7 +11,7 @@ use std::alloc::Global;
 use std::collections::HashMap;
 
 // The page of a tenant, and whether it is awaited, as the key of a map.
-#[derive(Clone, Copy, Debug, PartialEq, Eq, Hash)]
+#[derive(Clone, Copy, PartialEq, Eq, Hash)]
 struct TenantKey {
     awaited: bool,
     enclave: u16,

@@ -19,7 +19,7 @@ use std::alloc::Global;
 use std::collections::HashMap;
 
 // A page, as the key of a map.
-#[derive(Clone, Copy, Debug, PartialEq, Eq, Hash)]
+#[derive(Clone, Copy, PartialEq, Eq, Hash)]
 struct PageKey {
     enclave: u16,
     number: u32,
