@@ -10,3 +10,5 @@ mod least;
 mod pictures;
 #[cfg(test)]
 mod queries;
+#[cfg(test)]
+mod same;

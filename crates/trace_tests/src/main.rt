@@ -1,8 +1,11 @@
 // Reads traces from files and says of each how many entries it has, or the line of its fault. A word before their paths says how:
 // `whole`; or `pieces`, and then each is read in pieces of 1, 2 and 7 bytes too, and what was read is printed again; or `cuts`,
 // and then each proper front of each is read, which must be refused with the line that holds the cut; or `migrated`, and then the text
-// of each in the second edition is printed, where it is one of the first.
+// of each in the second edition is printed, where it is one of the first; or `old`, and then each is read as an old trace of its job; or
+// `files`, and then each is a file that is opened at its first read. The word `failing` stands for an old trace whose source fails.
 #![tactic(auto)]
+
+mod old;
 
 ghost use Rattle.std.specs.Prelude.{◌<◌};
 
@@ -23,6 +26,9 @@ fn main(rt: HostRuntime) -> io::Result<()> {
             "pieces" => mode = Mode::Pieces,
             "cuts" => mode = Mode::Cuts,
             "migrated" => mode = Mode::Migrated,
+            "old" => mode = Mode::Old,
+            "files" => mode = Mode::Files,
+            "failing" => old::tell_failing(&rt)?,
             path => tell(&rt, mode, path)?,
         }
     }
@@ -36,16 +42,26 @@ enum Mode {
     Pieces,
     Cuts,
     Migrated,
+    Old,
+    Files,
 }
 
 fn tell(rt: &HostRuntime, mode: Mode, path: &str) -> io::Result<()> {
+    match mode {
+        Mode::Old => old::tell_trace(rt, path),
+        Mode::Files => old::tell_file(rt, path),
+        _ => tell_read(rt, mode, path),
+    }
+}
+
+fn tell_read(rt: &HostRuntime, mode: Mode, path: &str) -> io::Result<()> {
     let text = fs::read_to_string(rt, path)?;
     let bytes = text.as_bytes();
     match mode {
         Mode::Cuts => tell_cuts(rt, path, bytes),
         Mode::Migrated => tell_migrated(rt, path, bytes),
-        Mode::Whole => tell_text(rt, path, bytes, false),
         Mode::Pieces => tell_text(rt, path, bytes, true),
+        _ => tell_text(rt, path, bytes, false),
     }
 }
 

@@ -6,6 +6,8 @@
 #[cfg(test)]
 mod edges;
 #[cfg(test)]
+mod same;
+#[cfg(test)]
 mod stores;
 #[cfg(test)]
 mod tables;

@@ -1,5 +1,6 @@
 //! Enclaves and their pages.
 
+use super::same::are_same;
 use secs_state::secs::Secs;
 use secs_state::table::SecsTable;
 use sgx_types::lawful::is_lawful;
@@ -42,30 +43,37 @@ fn ranges_are_powers_of_two_at_their_multiples(rt: HostRuntime) {
 fn keeps_each_page_by_its_number(rt: HostRuntime) -> Result<(), Fail> {
     assert!(rt; is_lawful(0x1_0000, 0x1_0000));
     let mut secs = Secs::new(rt.alloc(), 3, 0x1_0000, 0x1_0000)?;
-    assert_eq!(rt;
+    are_same(
+        &rt,
         (secs.enclave(), secs.base(), secs.size()),
-        (3, 0x1_0000, 0x1_0000)
+        (3, 0x1_0000, 0x1_0000),
     );
     secs.note_added(2, Kind::Reg, WRITABLE);
-    assert_eq!(rt;
+    are_same(
+        &rt,
         (secs.added(2), secs.added(1), secs.added(16)),
-        (Some((Kind::Reg, WRITABLE)), None, None)
+        (Some((Kind::Reg, WRITABLE)), None, None),
     );
     secs.take_tcs(2);
     let taken = (secs.tcs_busy(2), secs.tcs_busy(1), secs.tcs_busy(16));
     secs.free_tcs(2);
-    assert_eq!(rt; (taken, secs.tcs_busy(2)), ((true, false, false), false));
+    are_same(
+        &rt,
+        (taken, secs.tcs_busy(2)),
+        ((true, false, false), false),
+    );
     let was_init = secs.is_init();
     secs.set_init();
-    assert_eq!(rt; (was_init, secs.is_init()), (false, true));
+    are_same(&rt, (was_init, secs.is_init()), (false, true));
     secs.child_added();
     secs.child_added();
     secs.child_left();
     let was_in = secs.frame();
     secs.set_frame(Some(Frame(9)));
-    assert_eq!(rt;
+    are_same(
+        &rt,
         (secs.children(), was_in, secs.frame()),
-        (1, None, Some(Frame(9)))
+        (1, None, Some(Frame(9))),
     );
     Ok(())
 }

@@ -1,5 +1,6 @@
 //! The EPC's frames.
 
+use super::same::are_same;
 use epcm_entry::entry_view::EntryView;
 use epcm_entry::epc::Epc;
 use sgx_rules::refusals::Refusal;
@@ -78,31 +79,32 @@ fn finds_the_least_free_frame(rt: HostRuntime) -> Result<(), Fail> {
 fn words_are_bytes_low_first(rt: HostRuntime) -> Result<(), Fail> {
     let mut epc = Epc::new(rt.alloc(), 2)?;
     epc.set_word(Frame(1), 511, 0x0807_0605_0403_0201);
-    assert_eq!(rt;
+    are_same(
+        &rt,
         &epc.bytes(Frame(1))[4088..],
-        [1, 2, 3, 4, 5, 6, 7, 8].as_slice()
+        [1, 2, 3, 4, 5, 6, 7, 8].as_slice(),
     );
-    assert_eq!(rt; epc.word(Frame(1), 511), 0x0807_0605_0403_0201);
+    are_same(&rt, epc.word(Frame(1), 511), 0x0807_0605_0403_0201);
     let mut from = [0; 4096];
     from[9] = 2;
     epc.set_bytes(Frame(0), &from);
-    assert_eq!(rt; epc.word(Frame(0), 1), 512);
+    are_same(&rt, epc.word(Frame(0), 1), 512);
     epc.clear(Frame(1));
-    assert_eq!(rt; epc.word(Frame(1), 511), 0);
-    assert_eq!(rt; epc.word(Frame(0), 1), 512);
+    are_same(&rt, epc.word(Frame(1), 511), 0);
+    are_same(&rt, epc.word(Frame(0), 1), 512);
     Ok(())
 }
 
 #[test]
 fn claims_a_frame_once(rt: HostRuntime) -> Result<(), Fail> {
     let mut epc = Epc::new(rt.alloc(), 2)?;
-    assert_eq!(rt; epc.claim_load(Frame(0), PAGE), Ok(()));
-    assert_eq!(rt; epc.claim_load(Frame(0), PAGE), Err(Refusal::Conflict));
-    assert_eq!(rt; epc.entry(Frame(0)), EntryView::Loading { page: PAGE });
+    are_same(&rt, epc.claim_load(Frame(0), PAGE), Ok(()));
+    are_same(&rt, epc.claim_load(Frame(0), PAGE), Err(Refusal::Conflict));
+    are_same(&rt, epc.entry(Frame(0)), EntryView::Loading { page: PAGE });
     epc.set(Frame(0), PAGE, Kind::Reg, PERM);
     epc.block(Frame(0), 7);
-    assert_eq!(rt; epc.claim_seal(Frame(0)), Ok(()));
-    assert_eq!(rt; epc.claim_seal(Frame(0)), Err(Refusal::Conflict));
+    are_same(&rt, epc.claim_seal(Frame(0)), Ok(()));
+    are_same(&rt, epc.claim_seal(Frame(0)), Err(Refusal::Conflict));
     let sealing = EntryView::Valid {
         page: PAGE,
         kind: Kind::Reg,
@@ -110,7 +112,7 @@ fn claims_a_frame_once(rt: HostRuntime) -> Result<(), Fail> {
         blocked: Some(7),
         sealing: true,
     };
-    assert_eq!(rt; epc.entry(Frame(0)), sealing);
+    are_same(&rt, epc.entry(Frame(0)), sealing);
     Ok(())
 }
 

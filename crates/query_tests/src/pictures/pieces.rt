@@ -1,17 +1,22 @@
 //! A picture that is given in pieces.
 
 use super::rows::FIRST;
+use crate::same::are_same;
 use io_edges::mem_sink::MemSink;
 use picture_command::giving::give_picture;
 use picture_text::picture::print_picture;
 use sgx_rules::entries::{Action, Answer, Entry, Event};
-use sgx_types::names::Actor;
+use sgx_types::names::{Actor, Memory};
+use std::alloc::Global;
+use std::process::Abort;
 use std::test::Fail;
 use trace_pieces::ungiven::Ungiven;
 use trace_reader::reader::read_trace;
 
 // How many bytes the sink takes at once, the calls that fail, and what is answered.
-const ROWS: [(usize, &[u64], Result<(), Ungiven>); 5] = [
+type Row = (usize, &'static [u64], Result<(), Ungiven>);
+
+const ROWS: &[Row] = &[
     (1, &[], Ok(())),
     (7, &[], Ok(())),
     (65536, &[], Ok(())),
@@ -19,17 +24,35 @@ const ROWS: [(usize, &[u64], Result<(), Ungiven>); 5] = [
     (7, &[200], Err(Ungiven::Failed)),
 ];
 
+// Whether a sink got the text, or the front of it where the giving did not end well.
+fn has_pieces(
+    rt: &impl Abort,
+    alloc: Global,
+    entries: &[Entry],
+    text: &[u8],
+    row: &Row,
+) -> Result<(), Memory> {
+    let (piece, fails, answer) = *row;
+    assert!(rt; piece >= 1);
+    let mut sink = MemSink::new(alloc, piece, fails)?;
+    are_same(rt, give_picture(alloc, entries, &mut sink), answer);
+    assert!(rt; text.starts_with(sink.bytes()));
+    are_same(rt, sink.bytes().len() == text.len(), answer.is_ok());
+    Ok(())
+}
+
+fn go_along(rt: &impl Abort, alloc: Global, entries: &[Entry], rows: &[Row]) -> Result<(), Memory> {
+    let text = print_picture(alloc, entries)?;
+    for row in rows {
+        has_pieces(rt, alloc, entries, &text, row)?;
+    }
+    Ok(())
+}
+
 #[test]
 fn a_sink_takes_pieces(rt: HostRuntime) -> Result<(), Fail> {
-    let alloc = rt.alloc();
-    let entries = read_trace(alloc, FIRST)?;
-    let text = print_picture(alloc, &entries)?;
-    for (piece, fails, answer) in ROWS {
-        let mut sink = MemSink::new(alloc, piece, fails)?;
-        assert_eq!(rt; give_picture(alloc, &entries, &mut sink), answer);
-        assert!(rt; text.starts_with(sink.bytes()));
-        assert_eq!(rt; sink.bytes().len() == text.len(), answer.is_ok());
-    }
+    let entries = read_trace(rt.alloc(), FIRST)?;
+    go_along(&rt, rt.alloc(), &entries, ROWS)?;
     Ok(())
 }
 
@@ -41,22 +64,16 @@ const ENTRY: Entry = Entry {
     },
 };
 
-// The calls that fail, and how many bytes were given before: of a long picture the first piece is given by the first call.
-const LONG: [(&[u64], Result<(), Ungiven>); 3] = [
-    (&[], Ok(())),
-    (&[1], Err(Ungiven::Failed)),
-    (&[2], Err(Ungiven::Failed)),
+// Of a long picture the first piece is given by the first call.
+const LONG: &[Row] = &[
+    (1 << 16, &[], Ok(())),
+    (1 << 16, &[1], Err(Ungiven::Failed)),
+    (1 << 16, &[2], Err(Ungiven::Failed)),
 ];
 
 #[test]
 fn a_long_picture_is_given_in_pieces(rt: HostRuntime) -> Result<(), Fail> {
-    let alloc = rt.alloc();
-    let entries = vec![in alloc; ENTRY; 2000]?;
-    let text = print_picture(alloc, &entries)?;
-    for (fails, answer) in LONG {
-        let mut sink = MemSink::new(alloc, 1 << 16, fails)?;
-        assert_eq!(rt; give_picture(alloc, &entries, &mut sink), answer);
-        assert!(rt; text.starts_with(sink.bytes()));
-    }
+    let entries = vec![in rt.alloc(); ENTRY; 2000]?;
+    go_along(&rt, rt.alloc(), &entries, LONG)?;
     Ok(())
 }

@@ -2,6 +2,7 @@
 
 use super::done::entry_of;
 use super::places::{P2, P8, RIGHT, SECS};
+use crate::same::are_same;
 use sgx_types::names::{Frame, Memory};
 use std::alloc::Global;
 use std::test::Fail;
@@ -60,9 +61,9 @@ const PLACES: &[(u64, Where)] = &[
 #[test]
 fn moves_stand_by_place(rt: HostRuntime) -> Result<(), Fail> {
     let known = pushed(rt.alloc())?;
-    assert_eq!(rt; known.len(), 13);
+    are_same(&rt, known.len(), 13);
     let moves = known.moves(rt.alloc(), P2)?;
-    assert_eq!(rt; moves.as_slice(), MOVES);
+    are_same(&rt, moves.as_slice(), MOVES);
     let none = known.moves(rt.alloc(), P8)?;
     assert!(rt; none.is_empty());
     Ok(())
@@ -71,11 +72,11 @@ fn moves_stand_by_place(rt: HostRuntime) -> Result<(), Fail> {
 #[test]
 fn a_page_is_where_its_last_move_led(rt: HostRuntime) -> Result<(), Fail> {
     let known = pushed(rt.alloc())?;
-    assert_eq!(rt; known.len(), 13);
+    are_same(&rt, known.len(), 13);
     for (n, there) in PLACES {
-        assert_eq!(rt; known.where_is(*n, P2), *there, "behind {n}");
+        are_same(&rt, (*n, known.where_is(*n, P2)), (*n, *there));
     }
-    assert_eq!(rt; known.where_is(11, SECS), Where::At(Frame(1)));
-    assert_eq!(rt; known.where_is(12, SECS), Where::Sealed { version: 9 });
+    are_same(&rt, known.where_is(11, SECS), Where::At(Frame(1)));
+    are_same(&rt, known.where_is(12, SECS), Where::Sealed { version: 9 });
     Ok(())
 }

@@ -1,6 +1,7 @@
 //! Where pages are behind each entry of lists that keep the rules and of one that keeps none.
 
 use super::done::{Done, entry_of};
+use crate::same::are_same;
 use sgx_types::names::{Frame, Page};
 use std::alloc::Global;
 use std::process::Abort;
@@ -166,11 +167,11 @@ fn a_push_needs_no_memory_that_was_taken(rt: HostRuntime) -> Result<(), Fail> {
     let entry = entry_of(Done::Add(4, P2));
     places.reserve(alloc, &entry)?;
     let pages = places.may_move(&entry);
-    assert_eq!(rt; pages.former, None);
-    assert_eq!(rt; pages.named, Some(P2));
-    assert_eq!(rt; places.where_is(P2), Where::Nowhere);
+    are_same(&rt, pages.former, None);
+    are_same(&rt, pages.named, Some(P2));
+    are_same(&rt, places.where_is(P2), Where::Nowhere);
     places.push_reserved(&entry);
-    assert_eq!(rt; places.where_is(P2), Where::At(Frame(4)));
-    assert_eq!(rt; places.where_is(P8), Where::Nowhere);
+    are_same(&rt, places.where_is(P2), Where::At(Frame(4)));
+    are_same(&rt, places.where_is(P8), Where::Nowhere);
     Ok(())
 }

@@ -1,6 +1,7 @@
 //! All questions to the trace of a small job, and again where a push was refused memory.
 
 use super::places::P2;
+use crate::same::are_same;
 use job_grammar::jobs::Job;
 use job_text::reader::read_job;
 use sgx_rules::entries::Entry;
@@ -70,7 +71,7 @@ fn words_are(rt: &impl Abort, index: &Index, most: u64) {
         for (n, word) in *words {
             if *n <= most {
                 assert!(rt; *k < 512);
-                assert_eq!(rt; index.word_at(*n, *page, *k), *word, "word {k} behind {n}");
+                are_same(rt, (*k, *n, index.word_at(*n, *page, *k)), (*k, *n, *word));
             }
         }
     }
@@ -88,9 +89,9 @@ const SEEN: &[(u64, Where, bool)] = &[
 fn is_seen(rt: &impl Abort, alloc: Global, index: &Index, most: u64) {
     for (n, there, cached) in SEEN {
         if *n <= most {
-            assert_eq!(rt; index.where_is(*n, P2), *there, "behind {n}");
+            are_same(rt, (*n, index.where_is(*n, P2)), (*n, *there));
             if let Ok(cpus) = index.who_caches(alloc, *n, P2) {
-                assert_eq!(rt; !cpus.is_empty(), *cached, "cached behind {n}");
+                are_same(rt, (*n, !cpus.is_empty()), (*n, *cached));
             }
         }
     }
@@ -100,7 +101,7 @@ fn is_seen(rt: &impl Abort, alloc: Global, index: &Index, most: u64) {
 fn push_all(rt: &impl Abort, alloc: Global, index: &mut Index, entries: &[Entry]) {
     for (place, entry) in entries.iter().enumerate() {
         if index.push(alloc, entry).is_err() {
-            assert_eq!(rt; index.len(), place as u64);
+            are_same(rt, index.len(), place as u64);
             words_are(rt, index, place as u64);
             is_seen(rt, alloc, index, place as u64);
             let again = index.push(alloc, entry);
@@ -114,6 +115,21 @@ pub(super) fn index_of(alloc: Global, job: &Job) -> Result<Box<Index>, Fail> {
     Ok(index)
 }
 
+// The same, by the questions one by one.
+fn is_asked(rt: &impl Abort, alloc: Global, index: &Index) -> Result<(), Fail> {
+    are_same(rt, index.len(), 13);
+    are_same(rt, index.where_is(13, P2), Where::At(Frame(4)));
+    are_same(rt, index.where_is(3, P2), Where::Nowhere);
+    let cpus = index.who_caches(alloc, 10, P2)?;
+    are_same(rt, cpus.as_slice(), [Cpu(0)].as_slice());
+    let none = index.who_caches(alloc, 12, P2)?;
+    assert!(rt; none.is_empty());
+    let moves = index.moves(alloc, P2)?;
+    assert!(rt; moves.len() == 1);
+    are_same(rt, moves[0].place, 4);
+    Ok(())
+}
+
 #[test]
 fn questions_are_answered_behind_each_entry(rt: HostRuntime) -> Result<(), Fail> {
     let alloc = rt.alloc();
@@ -121,17 +137,7 @@ fn questions_are_answered_behind_each_entry(rt: HostRuntime) -> Result<(), Fail>
     let entries = read_trace(alloc, TRACE)?;
     let mut index = index_of(alloc, &job)?;
     push_all(&rt, alloc, &mut index, &entries);
-    assert_eq!(rt; index.len(), 13);
     words_are(&rt, &index, u64::MAX);
     is_seen(&rt, alloc, &index, u64::MAX);
-    assert_eq!(rt; index.where_is(13, P2), Where::At(Frame(4)));
-    assert_eq!(rt; index.where_is(3, P2), Where::Nowhere);
-    let cpus = index.who_caches(alloc, 10, P2)?;
-    assert_eq!(rt; cpus.as_slice(), [Cpu(0)].as_slice());
-    let none = index.who_caches(alloc, 12, P2)?;
-    assert!(rt; none.is_empty());
-    let moves = index.moves(alloc, P2)?;
-    assert_eq!(rt; moves.len(), 1);
-    assert_eq!(rt; moves[0].place, 4);
-    Ok(())
+    is_asked(&rt, alloc, &index)
 }

@@ -106,7 +106,7 @@ type Taken = (usize, Result<usize, Failed>, &'static [u8], u64);
 /// A call that gives bytes, its answer, and how many calls have failed then.
 type Given<'a> = (&'a [u8], Result<usize, Failed>, u64);
 
-fn are_same(bytes: &[u8], others: &[u8]) -> bool {
+fn are_bytes(bytes: &[u8], others: &[u8]) -> bool {
     bytes == others
 }
 
@@ -115,7 +115,7 @@ fn takes<S: Source + Counted>(rt: &impl Abort, source: &mut S, into: &mut [u8], 
         assert!(rt; *at < into.len());
         let told = (source.take(&mut into[*at..]), source.faulty());
         assert_eq!(rt; told, (*answer, *faults));
-        assert!(rt; are_same(into, bytes));
+        assert!(rt; are_bytes(into, bytes));
     }
 }
 
@@ -202,7 +202,7 @@ const REST: &[Taken] = &[(0, Ok(3), b"fghe", 1), (0, Ok(0), b"fghe", 1)];
 fn gives_pieces(rt: &impl Abort, source: &mut MemSource) {
     let mut into = [0; 4];
     takes(rt, source, &mut into, PIECES);
-    assert_eq!(rt; source.left(), b"fgh".as_slice());
+    assert!(rt; are_bytes(source.left(), b"fgh"));
     takes(rt, source, &mut into, REST);
 }
 
@@ -223,7 +223,7 @@ const PARTS: &[Given] = &[
 fn memory_takes_pieces(rt: HostRuntime) -> Result<(), Fail> {
     let mut sink = MemSink::new(rt.alloc(), 3, &[2])?;
     gives(&rt, &mut sink, PARTS);
-    assert_eq!(rt; sink.bytes(), b"abcde".as_slice());
+    assert!(rt; are_bytes(sink.bytes(), b"abcde"));
     Ok(())
 }
 
@@ -239,7 +239,7 @@ fn is_filled(rt: &impl Abort, sink: &mut MemSink, most: &[u8]) {
     gives(rt, sink, &[(most, Ok(16_777_213), 0)]);
     gives(rt, sink, LAST);
     assert_eq!(rt; sink.bytes().len(), 16_777_216);
-    assert_eq!(rt; &sink.bytes()[16_777_212..], b"abcd".as_slice());
+    assert!(rt; are_bytes(&sink.bytes()[16_777_212..], b"abcd"));
 }
 
 #[test]
@@ -348,8 +348,8 @@ fn is_given(
     let mut sink = MemSink::new(alloc, piece, &[failing])?;
     let given = (give_all(&mut sink, TEXT), sink.faults());
     assert_eq!(rt; given, ends, "call {failing} fails");
-    assert_eq!(rt; give_all(&mut sink, b""), Ok(()));
-    assert_eq!(rt; sink.bytes(), &TEXT[..before.min(40)]);
+    assert!(rt; give_all(&mut sink, b"") == Ok(()));
+    assert!(rt; are_bytes(sink.bytes(), &TEXT[..before.min(40)]));
     Ok(())
 }
 

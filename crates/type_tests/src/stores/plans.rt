@@ -7,6 +7,7 @@ use super::bits::BITS;
 use super::failing::FAILING;
 use super::lies::LIES;
 use super::several::SEVERAL;
+use crate::same::are_same;
 use backing_store::backing::{Backing, StoreFault};
 use backing_store::calls::{GetAnswer, StoreCall};
 use backing_store::planned_store::PlannedStore;
@@ -122,12 +123,12 @@ fn play<B: Backing>(
     for (ask, comes) in asked.iter().zip(comes) {
         match *ask {
             AsksRoom(page) => {
-                assert_eq!(rt; room(alloc, store, page)?, *comes);
+                are_same(rt, room(alloc, store, page)?, *comes);
                 told.push(call(*ask, *comes))?;
             }
             Keeps(page) => {
                 let rec = record(alloc, number)?;
-                assert_eq!(rt; keep(alloc, store, page, &rec)?, *comes);
+                are_same(rt, keep(alloc, store, page, &rec)?, *comes);
                 told.push(call(AsksRoom(page), *comes))?;
                 if *comes != NoRoom {
                     told.push(call(*ask, *comes))?;
@@ -159,11 +160,11 @@ fn follow(rt: &impl Abort, alloc: Global, row: &Row) -> Result<(), Fail> {
     let mut store = Box::new(alloc, PlannedStore::new())?;
     store.plan(alloc, row.plans)?;
     let told = play(rt, alloc, &mut *store, row.asked, row.comes)?;
-    assert_eq!(rt; store.plans(), row.plans);
-    assert_eq!(rt; store.calls(), told.as_slice());
+    are_same(rt, store.plans(), row.plans);
+    are_same(rt, store.calls(), told.as_slice());
     let mut number = 1u64;
     for rec in store.puts() {
-        assert_eq!(rt; rec.header.enclave, number);
+        are_same(rt, rec.header.enclave, number);
         number = number.saturating_add(1);
     }
     Ok(())
@@ -182,10 +183,10 @@ fn bits_are_inverted_in_a_copy(rt: HostRuntime) -> Result<(), Fail> {
         };
         store.plan(alloc, &[line])?;
         let rec = record(alloc, 1)?;
-        assert_eq!(rt; keep(alloc, &mut *store, A, &rec)?, Kept);
+        are_same(&rt, keep(alloc, &mut *store, A, &rec)?, Kept);
         let mut bytes = got(&rt, alloc, &mut *store)?;
         assert!(rt; row.at < bytes.len());
-        assert_eq!(rt; bytes[row.at], row.is);
+        are_same(&rt, bytes[row.at], row.is);
         bytes[row.at] = row.was;
         assert!(rt; bytes == kept);
         assert!(rt; got(&rt, alloc, &mut *store)? == kept);

@@ -1,5 +1,6 @@
 //! Records that are kept for started loads.
 
+use crate::same::are_same;
 use active_list::kept_records::{KeptRecords, copy_record};
 use sgx_types::names::{Cpu, Memory, Page};
 use sgx_types::record::{Header, Record};
@@ -32,11 +33,11 @@ fn a_record_is_kept_until_it_is_forgotten(rt: HostRuntime) -> Result<(), Fail> {
     let mut kept = KeptRecords::new(rt.alloc(), 2)?;
     kept.keep(Cpu(1), PAGE, &rec);
     copy_record(&mut rec, &record(rt.alloc(), 2)?);
-    assert_eq!(rt; rec.tag, [2; 32]);
-    assert_eq!(rt; kept.kept_page(Cpu(1)), Some(PAGE));
-    assert_eq!(rt; kept.kept_page(Cpu(0)), None);
-    assert_eq!(rt; kept.kept(Cpu(1)).tag, [1; 32]);
+    are_same(&rt, rec.tag, [2; 32]);
+    are_same(&rt, kept.kept_page(Cpu(1)), Some(PAGE));
+    are_same(&rt, kept.kept_page(Cpu(0)), None);
+    are_same(&rt, kept.kept(Cpu(1)).tag, [1; 32]);
     kept.forget(Cpu(1));
-    assert_eq!(rt; kept.kept_page(Cpu(1)), None);
+    are_same(&rt, kept.kept_page(Cpu(1)), None);
     Ok(())
 }

@@ -1,5 +1,6 @@
 //! The states of pages.
 
+use crate::same::are_same;
 use active_list::page_states::{PageState, PageStates};
 use sgx_types::names::{Frame, Page, VaSlot};
 use std::test::Fail;
@@ -29,14 +30,14 @@ const SLOT: VaSlot = VaSlot { va: 0, index: 4 };
 #[test]
 fn a_page_keeps_its_state(rt: HostRuntime) -> Result<(), Fail> {
     let mut states = PageStates::new(rt.alloc(), &[3, 2], 2)?;
-    assert_eq!(rt; states.state(PAGE), PageState::Absent);
+    are_same(&rt, states.state(PAGE), PageState::Absent);
     states.set_state(PAGE, PageState::Leaving(Frame(4)));
-    assert_eq!(rt; states.state(PAGE), PageState::Leaving(Frame(4)));
-    assert_eq!(rt; states.state(OTHER), PageState::Absent);
+    are_same(&rt, states.state(PAGE), PageState::Leaving(Frame(4)));
+    are_same(&rt, states.state(OTHER), PageState::Absent);
     states.set_state(SECS, PageState::Here(Frame(5)));
     states.set_state(ARRAY, PageState::Away(SLOT));
-    assert_eq!(rt; states.state(SECS), PageState::Here(Frame(5)));
-    assert_eq!(rt; states.state(ARRAY), PageState::Away(SLOT));
-    assert_eq!(rt; states.state(PAGE), PageState::Leaving(Frame(4)));
+    are_same(&rt, states.state(SECS), PageState::Here(Frame(5)));
+    are_same(&rt, states.state(ARRAY), PageState::Away(SLOT));
+    are_same(&rt, states.state(PAGE), PageState::Leaving(Frame(4)));
     Ok(())
 }

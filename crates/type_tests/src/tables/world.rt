@@ -10,7 +10,7 @@ use std::marker::Model;
 use std::process::Abort;
 
 // What a test asks of a list.
-#[derive(Clone, Copy, Debug)]
+#[derive(Clone, Copy)]
 pub enum Ask {
     PushBack(Page),
     Head,

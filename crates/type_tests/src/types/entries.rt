@@ -1,5 +1,6 @@
 //! Entries, as a failed test shows them.
 
+use crate::same::are_same;
 use sgx_rules::entries::{Action, Answer, BusWhy, Entry, Event, Look};
 use sgx_rules::refusals::Refusal;
 use sgx_types::names::{Actor, Cpu, Frame, Page};
@@ -65,7 +66,7 @@ fn an_entry_prints_whole(rt: HostRuntime) -> Result<(), Fail> {
     ];
     for (entry, expected) in rows {
         let text = format!(in rt.alloc(); "{entry:?}")?;
-        assert_eq!(rt; text.as_str(), expected);
+        are_same(&rt, text.as_str(), expected);
     }
     Ok(())
 }

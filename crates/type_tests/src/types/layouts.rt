@@ -1,5 +1,6 @@
 //! SECINFO and TCS pages, as the manual lays them out.
 
+use crate::same::are_same;
 use sgx_types::layouts::{BadLength, TcsFields, flags, read_secinfo, read_tcs};
 use sgx_types::names::{Kind, Perm};
 use std::test::Fail;
@@ -29,9 +30,9 @@ fn flags_are_the_manuals(rt: HostRuntime) {
 fn flags_stand_first_in_secinfo(rt: HostRuntime) {
     let mut info = [0xff; 65];
     info[..8].copy_from_slice(&[3, 2, 0, 0, 0, 0, 0, 0x80]);
-    assert_eq!(rt; read_secinfo(&info[..64]), Ok(0x8000_0000_0000_0203));
+    are_same(&rt, read_secinfo(&info[..64]), Ok(0x8000_0000_0000_0203));
     for got in [0, 63, 65] {
-        assert_eq!(rt; read_secinfo(&info[..got]), Err(BadLength { got }));
+        are_same(&rt, read_secinfo(&info[..got]), Err(BadLength { got }));
     }
 }
 
@@ -51,10 +52,10 @@ fn a_tcs_page_has_its_fields(rt: HostRuntime) {
         cssa: 0x0400_0001,
         nssa: 0x0005_0010,
     };
-    assert_eq!(rt; read_tcs(&page), Ok(fields));
-    assert_eq!(rt; read_tcs(&page[1..]), Err(BadLength { got: 4095 }));
-    assert_eq!(rt; read_tcs(&[0; 4097]), Err(BadLength { got: 4097 }));
-    assert_eq!(rt; read_tcs(&[]), Err(BadLength { got: 0 }));
+    are_same(&rt, read_tcs(&page), Ok(fields));
+    are_same(&rt, read_tcs(&page[1..]), Err(BadLength { got: 4095 }));
+    are_same(&rt, read_tcs(&[0; 4097]), Err(BadLength { got: 4097 }));
+    are_same(&rt, read_tcs(&[]), Err(BadLength { got: 0 }));
 }
 
 #[test]

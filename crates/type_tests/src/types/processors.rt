@@ -1,5 +1,6 @@
 //! Processors and their translations.
 
+use crate::same::are_same;
 use cached_translations::cache::{Cache, Translation};
 use cached_translations::processor::{Mode, Processor};
 use sgx_types::names::{Frame, Perm};
@@ -24,30 +25,30 @@ fn the_sixty_fifth_drops_the_oldest(rt: HostRuntime) -> Result<(), Fail> {
     for number in 0..65 {
         cache.fill(translation(number, number + 100));
     }
-    assert_eq!(rt; cache.len(), 64);
-    assert_eq!(rt; cache.find(0), None);
-    assert_eq!(rt; cache.find(1), Some(translation(1, 101)));
-    assert_eq!(rt; cache.find(64), Some(translation(64, 164)));
+    are_same(&rt, cache.len(), 64);
+    are_same(&rt, cache.find(0), None);
+    are_same(&rt, cache.find(1), Some(translation(1, 101)));
+    are_same(&rt, cache.find(64), Some(translation(64, 164)));
 
     // Filling page 1 again changes nothing, so it is still the oldest.
     cache.fill(translation(1, 7));
-    assert_eq!(rt; cache.find(1), Some(translation(1, 101)));
+    are_same(&rt, cache.find(1), Some(translation(1, 101)));
     cache.fill(translation(65, 165));
-    assert_eq!(rt; cache.find(1), None);
-    assert_eq!(rt; cache.find(2), Some(translation(2, 102)));
+    are_same(&rt, cache.find(1), None);
+    are_same(&rt, cache.find(2), Some(translation(2, 102)));
 
     cache.clear();
-    assert_eq!(rt; cache.len(), 0);
-    assert_eq!(rt; cache.find(64), None);
+    are_same(&rt, cache.len(), 0);
+    are_same(&rt, cache.find(64), None);
     Ok(())
 }
 
 #[test]
 fn a_processor_starts_outside(rt: HostRuntime) -> Result<(), Fail> {
     let cpu = Processor::new(rt.alloc())?;
-    assert_eq!(rt; cpu.mode, Mode::Outside);
+    are_same(&rt, cpu.mode, Mode::Outside);
     assert!(rt; !cpu.mode.is_inside());
-    assert_eq!(rt; cpu.acc, 0);
+    are_same(&rt, cpu.acc, 0);
     assert!(rt; cpu.cache.is_empty());
     Ok(())
 }

@@ -1,5 +1,6 @@
 //! Sealed records and their bytes.
 
+use crate::same::are_same;
 use sgx_types::record::{Header, Record, RecordFault};
 use std::alloc::{AllocError, Global};
 use std::process::Abort;
@@ -37,14 +38,14 @@ fn a_record_is_its_bytes(rt: HostRuntime) -> Result<(), Fail> {
     let header = [
         1, 0, 0, 0, 0, 0, 0, 0, 0, 0x20, 1, 0, 0, 0, 0, 0, 3, 2, 0, 0, 0, 0, 0, 0,
     ];
-    assert_eq!(rt; bytes.len(), 4152);
+    are_same(&rt, bytes.len(), 4152);
     assert!(rt; bytes.starts_with(&header));
     assert!(rt; bytes[24..4120].iter().all(|byte| *byte == 0xa5));
     assert!(rt; bytes[4120..].iter().all(|byte| *byte == 7));
     let same = Record::from_bytes(rt.alloc(), &bytes)?;
-    assert_eq!(rt; same.header, record(rt.alloc())?.header);
+    are_same(&rt, same.header, record(rt.alloc())?.header);
     assert!(rt; same.cipher.iter().all(|byte| *byte == 0xa5));
-    assert_eq!(rt; same.tag, [7; 32]);
+    are_same(&rt, same.tag, [7; 32]);
     Ok(())
 }
 
@@ -59,7 +60,7 @@ fn another_number_of_bytes_is_no_record(rt: HostRuntime) -> Result<(), Fail> {
     let bytes = [0; 4153];
     for got in [0, 24, 4151, 4153] {
         let fault = fault_of(&rt, rt.alloc(), &bytes[..got]);
-        assert_eq!(rt; fault, RecordFault::BadLength { got });
+        are_same(&rt, fault, RecordFault::BadLength { got });
     }
     Ok(())
 }

@@ -1,4 +1,0 @@
-//! Tests of the instructions that move pages.
-
-mod evictions;
-mod perms;
