@@ -4,8 +4,9 @@ use crate::help::HELP;
 use crate::status::Status;
 use std::io::{self, Eprint};
 
-/// Why a command was not carried out: one line, or the text on the commands where the words are none; with the path of the trace where that is what could not be read or written. Nothing
-/// is told where the output and the status tell all: of a run that came to its end, of a verdict, and of a job that is none.
+/// Why a command was not carried out: one line, or the text on the commands where the words are none; with the path of the trace where
+/// that is what could not be read or written. Nothing is told where the output and the status tell all: of a run that came to its end, of a
+/// verdict, and of a job that is none.
 pub fn complain(to: &impl Eprint, status: Status, failed: Option<&str>) -> io::Result<()> {
     match (status, failed) {
         (Status::BadWords, _) => eprint!(to; "{HELP}"),
