@@ -17,14 +17,14 @@ pub struct PageCounts {
 }
 
 // A page, as the key of a map.
-#[derive(Clone, Copy, Debug, PartialEq, Eq, Hash)]
+#[derive(Clone, Copy, PartialEq, Eq, Hash)]
 struct PageKey {
     enclave: u16,
     number: u32,
 }
 
 // The `nth` put of a page that did not fail, counted from 1.
-#[derive(Clone, Copy, Debug, PartialEq, Eq, Hash)]
+#[derive(Clone, Copy, PartialEq, Eq, Hash)]
 struct PutKey {
     page: PageKey,
     nth: u64,

@@ -9,7 +9,7 @@ use crate::sources::Source;
 use std::marker::Model;
 
 /// A source that fails at every call, in the place of a file that could not be opened.
-#[derive(Debug, Default, Drop)]
+#[derive(Default, Drop)]
 pub struct FailedSource {
     faults: u64,
 }
@@ -56,7 +56,7 @@ impl Source for FailedSource {
 }
 
 /// A sink that fails at every call, in the place of a file that could not be made.
-#[derive(Debug, Default, Drop)]
+#[derive(Default, Drop)]
 pub struct FailedSink {
     faults: u64,
 }

@@ -13,7 +13,7 @@ use std::marker::Model;
 pub const CAPACITY: usize = 1 << 24;
 
 /// A sink over memory, which takes bytes in pieces and fails at chosen calls and where it is full.
-#[derive(Debug, Drop)]
+#[derive(Drop)]
 pub struct MemSink {
     bytes: Vec<u8>,
     piece: usize,

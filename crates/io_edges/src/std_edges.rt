@@ -11,7 +11,7 @@ use std::marker::Model;
 
 /// A source over a reader of the system. It doesn't tell what the reader has. Each error of the reader is a fault, an
 /// interruption too.
-#[derive(Debug, Drop)]
+#[derive(Drop)]
 pub struct StdSource<R> {
     reader: R,
     faults: u64,
@@ -68,7 +68,7 @@ impl<R: Read> Source for StdSource<R> {
 /// A sink over a writer of the system. It doesn't tell what the writer was given. Each error of the writer is a fault,
 /// an interruption too, and so is a call that takes no byte. Hand in a writer that holds nothing back: a fault that
 /// comes when a buffer is emptied later is not seen here.
-#[derive(Debug, Drop)]
+#[derive(Drop)]
 pub struct StdSink<W> {
     writer: W,
     faults: u64,

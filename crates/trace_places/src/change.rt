@@ -9,7 +9,7 @@ use sgx_rules::entries::{Action, Answer, Event};
 use sgx_types::names::{Frame, Page};
 
 /// The page that a frame has, or the page that it awaits.
-#[derive(Clone, Copy, Debug, PartialEq, Eq)]
+#[derive(Clone, Copy, PartialEq, Eq)]
 pub enum Tenant {
     Has(Page),
     Awaits(Page),
@@ -27,14 +27,14 @@ impl Tenant {
 }
 
 /// A page that went out, and the version under which it is sealed.
-#[derive(Clone, Copy, Debug, PartialEq, Eq)]
+#[derive(Clone, Copy, PartialEq, Eq)]
 pub struct Gone {
     pub page: Page,
     pub version: u64,
 }
 
 /// A frame has a tenant from now on, or nobody's page; in that case a page may have gone out.
-#[derive(Clone, Copy, Debug, PartialEq, Eq)]
+#[derive(Clone, Copy, PartialEq, Eq)]
 pub enum Change {
     Puts { frame: Frame, tenant: Tenant },
     Empties { frame: Frame, gone: Option<Gone> },

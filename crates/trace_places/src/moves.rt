@@ -31,7 +31,7 @@ pub struct Moves {
 }
 
 /// The pages that an entry may move: the one that its frame has or awaits, and the one that it names, if that is another one.
-#[derive(Clone, Copy, Debug, PartialEq, Eq)]
+#[derive(Clone, Copy, PartialEq, Eq)]
 pub struct MayMove {
     pub former: Option<Page>,
     pub named: Option<Page>,
