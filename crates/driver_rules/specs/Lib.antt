@@ -3,6 +3,7 @@ pub mod Needs
 pub mod Targets
 pub mod Holds
 pub mod Passes
+pub mod Spent
 pub mod Stops
 pub mod Spares
 pub mod Dues

@@ -12,7 +12,7 @@ use Rattle.run_history.specs.Given.{UnforgedRun}
 use Rattle.run_history.specs.Histories.{History}
 use Rattle.run_history.specs.Honest.{IsHonest}
 use Rattle.run_history.specs.Stored.{PutsAreFlat, StoreTrue}
-use Rattle.run_turns.specs.Spent.{SpentRule}
+use Rattle.driver_rules.specs.Spent.{SpentRule}
 use Rattle.run_jobs.specs.Ends.{IsEndOf}
 use Rattle.run_jobs.specs.declared.ends.End.{End}
 use Rattle.run_jobs.specs.declared.ends.End.TheVariants as ends

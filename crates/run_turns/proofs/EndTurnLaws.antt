@@ -41,7 +41,7 @@ use Rattle.run_records.proofs.PassRecords.{out_flat, out_told}
 use Rattle.turn_tables.specs.inner.Noting.{with_kick}
 use Rattle.turn_tables.specs.inner.Entries.{EntersApart}
 use Rattle.run_turns.specs.declared.course.Course.{Course}
-use Rattle.run_turns.specs.Spent.{IsUsedUp}
+use Rattle.driver_rules.specs.Spent.{IsUsedUp}
 use Rattle.run_turns.specs.inner.Courses.{KeepsCourse, has_open_load, past_of}
 use Rattle.run_turns.specs.inner.Passing.{IsOwnEntry}
 use Rattle.run_turns.proofs.CalmLaws.{beside_calm}

@@ -45,7 +45,7 @@ use Rattle.run_records.specs.inner.Honest.{StaysHonest}
 use Rattle.reclaim_worker.proofs.ReadyLaws.{can_step}
 use Rattle.turn_tables.specs.declared.cpu_turns.CpuTurn.{CpuTurn}
 use Rattle.turn_tables.specs.inner.Noting.{with_kick}
-use Rattle.run_turns.specs.Spent.{IsUsedUp}
+use Rattle.driver_rules.specs.Spent.{IsUsedUp}
 use Rattle.run_turns.specs.declared.course.Course.{Course}
 use Rattle.run_turns.specs.inner.Courses.{KeepsCourse, has_open_load, past_of}
 use Rattle.run_turns.specs.inner.Passing.{FollowsBy, IsOwnEntry, IsOwnKicks}

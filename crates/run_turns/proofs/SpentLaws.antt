@@ -36,7 +36,7 @@ use Rattle.reclaim_worker.specs.inner.Answers.{IsTryOut, IsTurn, by_reclaimer, s
 use Rattle.run_book.specs.inner.Turns.{OfEntry}
 use Rattle.table_notes.proofs.EntryLaws.{IsEntryOf, entry_by, is_init}
 use Rattle.table_notes.specs.inner.Plain.{is_plain}
-use Rattle.run_turns.specs.Spent.{IsUsedUp}
+use Rattle.driver_rules.specs.Spent.{IsUsedUp}
 
 -- ---- rows that tell of no last number
 

@@ -23,7 +23,7 @@ use Rattle.table_notes.specs.inner.Arrays.{HasAsMany, KeepsArrays}
 use Rattle.table_notes.proofs.ArrayLaws.{arrays_in_pass}
 use Rattle.turn_tables.specs.inner.Holding.{mode_of}
 use Rattle.turn_tables.specs.inner.Noting.{with_kick}
-use Rattle.run_turns.specs.Spent.{IsUsedUp}
+use Rattle.driver_rules.specs.Spent.{IsUsedUp}
 use Rattle.run_turns.specs.declared.course.Course.{Course}
 use Rattle.run_turns.specs.inner.Courses.{KeepsCourse, has_open_load, past_of}
 use Rattle.run_turns.specs.inner.Passing.{IsOwnEntry}

@@ -1,2 +1,1 @@
-pub mod Spent
 pub mod inner

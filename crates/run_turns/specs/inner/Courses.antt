@@ -19,7 +19,7 @@ use Rattle.turn_tables.specs.inner.Ending.{EndsAreTold, NoneFails}
 use Rattle.table_notes.specs.inner.Arrays.{KeepsArrays}
 use Rattle.run_book.specs.inner.Books.{KeepsBook}
 use Rattle.run_turns.specs.declared.course.Course.{Course}
-use Rattle.run_turns.specs.Spent.{SpentRule}
+use Rattle.driver_rules.specs.Spent.{SpentRule}
 
 -- the entries so far, the newest first
 abbrev pub past_of : Course → List Entry

@@ -31,7 +31,7 @@ use Rattle.run_history.specs.inner.Histories.{GoesOn}
 use Rattle.run_history.specs.Honest.{IsHonest}
 use Rattle.run_history.specs.Stored.{PutsAreFlat, StoreTrue}
 use Rattle.run_book.specs.Lost.{AllCameBack}
-use Rattle.run_turns.specs.Spent.{SpentRule}
+use Rattle.driver_rules.specs.Spent.{SpentRule}
 use Rattle.run_turns.specs.declared.turn.Turn.{Turn}
 use Rattle.run_turns.specs.declared.turn.Turn.TheVariants as turns
 use Rattle.run_turns.specs.inner.Courses.{KeepsKicks}
