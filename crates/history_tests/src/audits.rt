@@ -1,29 +1,12 @@
-// Audits given traces, each right or wrong. Says of each right trace that it is a history of its job, and of its wrong ones that each
-// fails first at the place, and by the rule, that is told of it. Checks them by the processor's rules alone too, and traces of another driver,
-// of which nothing else is told.
-#![tactic(auto)]
+//! Given traces, right and wrong, that are judged.
 
-mod comparing;
-mod verdicts;
-mod wrong;
+use crate::comparing::{Finding, Report, checked, compare};
+use crate::read;
+use crate::verdicts::Shown;
+use std::io;
 
-use comparing::{Finding, Report, checked, compare};
-use std::{env, fs, io};
-use verdicts::Shown;
-
-fn main(rt: HostRuntime) -> io::Result<()> {
-    for name in env::args(&rt)?.skip(1) {
-        if name.starts_with("linux-") {
-            tell_checked(&rt, name.as_str())?;
-        } else {
-            tell(&rt, name.as_str())?;
-        }
-    }
-    Ok(())
-}
-
-// Audits the traces of that name.
-fn tell(rt: &HostRuntime, name: &str) -> io::Result<()> {
+/// Audits the traces of that name.
+pub fn tell_audited(rt: &HostRuntime, name: &str) -> io::Result<()> {
     let job = read(rt, name, ".job")?;
     let trace = read(rt, name, ".trace")?;
     let wrong = read(rt, name, ".wrong")?;
@@ -34,8 +17,8 @@ fn tell(rt: &HostRuntime, name: &str) -> io::Result<()> {
     }
 }
 
-// Checks the trace of that name, which Linux's driver made.
-fn tell_checked(rt: &HostRuntime, name: &str) -> io::Result<()> {
+/// Checks the trace of that name, which Linux's driver made.
+pub fn tell_checked(rt: &HostRuntime, name: &str) -> io::Result<()> {
     let job = read(rt, name, ".job")?;
     let trace = read(rt, name, ".trace")?;
     let told = read(rt, name, ".told")?;
@@ -55,12 +38,6 @@ fn tell_checked(rt: &HostRuntime, name: &str) -> io::Result<()> {
         Ok(None) => println!(rt; "{name}: no job, no trace, or nothing told"),
         Err(_) => println!(rt; "{name}: no memory"),
     }
-}
-
-// A file of this name.
-fn read(rt: &HostRuntime, name: &str, end: &str) -> io::Result<Vec<u8>> {
-    let path = format!(in rt.alloc(); "{name}{end}")?;
-    fs::read(rt, path.as_str())
 }
 
 fn print(rt: &HostRuntime, name: &str, report: &Report) -> io::Result<()> {

@@ -1,74 +1,33 @@
-// Runs jobs by rounds of turns on one book each, over a store that does what the job plans, and prints their traces. Behind `zeros` the
-// work between starts and their ends is done over zeros, and the trace is the same. Behind `ends` is only told how the run ended. Behind
-// `plays` given traces are played: their entries say who is next, and each has to be what is made. It is told how many of the entries are
-// made so, and whether the calls of the store are those that are given. All that is expected was made by the reference program, a plain,
-// unverified one with the same command line.
-#![tactic(auto)]
+//! Jobs that are run by rounds of turns on one book each, and traces that are played on a book turn by turn.
 
-mod calls;
-mod playing;
-mod turning;
-
+use crate::calls::print_calls;
+use crate::playing::play;
+use crate::read;
+use crate::turning::{Work, run};
 use backing_store::planned_store::PlannedStore;
-use calls::print_calls;
 use job_text::reader::read_job;
-use playing::play;
 use run_jobs::ends::{End, end_of};
 use run_turns::book::Book;
 use sgx_rules::entries::Entry;
 use sgx_types::names::Memory;
 use std::alloc::Global;
-use std::{env, fs, io};
+use std::io;
 use trace_reader::reader::read_trace;
 use trace_text::trace::print_trace;
-use turning::{Work, run};
 
-fn main(rt: HostRuntime) -> io::Result<()> {
-    let mut way = Way::Traces(Work::Given);
-    for name in env::args(&rt)?.skip(1) {
-        way = tell(&rt, name.as_str(), way)?;
-    }
-    Ok(())
+/// Prints the trace of the job of a name, where the work is done so.
+pub fn tell_trace(rt: &HostRuntime, name: &str, how: Work) -> io::Result<()> {
+    print_trace_of(rt, name, book_of(rt, name, how)?)
 }
 
-// What is told of each job or trace.
-#[derive(Clone, Copy)]
-enum Way {
-    /// The trace, where the work is done so.
-    Traces(Work),
-
-    /// How the run ends.
-    Ends,
-
-    /// How much of a trace is made.
-    Plays,
+/// Says how the run of the job of a name ends.
+pub fn tell_end(rt: &HostRuntime, name: &str) -> io::Result<()> {
+    print_end(rt, name, book_of(rt, name, Work::Given)?)
 }
 
-// Tells of the job or the trace of that name, unless it is the name of a way. The way in which the next is told.
-fn tell(rt: &HostRuntime, name: &str, way: Way) -> io::Result<Way> {
-    match name {
-        "zeros" => Ok(Way::Traces(Work::Zeros)),
-        "ends" => Ok(Way::Ends),
-        "plays" => Ok(Way::Plays),
-        _ => {
-            tell_by(rt, name, way)?;
-            Ok(way)
-        }
-    }
-}
-
-fn tell_by(rt: &HostRuntime, name: &str, way: Way) -> io::Result<()> {
-    match way {
-        Way::Traces(how) => print_trace_of(rt, name, book_of(rt, name, how)?),
-        Way::Ends => print_end(rt, name, book_of(rt, name, Work::Given)?),
-        Way::Plays => print_told(rt, name, told_of(rt, name)?),
-    }
-}
-
-// A file of this name.
-fn read(rt: &HostRuntime, name: &str, end: &str) -> io::Result<Vec<u8>> {
-    let path = format!(in rt.alloc(); "{name}{end}")?;
-    fs::read(rt, path.as_str())
+/// Says how much is made of the trace of a name.
+pub fn tell_played(rt: &HostRuntime, name: &str) -> io::Result<()> {
+    print_told(rt, name, told_of(rt, name)?)
 }
 
 // ---- runs by rounds
