@@ -1,6 +1,25 @@
-// Tests of what the instructions stand on: frames, enclaves, slots, logs and seals; and of blocks, tracks, write-outs and reloads, over a
-// world of their own, by rows of constants.
+// Tests of the parts on which machine and driver stand: of types and layouts, of the edges where bytes come in and go out, of frames,
+// enclaves and slots, of the driver's tables, and of logs and seals against other programs. What the instructions make of these parts is
+// tested of the machine.
 #![tactic(auto)]
 
 #[cfg(test)]
-mod tests;
+mod edges;
+#[cfg(test)]
+mod enclaves;
+#[cfg(test)]
+mod frames;
+#[cfg(test)]
+mod logs;
+#[cfg(test)]
+mod pages;
+#[cfg(test)]
+mod same;
+#[cfg(test)]
+mod seals;
+#[cfg(test)]
+mod slots;
+#[cfg(test)]
+mod tables;
+#[cfg(test)]
+mod types;

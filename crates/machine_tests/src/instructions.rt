@@ -1,6 +1,0 @@
-//! Tests of the instructions that move no page.
-
-mod accesses;
-mod builds;
-mod entries;
-mod perms;

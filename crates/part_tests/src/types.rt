@@ -1,0 +1,7 @@
+//! Tests of names, entries, layouts and records.
+
+mod entries;
+mod layouts;
+mod names;
+mod records;
+mod refusals;

@@ -1,3 +1,0 @@
-//! Tests of sources and sinks.
-
-mod edges;
