@@ -1,4 +1,5 @@
 pub mod Runs
 pub mod Traces
 pub mod Commands
+pub mod Says
 pub mod inner

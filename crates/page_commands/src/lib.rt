@@ -16,4 +16,5 @@ mod migrate;
 mod picture;
 mod running;
 pub mod status;
+mod telling;
 mod traces;
