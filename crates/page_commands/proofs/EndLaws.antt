@@ -206,3 +206,12 @@ telling_ends tellings.Least j past status text said = inl said.0
 telling_ends (tellings.Judge rules) j past status text (verdicts.Yes, judged, is, told) = inl is
 telling_ends (tellings.Judge rules) j past status text (verdicts.No place rule, judged, is, told) = inr is
 telling_ends (tellings.Ask question) j past status text said = inl said.0
+
+-- ---- a trace alone
+
+pub trace_none : (left : Option (List ℕ)) (edition : Edition) (Said : List Entry → Status → List ℕ → Type 0) (status : Status)
+    (out out' : Option (List ℕ)) → OfRead left (λ bytes. Ends (OfTrace edition bytes (λ past status text. ⊥)) status out out')
+    → OfRead left (λ bytes. Ends (OfTrace edition bytes Said) status out out')
+trace_none left edition Said status out out' (bytes, is, ends) =
+    (bytes, is, ends_map (OfTrace edition bytes (λ past status text. ⊥)) (OfTrace edition bytes Said)
+    (trace_map edition bytes (λ past status text. ⊥) Said (λ past status text none. absurd none)) status out out' ends)

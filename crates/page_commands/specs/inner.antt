@@ -1,3 +1,4 @@
 pub mod Runs
 pub mod Commands
 pub mod Tells
+pub mod Shows

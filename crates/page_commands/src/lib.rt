@@ -16,5 +16,6 @@ mod migrate;
 mod picture;
 mod running;
 pub mod status;
+mod showing;
 mod telling;
 mod traces;
