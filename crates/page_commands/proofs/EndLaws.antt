@@ -1,6 +1,8 @@
 -- How commands end by what they say.
 use Rattle.std.proofs.Common.{◌≡◌, ◌⊎◌, ℕ, List, [], Option, Some, None, Ok, Err, reverse, refl, sym, subst, inl, inr}
+use Rattle.std.specs.Prelude.{IfSome}
 use Rattle.audit_command.specs.Verdict.TheVariants as verdicts
+use Rattle.command_words.specs.declared.command.Command.{Command}
 use Rattle.io_edges.specs.Sinks.{followed_by, GivesPart}
 use Rattle.job_grammar.specs.Jobs.{JobView}
 use Rattle.job_text.specs.Reading.{read}
@@ -14,11 +16,11 @@ use Rattle.page_commands.specs.declared.jobs.Unread.TheVariants as unread
 use Rattle.page_commands.specs.declared.status.Status.{Status}
 use Rattle.page_commands.specs.declared.status.Status.TheVariants as statuses
 use Rattle.page_commands.specs.Runs.{HasJob, fault_line}
-use Rattle.page_commands.specs.Says.{Ends, OfBoth, OfJob, OfTrace}
+use Rattle.page_commands.specs.Says.{Ends, Is, OfBoth, OfJob, OfTrace, Tells}
+use Rattle.page_commands.specs.inner.Commands.{IsTextGiven}
 use Rattle.page_commands.specs.inner.Runs.{IsFaultAnd, IsFaultOf}
-use Rattle.page_commands.specs.inner.Tells.{Tells}
-use Rattle.page_commands.specs.declared.telling.Telling.{Telling}
-use Rattle.page_commands.specs.declared.telling.Telling.TheVariants as tellings
+use Rattle.command_words.specs.declared.telling.Telling.{Telling}
+use Rattle.command_words.specs.declared.telling.Telling.TheVariants as tellings
 
 -- ---- bytes
 
@@ -95,18 +97,30 @@ pub no_job : (left old_left : Option (List ℕ)) (Same : Type 0) (why : Unread) 
     → Ends (λ status text. (status ≡ statuses.BadJob) × IsFaultAnd why (λ fault. text ≡ fault_line fault)) status out out'
     → OfRead left (λ bytes. (HasJob bytes ⊎ Same) × OfRead old_left (λ old_bytes. Ends (OfBoth bytes old_bytes Said) status out out'))
 no_job left old_left Same (unread.Bad fault) Said status out out' same (bytes, is, spelt) ends =
-    let Line : Status → List ℕ → Type 0 = λ s text. (s ≡ statuses.BadJob) × (text ≡ fault_line fault) in
-    (bytes, is, (inr same, some_read old_left _ (λ old_bytes.
-    ends_map Line (OfBoth bytes old_bytes Said) (λ s text said.
-    subst (λ (s : Status). OfBoth bytes old_bytes Said s text) (sym said.0) (fault, spelt, said.1)) status out out' ends)))
+    let Line : Status → List ℕ → Type 0 = λ s text. (s ≡ statuses.BadJob) × (text ≡ fault_line fault) in (
+      bytes,
+      is,
+      (
+        inr same,
+        some_read old_left _ (λ old_bytes.
+            ends_map Line (OfBoth bytes old_bytes Said) (λ s text said.
+            subst (λ (s : Status). OfBoth bytes old_bytes Said s text) (sym said.0) (fault, spelt, said.1)) status out out' ends),
+      ),
+    )
 no_job left old_left Same unread.Failed Said status out out' same fault ends =
     let None : Status → List ℕ → Type 0 = λ s text. (s ≡ statuses.BadJob) × ⊥ in
-    some_read left _ (λ bytes. (inr same, some_read old_left _ (λ old_bytes.
-    ends_map None (OfBoth bytes old_bytes Said) (λ s text said. absurd said.1) status out out' ends)))
+    some_read left _ (λ bytes. (
+      inr same,
+      some_read old_left _ (λ old_bytes.
+          ends_map None (OfBoth bytes old_bytes Said) (λ s text said. absurd said.1) status out out' ends),
+    ))
 no_job left old_left Same unread.Memory Said status out out' same fault ends =
     let None : Status → List ℕ → Type 0 = λ s text. (s ≡ statuses.BadJob) × ⊥ in
-    some_read left _ (λ bytes. (inr same, some_read old_left _ (λ old_bytes.
-    ends_map None (OfBoth bytes old_bytes Said) (λ s text said. absurd said.1) status out out' ends)))
+    some_read left _ (λ bytes. (
+      inr same,
+      some_read old_left _ (λ old_bytes.
+          ends_map None (OfBoth bytes old_bytes Said) (λ s text said. absurd said.1) status out out' ends),
+    ))
 
 -- behind a job, what is said of a trace is said of both. Nothing else is said with the status of a job that is none
 pub of_trace : (bytes old_bytes : List ℕ) (j : JobView) (Said : JobView → List Entry → Status → List ℕ → Type 0) → read bytes ≡ Ok j
@@ -129,10 +143,19 @@ pub job_no_trace : (left old_left : Option (List ℕ)) (Same : Type 0) (j : JobV
     → OfRead old_left (λ old_bytes. Ends (OfTrace editions.Two old_bytes (λ past status text. ⊥)) status out out')
     → OfRead left (λ bytes. (HasJob bytes ⊎ Same)
     × OfRead old_left (λ old_bytes. Ends (OfBoth bytes old_bytes (λ j past status text. ⊥)) status out out'))
-job_no_trace left old_left Same j status out out' (bytes, is, spelt) (old_bytes, old_is, ends) =
-    (bytes, is, (inl (j, spelt), (old_bytes, old_is,
-    ends_map (OfTrace editions.Two old_bytes (λ past status text. ⊥)) (OfBoth bytes old_bytes (λ j past status text. ⊥))
-    (of_trace bytes old_bytes j (λ j past status text. ⊥) spelt (λ past text said. said)) status out out' ends)))
+job_no_trace left old_left Same j status out out' (bytes, is, spelt) (old_bytes, old_is, ends) = (
+  bytes,
+  is,
+  (
+    inl (j, spelt),
+    (
+      old_bytes,
+      old_is,
+      ends_map (OfTrace editions.Two old_bytes (λ past status text. ⊥)) (OfBoth bytes old_bytes (λ j past status text. ⊥))
+          (of_trace bytes old_bytes j (λ j past status text. ⊥) spelt (λ past text said. said)) status out out' ends,
+    ),
+  ),
+)
 
 -- ---- texts that are some
 
@@ -161,10 +184,19 @@ pub both_told : (left old_left : Option (List ℕ)) (Same : Type 0) (j : JobView
     → OfRead old_left (λ bytes. Reads editions.Two bytes (Ok entries)) → Said j (reverse entries) status text
     → out' ≡ followed_by out text
     → OfRead left (λ bytes. (HasJob bytes ⊎ Same) × OfRead old_left (λ old_bytes. Ends (OfBoth bytes old_bytes Said) status out out'))
-both_told left old_left Same j entries Said status text out out' kind (bytes, is, spelt) (old_bytes, old_is, reads) said got =
-    (bytes, is, (inl (j, spelt), (old_bytes, old_is,
-    ends_told (OfBoth bytes old_bytes Said) status text out out' kind
-    (said_of bytes old_bytes j entries Said status text kind spelt reads said) got)))
+both_told left old_left Same j entries Said status text out out' kind (bytes, is, spelt) (old_bytes, old_is, reads) said got = (
+  bytes,
+  is,
+  (
+    inl (j, spelt),
+    (
+      old_bytes,
+      old_is,
+      ends_told (OfBoth bytes old_bytes Said) status text out out' kind
+          (said_of bytes old_bytes j entries Said status text kind spelt reads said) got,
+    ),
+  ),
+)
 
 -- .. or a front of it
 pub both_broke : (left old_left : Option (List ℕ)) (Same : Type 0) (j : JobView) (entries : List Entry)
@@ -174,9 +206,18 @@ pub both_broke : (left old_left : Option (List ℕ)) (Same : Type 0) (j : JobVie
     → GivesPart out out' text
     → OfRead left (λ bytes. (HasJob bytes ⊎ Same)
     × OfRead old_left (λ old_bytes. Ends (OfBoth bytes old_bytes Said) statuses.WriteFault out out'))
-both_broke left old_left Same j entries Said status text out out' kind (bytes, is, spelt) (old_bytes, old_is, reads) said part =
-    (bytes, is, (inl (j, spelt), (old_bytes, old_is,
-    (status, text, said_of bytes old_bytes j entries Said status text kind spelt reads said, part))))
+both_broke left old_left Same j entries Said status text out out' kind (bytes, is, spelt) (old_bytes, old_is, reads) said part = (
+  bytes,
+  is,
+  (
+    inl (j, spelt),
+    (
+      old_bytes,
+      old_is,
+      (status, text, said_of bytes old_bytes j entries Said status text kind spelt reads said, part),
+    ),
+  ),
+)
 
 -- nothing was said
 pub both_silent : (left old_left : Option (List ℕ)) (Same : Type 0) (j : JobView) (Said : JobView → List Entry → Status → List ℕ → Type 0)
@@ -192,10 +233,19 @@ pub none_told : (left old_left : Option (List ℕ)) (Same : Type 0) (Said : JobV
     → OfRead left (λ bytes. (HasJob bytes ⊎ Same)
     × OfRead old_left (λ old_bytes. Ends (OfBoth bytes old_bytes (λ j past status text. ⊥)) status out out'))
     → OfRead left (λ bytes. (HasJob bytes ⊎ Same) × OfRead old_left (λ old_bytes. Ends (OfBoth bytes old_bytes Said) status out out'))
-none_told left old_left Same Said status out out' (bytes, is, (job, (old_bytes, old_is, ends))) =
-    (bytes, is, (job, (old_bytes, old_is,
-    ends_map (OfBoth bytes old_bytes (λ j past status text. ⊥)) (OfBoth bytes old_bytes Said)
-    (both_map bytes old_bytes (λ j past status text. ⊥) Said (λ j past status text none. absurd none)) status out out' ends)))
+none_told left old_left Same Said status out out' (bytes, is, (job, (old_bytes, old_is, ends))) = (
+  bytes,
+  is,
+  (
+    job,
+    (
+      old_bytes,
+      old_is,
+      ends_map (OfBoth bytes old_bytes (λ j past status text. ⊥)) (OfBoth bytes old_bytes Said)
+          (both_map bytes old_bytes (λ j past status text. ⊥) Said (λ j past status text none. absurd none)) status out out' ends,
+    ),
+  ),
+)
 
 -- ---- what is asked of both
 
@@ -212,6 +262,42 @@ telling_ends (tellings.Ask question) j past status text said = inl said.0
 pub trace_none : (left : Option (List ℕ)) (edition : Edition) (Said : List Entry → Status → List ℕ → Type 0) (status : Status)
     (out out' : Option (List ℕ)) → OfRead left (λ bytes. Ends (OfTrace edition bytes (λ past status text. ⊥)) status out out')
     → OfRead left (λ bytes. Ends (OfTrace edition bytes Said) status out out')
-trace_none left edition Said status out out' (bytes, is, ends) =
-    (bytes, is, ends_map (OfTrace edition bytes (λ past status text. ⊥)) (OfTrace edition bytes Said)
-    (trace_map edition bytes (λ past status text. ⊥) Said (λ past status text none. absurd none)) status out out' ends)
+trace_none left edition Said status out out' (bytes, is, ends) = (
+  bytes,
+  is,
+  ends_map (OfTrace edition bytes (λ past status text. ⊥)) (OfTrace edition bytes Said)
+      (trace_map edition bytes (λ past status text. ⊥) Said (λ past status text none. absurd none)) status out out' ends,
+)
+
+-- ---- a command
+
+-- what is so of a command is so of those words
+pub named_by : (named : Option Command) (command : Command) (P : Command → Type 0) → named ≡ Some command → P command → IfSome named P
+named_by named command P is so = subst (λ (n : Option Command). IfSome n P) (sym is) so
+
+-- a text that was given was said
+pub given_ends : (text : List ℕ) (status : Status) (out out' : Option (List ℕ)) → IsTextGiven text status out out'
+    → Ends (Is text) status out out'
+given_ends text statuses.Done out out' given = (text, (refl, refl), given)
+given_ends text statuses.WriteFault out out' given = (statuses.Done, text, (refl, refl), given)
+given_ends text statuses.Memory out out' given = given
+given_ends text statuses.BadJob out out' given = absurd given
+given_ends text statuses.BadTrace out out' given = absurd given
+given_ends text statuses.BadWords out out' given = absurd given
+given_ends text statuses.ReadFault out out' given = absurd given
+given_ends text statuses.AuditNo out out' given = absurd given
+given_ends text statuses.Bus out out' given = absurd given
+given_ends text statuses.Spent out out' given = absurd given
+
+-- .. whatever was read
+pub text_said : (left old_left : Option (List ℕ)) (Old : List ℕ → Type 0) (Same : Type 0) (text : List ℕ) (status : Status)
+    (out out' : Option (List ℕ)) → Same → IsTextGiven text status out out'
+    → OfRead left (λ bytes. (Old bytes ⊎ Same) × OfRead old_left (λ old_bytes. Ends (Is text) status out out'))
+text_said left old_left Old Same text status out out' same given =
+    some_read left _ (λ bytes. (inr same, some_read old_left _ (λ old_bytes. given_ends text status out out' given)))
+
+-- a trace that is shown needs no job
+pub shown_said : (left old_left : Option (List ℕ)) (Same : Type 0) (Said : List ℕ → Status → List ℕ → Type 0) (status : Status)
+    (out out' : Option (List ℕ)) → OfRead old_left (λ old_bytes. Ends (Said old_bytes) status out out')
+    → OfRead left (λ bytes. (Unit {0} ⊎ Same) × OfRead old_left (λ old_bytes. Ends (Said old_bytes) status out out'))
+shown_said left old_left Same Said status out out' said = some_read left _ (λ bytes. (inl tt, said))

@@ -1,3 +1,3 @@
 pub mod CommandLaws
 pub mod EndLaws
-pub mod AuditLaws
+pub mod OneLaws

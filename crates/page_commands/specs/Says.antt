@@ -7,6 +7,10 @@ use Rattle.audit_command.specs.VerdictText.{judged_text}
 use Rattle.command_words.specs.declared.command.Command.{Command}
 use Rattle.command_words.specs.declared.command.Command.TheVariants as commands
 use Rattle.command_words.specs.declared.rules.Rules.{Rules}
+use Rattle.command_words.specs.declared.showing.Showing.{Showing}
+use Rattle.command_words.specs.declared.showing.Showing.TheVariants as showings
+use Rattle.command_words.specs.declared.telling.Telling.{Telling}
+use Rattle.command_words.specs.declared.telling.Telling.TheVariants as tellings
 use Rattle.gate_command.specs.GateText.{gate_text}
 use Rattle.io_edges.specs.Sinks.{followed_by, GivesPart}
 use Rattle.job_grammar.specs.Jobs.{JobView}
@@ -56,17 +60,39 @@ abbrev pub Judged : Rules → JobView → List Entry → Status → List ℕ →
 Judged rules j past status text =
     (verdict : Verdict) × JudgesBy rules j past verdict × (status ≡ status_by verdict) × (text ≡ judged_text rules past verdict)
 
+-- what is told of a job and of entries, newest first
+abbrev pub Tells : Telling → JobView → List Entry → Status → List ℕ → Type 0
+Tells tellings.Least j past status text = (status ≡ statuses.Done) × IsLeastText j past text
+Tells (tellings.Judge rules) j past status text = Judged rules j past status text
+Tells (tellings.Ask question) j past status text = Is (answer_text question past) status text
+
+-- .. and of their bytes
+abbrev pub TellsOf : Telling → List ℕ → List ℕ → Status → List ℕ → Type 0
+TellsOf telling bytes old_bytes = OfBoth bytes old_bytes (Tells telling)
+
+-- the edition of a trace that is shown
+abbrev pub edition_by : Showing → Edition
+edition_by showings.Picture = editions.Two
+edition_by showings.Migrated = editions.One
+
+-- the text that shows entries, newest first
+abbrev pub shown : Showing → List Entry → List ℕ
+shown showings.Picture past = picture_of past
+shown showings.Migrated past = trace_of (numbered past)
+
+-- .. and that of their bytes
+abbrev pub ShowsOf : Showing → List ℕ → Status → List ℕ → Type 0
+ShowsOf showing old_bytes = OfTrace (edition_by showing) old_bytes (λ past. Is (shown showing past))
+
 -- what a command says of the bytes of a job and of an old trace, but of runs
 abbrev pub Says : Command → List ℕ → List ℕ → Status → List ℕ → Type 0
 Says (commands.Make number size) bytes old_bytes = Is (job_text (made_job number size))
+Says (commands.Tell telling) bytes old_bytes = TellsOf telling bytes old_bytes
+Says (commands.Show showing) bytes old_bytes = ShowsOf showing old_bytes
 Says (commands.Gate rounds) bytes old_bytes = Is (gate_text rounds)
 Says commands.Help bytes old_bytes = Is HELP.now
-Says commands.Least bytes old_bytes = OfBoth bytes old_bytes (λ j past status text. (status ≡ statuses.Done) × IsLeastText j past text)
-Says (commands.Judge rules) bytes old_bytes = OfBoth bytes old_bytes (Judged rules)
-Says (commands.Ask question) bytes old_bytes = OfBoth bytes old_bytes (λ j past. Is (answer_text question past))
-Says commands.Picture bytes old_bytes = OfTrace editions.Two old_bytes (λ past. Is (picture_of past))
-Says commands.Migrate bytes old_bytes = OfTrace editions.One old_bytes (λ past. Is (trace_of (numbered past)))
-Says command bytes old_bytes = λ status text. ⊥
+Says commands.Run bytes old_bytes = λ status text. ⊥
+Says (commands.Demo number size) bytes old_bytes = λ status text. ⊥
 
 -- a command ended by what it says: the output got the text, or a fault cut it, or nothing is said
 abbrev pub Ends : (Status → List ℕ → Type 0) → Status → Option (List ℕ) → Option (List ℕ) → Type 0

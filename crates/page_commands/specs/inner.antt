@@ -1,4 +1,2 @@
 pub mod Runs
 pub mod Commands
-pub mod Tells
-pub mod Shows

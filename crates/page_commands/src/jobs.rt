@@ -4,7 +4,7 @@ ghost use Rattle.std.specs.Prelude.{◌≡◌, ◌+◌, ◌^◌, IfErr, IfOk, Is
 ghost use Rattle.io_edges.specs.Faults.{HasRisen};
 ghost use Rattle.io_edges.specs.Sinks.{GivesPart, followed_by};
 ghost use Rattle.io_edges.specs.Sources.{TakesAtMost};
-ghost use Rattle.page_commands.specs.Commands.{IsUnrun};
+ghost use Rattle.page_commands.specs.inner.Commands.{IsUnrun};
 ghost use Rattle.job_text.specs.Reading.{read};
 ghost use Rattle.old_trace.specs.Reading.{OfRead};
 ghost use Rattle.page_commands.specs.Runs.{fault_line};

@@ -5,11 +5,11 @@ ghost use Rattle.io_edges.specs.Faults.{HasRisen};
 ghost use Rattle.io_edges.specs.Sinks.{GivesPart, followed_by};
 ghost use Rattle.io_edges.specs.Sources.{TakesAtMost};
 ghost use Rattle.old_trace.specs.Reading.{OfRead};
-ghost use Rattle.page_commands.specs.Says.{Ends};
-ghost use Rattle.page_commands.specs.inner.Shows.{ShowsOf, edition_by, shown};
+ghost use Rattle.page_commands.specs.Says.{Ends, ShowsOf, edition_by, shown};
 
 use crate::status::Status;
 use crate::traces::read_entries;
+use command_words::showing::Showing;
 use io_edges::sinks::Sink;
 use io_edges::sources::Source;
 use picture_command::giving::give_picture;
@@ -20,24 +20,12 @@ use trace_pieces::pieces::give_trace;
 use trace_pieces::ungiven::Ungiven;
 use trace_text::edition::Edition;
 
-/// How an old trace is shown.
-#[derive(Clone, Copy)]
-pub(crate) enum Showing {
-    /// As a picture.
-    Picture,
-
-    /// In the second edition, where its text is in the first.
-    Migrated,
-}
-
-impl Showing {
-    fn edition(self) -> Edition
-        ensures { result ≡ edition_by self }
-    {
-        match self {
-            Showing::Picture => Edition::Two,
-            Showing::Migrated => Edition::One,
-        }
+fn edition_by(showing: Showing) -> Edition
+    ensures { result ≡ edition_by showing }
+{
+    match showing {
+        Showing::Picture => Edition::Two,
+        Showing::Migrated => Edition::One,
     }
 }
 
@@ -54,7 +42,7 @@ pub(crate) fn show_trace<O: Source, K: Sink>(
     ensures write_fault { result ≡ Status.WriteFault → HasRisen (K.faults out.old) (K.faults out.new) }
     ensures memory { result ≡ Status.Memory → out.new ≡ out.old }
 {
-    let mut entries = match read_entries(alloc, showing.edition(), old, out) {
+    let mut entries = match read_entries(alloc, edition_by(showing), old, out) {
         Ok(entries) => entries,
         Err(status) => return status,
     };
@@ -65,7 +53,12 @@ pub(crate) fn show_trace<O: Source, K: Sink>(
     }
 }
 
-fn give<K: Sink>(alloc: Global, showing: Showing, entries: &mut [Entry], out: &mut K) -> Result<(), Ungiven>
+fn give<K: Sink>(
+    alloc: Global,
+    showing: Showing,
+    entries: &mut [Entry],
+    out: &mut K,
+) -> Result<(), Ungiven>
     requires { length entries.old < 2 ^ 32 }
     ensures gave { OnOk result (K.given out.new ≡ followed_by (K.given out.old) (shown showing (reverse entries.old))) }
     ensures broke { IsErrOf result Ungiven.Failed → GivesPart (K.given out.old) (K.given out.new) (shown showing (reverse entries.old)) }

@@ -6,34 +6,19 @@ ghost use Rattle.io_edges.specs.Sinks.{GivesPart, followed_by};
 ghost use Rattle.io_edges.specs.Sources.{TakesAtMost};
 ghost use Rattle.old_trace.specs.Reading.{OfRead};
 ghost use Rattle.page_commands.specs.Runs.{HasJob};
-ghost use Rattle.page_commands.specs.Says.{Ends};
-ghost use Rattle.page_commands.specs.inner.Tells.{Tells, TellsOf};
+ghost use Rattle.page_commands.specs.Says.{Ends, Tells, TellsOf};
 
 use crate::status::Status;
 use crate::traces::{Traced, read_traced};
 use audit_command::giving::give_verdict;
 use audit_command::verdicts::Verdict;
-use command_words::question::Question;
-use command_words::rules::Rules;
+use command_words::telling::Telling;
 use io_edges::sinks::Sink;
 use io_edges::sources::Source;
 use least_command::giving::give_least;
 use query_command::giving::give_answer;
 use std::alloc::Global;
 use trace_pieces::ungiven::Ungiven;
-
-/// What is told of a job and an old trace.
-#[derive(Clone, Copy)]
-pub(crate) enum Telling {
-    /// How far the trace's reloads were from the fewest.
-    Least,
-
-    /// The verdict by these rules.
-    Judge(Rules),
-
-    /// The answer to a question.
-    Ask(Question),
-}
 
 /// Reads a job and then an old trace, whoever made it, and gives the text that is asked for. Where either text is none, `out` gets the
 /// line on that.
@@ -65,7 +50,12 @@ pub(crate) fn tell_of_both<J: Source, O: Source, K: Sink>(
     }
 }
 
-fn give<K: Sink>(alloc: Global, telling: Telling, traced: &Traced, out: &mut K) -> Result<Status, Ungiven>
+fn give<K: Sink>(
+    alloc: Global,
+    telling: Telling,
+    traced: &Traced,
+    out: &mut K,
+) -> Result<Status, Ungiven>
     ensures gave { IfOk result (λ status. (text : List ℕ) × Tells telling traced.now.job (reverse traced.now.entries.items) status text
         × (K.given out.new ≡ followed_by (K.given out.old) text)) }
     ensures broke { IsErrOf result Ungiven.Failed → (status : Status) × (text : List ℕ)
@@ -78,7 +68,13 @@ fn give<K: Sink>(alloc: Global, telling: Telling, traced: &Traced, out: &mut K) 
             give_least(alloc, &traced.job, &traced.entries, out)?;
             Ok(Status::Done)
         }
-        Telling::Judge(rules) => match give_verdict(alloc, rules, &traced.job, &traced.entries, out)? {
+        Telling::Judge(rules) => match give_verdict(
+            alloc,
+            rules,
+            &traced.job,
+            &traced.entries,
+            out,
+        )? {
             Verdict::Yes => Ok(Status::Done),
             Verdict::No { .. } => Ok(Status::AuditNo),
         },

@@ -2,7 +2,6 @@
 
 ghost use Rattle.std.specs.Prelude.{◌≡◌, ◌+◌, ◌^◌, ◌⊎◌, Ok, IfErr, IfOk, IsErrOf, OnOk};
 ghost use Rattle.io_edges.specs.Faults.{HasRisen};
-ghost use Rattle.io_edges.specs.Sinks.{GivesPart, followed_by};
 ghost use Rattle.io_edges.specs.Sources.{TakesAtMost};
 ghost use Rattle.job_text.specs.Reading.{read};
 ghost use Rattle.old_trace.specs.Reading.{OfRead, Reads, fault_line};

@@ -1,11 +1,11 @@
-use Rattle.std.proofs.Common.{◌∙◌, ℕ, List, Err, Ok, ap, arith, length, refl, reverse, subst, sym}
+use Rattle.std.proofs.Common.{ℕ, List, Err, Ok, ap, arith, length, refl, reverse, subst}
 use Rattle.io_edges.specs.Sinks.{GivesPart}
 use Rattle.old_trace.specs.Reading.{OfRead, Reads}
 use Rattle.trace_migrate.proofs.TextLaws.{text_long}
 use Rattle.trace_text.specs.declared.edition.Edition.{Edition}
 use Rattle.page_commands.specs.declared.status.Status.TheVariants as statuses
 use Rattle.page_commands.specs.Says.{Ends, Is, OfTrace}
-use Rattle.page_commands.specs.inner.Shows.{shown}
+use Rattle.page_commands.specs.Says.{shown}
 use Rattle.page_commands.proofs.EndLaws.{trace_none}
 use Rattle.page_commands.proofs.showing.show_trace.Goals as goal
 
@@ -13,20 +13,20 @@ use Rattle.page_commands.proofs.showing.show_trace.Goals as goal
 pub give-requires : goal.give-requires
 give-requires g c =
     let read = c.in-Ok.ensures.entries in
-    omega (arith, ap length c.deref_mut.ensures.value, text_long c.edition.result c.in-Ok.entries.items, ap length read.2.2, read.2.0)
+    omega (arith, ap length c.deref_mut.ensures.value, text_long c.edition_by.result c.in-Ok.entries.items, ap length read.2.2, read.2.0)
 
 pub returns-in-Err-clause-says : goal.returns-in-Err-clause-says
 returns-in-Err-clause-says g c =
     let Told : Edition → Type 0 = λ e. OfRead (g.O.Source.left c.args.old.now) (λ bytes.
     Ends (OfTrace e bytes (λ past. Is (shown c.args.showing past))) c.in-Err.status (g.K.Sink.given c.args.out.now)
     (g.K.Sink.given c.read_entries.new.out)) in
-    subst Told c.edition.ensures
-    (trace_none (g.O.Source.left c.args.old.now) c.edition.result (λ past. Is (shown c.args.showing past)) c.in-Err.status _ _
+    subst Told c.edition_by.ensures
+    (trace_none (g.O.Source.left c.args.old.now) c.edition_by.result (λ past. Is (shown c.args.showing past)) c.in-Err.status _ _
     c.in-Err.ensures.told)
 
 pub returns-in-Err-Failed-clause-says : goal.returns-in-Err-Failed-clause-says
 returns-in-Err-Failed-clause-says g c =
-    let read : OfRead (g.O.Source.left c.args.old.now) (λ bytes. Reads c.edition.result bytes (Ok c.in-Ok.entries.items)) =
+    let read : OfRead (g.O.Source.left c.args.old.now) (λ bytes. Reads c.edition_by.result bytes (Ok c.in-Ok.entries.items)) =
     c.in-Ok.ensures.entries in
     let text : List ℕ = shown c.args.showing (reverse c.in-Ok.entries.items) in
     let part : GivesPart (g.K.Sink.given c.args.out.now) (g.K.Sink.given c.give.new.out) text =
@@ -37,5 +37,5 @@ returns-in-Err-Failed-clause-says g c =
     let Told : Edition → Type 0 = λ e. OfRead (g.O.Source.left c.args.old.now) (λ bytes.
     Ends (OfTrace e bytes (λ past. Is (shown c.args.showing past))) statuses.WriteFault (g.K.Sink.given c.args.out.now)
     (g.K.Sink.given c.give.new.out)) in
-    subst Told c.edition.ensures
+    subst Told c.edition_by.ensures
     (read.0, read.1, (statuses.Done, text, (c.in-Ok.entries.items, read.2, (refl, refl)), part))

@@ -3,10 +3,10 @@ use Rattle.io_edges.specs.Sinks.{GivesPart}
 use Rattle.sgx_rules.specs.declared.entries.Entry.{Entry}
 use Rattle.page_commands.specs.declared.status.Status.{Status}
 use Rattle.page_commands.specs.declared.status.Status.TheVariants as statuses
-use Rattle.page_commands.specs.declared.telling.Telling.{Telling}
-use Rattle.page_commands.specs.declared.telling.Telling.TheVariants as tellings
+use Rattle.command_words.specs.declared.telling.Telling.{Telling}
+use Rattle.command_words.specs.declared.telling.Telling.TheVariants as tellings
 use Rattle.page_commands.specs.Says.{status_by}
-use Rattle.page_commands.specs.inner.Tells.{Tells}
+use Rattle.page_commands.specs.Says.{Tells}
 use Rattle.page_commands.proofs.telling.give.Goals as goal
 
 pub returns-in_err-give_least-in-Least-clause-broke : goal.returns-in_err-give_least-in-Least-clause-broke

@@ -1,6 +1,6 @@
-use Rattle.std.proofs.Common.{◌∙◌, Err, ap, refl, subst, sym, rules}
+use Rattle.std.proofs.Common.{◌∙◌, Err, ap, subst}
 use Rattle.io_edges.specs.Sinks.{GivesPart, followed_by}
-use Rattle.page_commands.specs.inner.Tells.{Tells}
+use Rattle.page_commands.specs.Says.{Tells}
 use Rattle.page_commands.proofs.EndLaws.{both_broke, both_told, none_told, telling_ends}
 use Rattle.page_commands.proofs.telling.tell_of_both.Goals as goal
 

@@ -6,9 +6,12 @@ use Rattle.page_commands.proofs.traces.read_entries.Goals as goal
 
 pub returns-in-Err-Bad-clause-told : goal.returns-in-Err-Bad-clause-told
 returns-in-Err-Bad-clause-told g c =
-    let fault : OfRead (g.O.Source.left c.args.old.now) (λ bytes. Reads c.args.edition bytes (Err c.in-Err-Bad.line)) = search rules in
-    (fault.0, fault.1, ends_map _ (OfTrace c.args.edition fault.0 (λ past status text. ⊥))
-    (no_trace c.args.edition fault.0 c.in-Err-Bad.line (λ past status text. ⊥) fault.2) c.tell_line.result _ _ c.tell_line.ensures.told)
+    let fault : OfRead (g.O.Source.left c.args.old.now) (λ bytes. Reads c.args.edition bytes (Err c.in-Err-Bad.line)) = search rules in (
+      fault.0,
+      fault.1,
+      ends_map _ (OfTrace c.args.edition fault.0 (λ past status text. ⊥))
+          (no_trace c.args.edition fault.0 c.in-Err-Bad.line (λ past status text. ⊥) fault.2) c.tell_line.result _ _ c.tell_line.ensures.told,
+    )
 
 pub returns-in-Err-Failed-clause-told : goal.returns-in-Err-Failed-clause-told
 returns-in-Err-Failed-clause-told g c = some_read (g.O.Source.left c.args.old.now) _ (λ bytes. refl)

@@ -1,4 +1,4 @@
-use Rattle.std.proofs.Common.{◌≡◌, refl, rules}
+use Rattle.std.proofs.Common.{refl}
 use Rattle.page_commands.proofs.EndLaws.{job_no_trace, no_job}
 use Rattle.page_commands.proofs.traces.read_traced.Goals as goal
 
