@@ -6,6 +6,7 @@ use crate::audited_traces::{BEFORE_ELD, BEHIND_ELD, CUT_ELD, ELD, OLDER_ELD, REL
 use crate::calls::{RUN, compare, given_by, given_with, joined};
 use crate::paged_jobs::{ENCLAVE, EPC, SCRIPT};
 use crate::run_tests::{JOB, TRACE, of_parts, push_line};
+use crate::same::are_same;
 use page_commands::status::Status;
 use std::alloc::{Alloc, Global};
 use std::fmt::Write;
@@ -379,7 +380,7 @@ fn gets_its_verdict(
     let given = given_with(rt, alloc, words, [row.job, &old], row.piece.max(1), fails)?;
     compare(rt, &given, row.status, row.told);
     let unread = given.old_left == old.len();
-    assert_eq!(rt; (unread, given.trace.len()), (row.unread, 0));
+    are_same(rt, (unread, given.trace.len()), (row.unread, 0));
     Ok(())
 }
 
@@ -481,6 +482,6 @@ fn a_run_of_a_made_job_is_a_history(rt: HostRuntime) -> Result<(), Fail> {
     let alloc = rt.alloc();
     let made = given_by(&rt, alloc, MAKE, b"", 1000, [&[], &[], &[]])?;
     let run = given_by(&rt, alloc, RUN, &made.out, 1000, [&[], &[], &[]])?;
-    assert_eq!(rt; (made.status, run.status), (Status::Done, Status::Done));
+    are_same(&rt, (made.status, run.status), (Status::Done, Status::Done));
     audited(&rt, [&made.out, &run.trace], 1000, Status::Done, "yes\n")
 }

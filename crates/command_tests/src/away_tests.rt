@@ -2,6 +2,7 @@
 
 use crate::calls::compare;
 use crate::run_tests::{of_parts, push_all_signs, push_line};
+use crate::same::are_same;
 use page_commands::status::Status;
 use std::alloc::{Alloc, Global};
 use std::process::Abort;
@@ -121,14 +122,14 @@ fn goes_away(
     let given = of_parts(rt, row.parts)?;
     let trace = str::from_utf8(&given.trace).unwrap_or("MacFail");
     compare(rt, &given, row.status, row.replies);
-    assert_eq!(rt; has_line(trace, row.line), true);
-    assert_eq!(rt; trace.contains(row.never), false);
+    are_same(rt, has_line(trace, row.line), true);
+    are_same(rt, trace.contains(row.never), false);
     let mut told = String::new(rt.alloc());
     push_all_signs(trace, &mut told)?;
-    assert_eq!(rt; told.as_str(), row.told);
+    are_same(rt, told.as_str(), row.told);
     let mut pages = String::new(rt.alloc());
     push_loads(trace, &mut pages)?;
-    assert_eq!(rt; pages.starts_with(row.loads), true);
+    are_same(rt, pages.starts_with(row.loads), true);
     Ok(())
 }
 

@@ -2,6 +2,7 @@
 
 ghost use Rattle.std.specs.Prelude.{◌≡◌, ◌≤◌, [], IfSome};
 
+use crate::same::are_same;
 use backing_store::backing::Backing;
 use backing_store::calls::{GetAnswer, StoreCall};
 use backing_store::planned_store::PlannedStore;
@@ -241,7 +242,7 @@ pub fn gives(
         call.fails,
     )?;
     compare(rt, &given, call.status, call.out);
-    assert_eq!(rt; given.trace.as_slice(), call.trace);
+    are_same(rt, given.trace.as_slice(), call.trace);
     Ok(())
 }
 
@@ -258,6 +259,6 @@ pub fn all_give(
 
 /// Compares how a call ended, and its output.
 pub fn compare(rt: &impl Abort, given: &Given, status: Status, out: &[u8]) {
-    assert_eq!(rt; given.status, status);
-    assert_eq!(rt; given.out.as_slice(), out);
+    are_same(rt, given.status, status);
+    are_same(rt, given.out.as_slice(), out);
 }

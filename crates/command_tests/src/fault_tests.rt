@@ -3,6 +3,7 @@
 use crate::calls::{Call, RUN, RUNS, all_give, compare, given_by, gives};
 use crate::cut_jobs::CUTS;
 use crate::run_tests::{JOB, OUT, TRACE};
+use crate::same::are_same;
 use page_commands::status::Status;
 use std::alloc::{Alloc, Global};
 use std::process::Abort;
@@ -105,7 +106,7 @@ fn stops(
     }
     let given = given_by(rt, rt.alloc(), RUN, &job, 1 << 20, [&[], &[], &[]])?;
     compare(rt, &given, Status::BadJob, told);
-    assert_eq!(rt; (given.left, given.trace.len()), (left, 0));
+    are_same(rt, (given.left, given.trace.len()), (left, 0));
     Ok(())
 }
 
@@ -177,7 +178,7 @@ fn breaks(
     let fails = of_edge(edge, fails);
     let given = given_by(rt, rt.alloc(), RUN, JOB, piece.max(1), fails)?;
     compare(rt, &given, wanted.0, wanted.1);
-    assert_eq!(rt; given.trace.as_slice(), wanted.2);
+    are_same(rt, given.trace.as_slice(), wanted.2);
     Ok(())
 }
 

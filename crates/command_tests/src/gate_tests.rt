@@ -1,5 +1,6 @@
 //! The run of the gate's command.
 
+use crate::same::are_same;
 use gate_command::counts::give_counts;
 use io_edges::mem_sink::MemSink;
 use std::test::Fail;
@@ -19,8 +20,8 @@ const ROWS: [(u32, &[u64], Result<(), Ungiven>, &[u8]); 6] = [
 fn each_processor_enters_once_a_round(rt: HostRuntime) -> Result<(), Fail> {
     for (rounds, fails, answer, given) in ROWS {
         let mut out = MemSink::new(rt.alloc(), 7, fails)?;
-        assert_eq!(rt; give_counts(&rt, rt.alloc(), rounds, &mut out), answer);
-        assert_eq!(rt; out.bytes(), given);
+        are_same(&rt, give_counts(&rt, rt.alloc(), rounds, &mut out), answer);
+        are_same(&rt, out.bytes(), given);
     }
     Ok(())
 }

@@ -3,6 +3,7 @@
 use crate::calls::{Call, RUN, all_give, compare, given_by, given_with, gives, joined};
 use crate::paged_jobs::{ENCLAVE, EPC, SCRIPT};
 use crate::run_tests::{JOB, TRACE};
+use crate::same::are_same;
 use page_commands::status::Status;
 use std::alloc::{Alloc, Global};
 use std::process::Abort;
@@ -106,7 +107,11 @@ fn a_job_that_is_not_accepted_comes_first(rt: HostRuntime) -> Result<(), Fail> {
     let fails: [&[u64]; 4] = [&[], &[1], &[], &[1]];
     let given = given_with(&rt, rt.alloc(), LEAST, [b"", TRACE], 7, fails)?;
     compare(&rt, &given, Status::BadJob, b"job line 1: Missing\n");
-    assert_eq!(rt; (given.old_left, given.faults), (TRACE.len(), [0, 0, 0, 0]));
+    are_same(
+        &rt,
+        (given.old_left, given.faults),
+        (TRACE.len(), [0, 0, 0, 0]),
+    );
     Ok(())
 }
 
@@ -120,7 +125,7 @@ fn a_run_gives_a_trace_that_is_read(rt: HostRuntime) -> Result<(), Fail> {
     let begun = given
         .out
         .starts_with(b"accesses 80\nframes 10\nleast 70\nmade ");
-    assert_eq!(rt; (given.status, begun), (Status::Done, true));
+    are_same(&rt, (given.status, begun), (Status::Done, true));
     Ok(())
 }
 

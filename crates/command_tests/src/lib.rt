@@ -33,6 +33,8 @@ mod reply_tests;
 #[cfg(test)]
 mod run_tests;
 #[cfg(test)]
+mod same;
+#[cfg(test)]
 mod seen_store;
 #[cfg(test)]
 mod verdict_tests;

@@ -5,6 +5,7 @@ ghost use Rattle.std.specs.Prelude.{◌≡◌, [], IfSome};
 use crate::calls::{Edges, RUN};
 use crate::meeting::Meeting;
 use crate::run_tests::push_many_adds;
+use crate::same::are_same;
 use crate::seen_store::SeenStore;
 use backing_store::backing::Backing;
 use backing_store::planned_store::PlannedStore;
@@ -52,8 +53,8 @@ fn two_processors_meet_at_the_gate(rt: HostRuntime) -> Result<(), Fail> {
         alone: &alone,
     };
     let status = status_of(&rt, alloc, job.as_bytes(), store, &gate)?;
-    assert_eq!(rt; (status, gate.counts()), (Status::Done, [1, 1, 0, 0]));
-    assert_eq!(rt; alone.load(Ordering::SeqCst), 0);
+    are_same(&rt, (status, gate.counts()), (Status::Done, [1, 1, 0, 0]));
+    are_same(&rt, alone.load(Ordering::SeqCst), 0);
     // 34 of 48 pages leave 14 frames while they are added, each by a room and a put, and those that are entered are got back. How many
     // more move, the threads decide.
     let many = [
@@ -61,6 +62,6 @@ fn two_processors_meet_at_the_gate(rt: HostRuntime) -> Result<(), Fail> {
         puts.load(Ordering::SeqCst) > 33,
         gets.load(Ordering::SeqCst) > 0,
     ];
-    assert_eq!(rt; many, [true, true, true]);
+    are_same(&rt, many, [true, true, true]);
     Ok(())
 }

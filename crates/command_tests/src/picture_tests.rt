@@ -3,6 +3,7 @@
 use crate::calls::{compare, given_with};
 use crate::least_tests::OLD;
 use crate::run_tests::{JOB, TRACE};
+use crate::same::are_same;
 use page_commands::status::Status;
 use std::alloc::{Alloc, Global};
 use std::process::Abort;
@@ -89,7 +90,7 @@ fn pictures(
     let fails: [&[u64]; 4] = [&[1], fails[0], fails[1], &[1]];
     let given = given_with(rt, rt.alloc(), &["picture", "t"], [JOB, old], 7, fails)?;
     compare(rt, &given, status, told.as_bytes());
-    assert_eq!(rt; (given.left, given.trace.len()), (JOB.len(), 0));
+    are_same(rt, (given.left, given.trace.len()), (JOB.len(), 0));
     Ok(())
 }
 

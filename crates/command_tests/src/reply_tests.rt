@@ -1,5 +1,6 @@
 //! The output of entries that no run makes.
 
+use crate::same::are_same;
 use job_text::reader::read_job;
 use run_replies::replies::print_out;
 use sgx_rules::entries::{Action, Answer, Entry, Event};
@@ -63,7 +64,8 @@ fn enclaves_and_processors(rt: HostRuntime) -> Result<(), Fail> {
     ];
     let job = read_job(rt.alloc(), JOB)?;
     let text = print_out(rt.alloc(), &job, &entries)?;
-    assert_eq!(rt;
+    are_same(
+        &rt,
         text.as_slice(),
         b"\
 A init
@@ -77,7 +79,7 @@ gp NoFrame
 mode
 cpu 2
 "
-            .as_slice()
+            .as_slice(),
     );
     Ok(())
 }

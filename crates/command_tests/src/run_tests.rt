@@ -2,6 +2,7 @@
 
 use crate::calls::{Call, Given, RUN, RUNS, all_give, compare, given_by, gives, joined};
 use crate::paged_jobs::{ENCLAVE, EPC, MANY_ADDS, PAGED, Paged, SCRIPT, SMALL};
+use crate::same::are_same;
 use crate::worked_runs::{MANY_PAGES, WORKED};
 use page_commands::status::Status;
 use std::alloc::{Alloc, Global};
@@ -131,11 +132,11 @@ fn pages(
     let given = of_parts(rt, &[EPC, row.before, ENCLAVE, row.behind, script])?;
     let replies = joined(rt.alloc(), row.replies)?;
     compare(rt, &given, row.status, &replies);
-    assert_eq!(rt; given.store_faults, row.store_faults);
+    are_same(rt, given.store_faults, row.store_faults);
     let mut told = String::new(rt.alloc());
     let trace = str::from_utf8(&given.trace).unwrap_or("MacFail");
     push_all_signs(trace, &mut told)?;
-    assert_eq!(rt; row.told.contains(&told.as_str()), true);
+    are_same(rt, row.told.contains(&told.as_str()), true);
     Ok(())
 }
 
@@ -195,8 +196,8 @@ fn no_add_is_lost_or_made_twice(rt: HostRuntime) -> Result<(), Fail> {
     let text = str::from_utf8(&given.out).unwrap_or("");
     let mut seen = vec![in rt.alloc(); false; 400]?;
     turn(text, &mut seen);
-    assert_eq!(rt; given.status, Status::Done);
-    assert_eq!(rt; seen.contains(&false), false);
-    assert_eq!(rt; text.lines().count(), 1 + 4 * 103);
+    are_same(&rt, given.status, Status::Done);
+    are_same(&rt, seen.contains(&false), false);
+    are_same(&rt, text.lines().count(), 1 + 4 * 103);
     Ok(())
 }

@@ -1,5 +1,6 @@
 //! The lines of verdicts.
 
+use crate::same::are_same;
 use audit_command::verdicts::Verdict::{self, No};
 use audit_command::verdicts::print_verdict;
 use run_history::rules::Rule;
@@ -97,7 +98,7 @@ const ROWS: [(Verdict, &[u8]); 13] = [
 #[test]
 fn a_verdict_is_one_line(rt: HostRuntime) -> Result<(), Fail> {
     for (verdict, text) in ROWS {
-        assert_eq!(rt; print_verdict(rt.alloc(), verdict)?.as_slice(), text);
+        are_same(&rt, print_verdict(rt.alloc(), verdict)?.as_slice(), text);
     }
     Ok(())
 }

@@ -2,6 +2,7 @@
 
 use crate::calls::given_by;
 use crate::run_tests::JOB;
+use crate::same::are_same;
 use page_commands::complaints::complain;
 use page_commands::status::Status;
 use std::alloc::{Alloc, Global};
@@ -113,8 +114,8 @@ fn begins(
 ) -> Result<(), Fail> {
     let given = given_by(rt, rt.alloc(), words, JOB, 1000, [&[1], fails, &[1]])?;
     let begun = str::from_utf8(&given.out).is_ok_and(|text| text.starts_with(begin));
-    assert_eq!(rt; (given.status, begun), (status, true));
-    assert_eq!(rt; (given.left, given.faults), (JOB.len(), [0, 0, 0, 0]));
+    are_same(rt, (given.status, begun), (status, true));
+    are_same(rt, (given.left, given.faults), (JOB.len(), [0, 0, 0, 0]));
     Ok(())
 }
 
@@ -210,7 +211,7 @@ fn told(alloc: Global, status: Status, failed: Option<&str>) -> Result<Option<St
 fn an_ending_has_its_number_and_its_line(rt: HostRuntime) -> Result<(), Fail> {
     for (status, code, failed, line) in ENDINGS {
         let told = told(rt.alloc(), *status, *failed)?;
-        assert_eq!(rt; (status.code(), told.as_deref()), (*code, *line));
+        are_same(&rt, (status.code(), told.as_deref()), (*code, *line));
     }
     Ok(())
 }

@@ -5,6 +5,8 @@ use Rattle.text_words.specs.Reading.{◌>>=◌}
 use Rattle.command_words.specs.declared.command.Command.{Command}
 use Rattle.command_words.specs.declared.command.Command.TheVariants as commands
 use Rattle.command_words.specs.declared.rules.Rules.TheVariants as rules
+use Rattle.command_words.specs.declared.showing.Showing.TheVariants as showings
+use Rattle.command_words.specs.declared.telling.Telling.TheVariants as tellings
 use Rattle.command_words.specs.Numbers.{count_of}
 use Rattle.command_words.specs.Questions.{asks_behind, asks_moves}
 
@@ -23,11 +25,11 @@ rounds_of word = do
 abbrev pub path_by : List ℕ → Option Command
 path_by name =
     if bytes_eq name (codes "run") then Some commands.Run
-    else if bytes_eq name (codes "least") then Some commands.Least
-    else if bytes_eq name (codes "audit") then Some (commands.Judge rules.All)
-    else if bytes_eq name (codes "check") then Some (commands.Judge rules.Processors)
-    else if bytes_eq name (codes "migrate") then Some commands.Migrate
-    else if bytes_eq name (codes "picture") then Some commands.Picture
+    else if bytes_eq name (codes "least") then Some (commands.Tell tellings.Least)
+    else if bytes_eq name (codes "audit") then Some (commands.Tell (tellings.Judge rules.All))
+    else if bytes_eq name (codes "check") then Some (commands.Tell (tellings.Judge rules.Processors))
+    else if bytes_eq name (codes "migrate") then Some (commands.Show showings.Migrated)
+    else if bytes_eq name (codes "picture") then Some (commands.Show showings.Picture)
     else None
 
 -- `run PATH`, `least PATH`, `audit PATH`, `check PATH`, `migrate PATH` and `picture PATH`, where PATH is any word that is not empty

@@ -6,8 +6,9 @@ use Rattle.sgx_types.specs.Pages.{page_at, secs_page, va_page}
 use Rattle.text_words.specs.Reading.{◌>>=◌, letter_of}
 use Rattle.command_words.specs.Numbers.{count_of}
 use Rattle.command_words.specs.declared.command.Command.{Command}
-use Rattle.command_words.specs.declared.command.Command.TheVariants.{Ask}
+use Rattle.command_words.specs.declared.command.Command.TheVariants.{Tell}
 use Rattle.command_words.specs.declared.question.Question.TheVariants.{Behind, Moves}
+use Rattle.command_words.specs.declared.telling.Telling.TheVariants.{Ask}
 
 -- a number below a limit
 abbrev pub number_below : ℕ → List ℕ → Option ℕ
@@ -42,12 +43,12 @@ abbrev pub behind_of : List ℕ → List ℕ → List ℕ → Option Command
 behind_of place letter page = do
   n ← count_of place
   g ← page_of letter page
-  Some (Ask (Behind n g))
+  Some (Tell (Ask (Behind n g)))
 
 abbrev pub moves_of : List ℕ → List ℕ → Option Command
 moves_of letter page = do
   g ← page_of letter page
-  Some (Ask (Moves g))
+  Some (Tell (Ask (Moves g)))
 
 -- `query PATH PLACE L PAGE`, where PATH is any word that is not empty
 abbrev pub asks_behind : List ℕ → List ℕ → List ℕ → List ℕ → List ℕ → Option Command

@@ -3,6 +3,7 @@
 ghost use Rattle.command_words.specs.Commands.{command_in, is_help, path_by, rounds_of, size_of, sized_by, with_path};
 ghost use Rattle.command_words.specs.Numbers.{count_of, is_digit};
 ghost use Rattle.command_words.specs.Questions.{asks_behind, asks_moves, behind_of, moves_of, number_below, own_page, page_of};
+ghost use Rattle.command_words.specs.declared.command.Command.TheVariants as commands;
 ghost use Rattle.command_words.specs.inner.Commands.{IsSized};
 ghost use Rattle.command_words.specs.Commands.{alone, with_rounds, with_size, with_word};
 ghost use Rattle.std.specs.List.{list_all};
@@ -10,6 +11,8 @@ ghost use Rattle.std.specs.Prelude.{◌≡◌, ◌≤◌, ◌^◌, IfSome, map, 
 
 use crate::question::Question;
 use crate::rules::Rules;
+use crate::showing::Showing;
+use crate::telling::Telling;
 use sgx_types::names::{Page, SECS_NUMBER};
 use text_words::readers::{letter, number};
 
@@ -25,22 +28,12 @@ pub enum Command {
     /// `demo NUMBER SIZE`: runs that job, and gives a summary.
     Demo { number: u64, size: u32 },
 
-    /// `least PATH`: the fewest loads for what a trace of a job accesses, which is the file at the path, which is not empty.
-    Least,
+    /// `least PATH`, `audit PATH`, `check PATH`, `query PATH PLACE L PAGE` or `moves PATH L PAGE`: what is told of a job and a trace, which
+    /// is the file at the path, which is not empty.
+    Tell { telling: Telling },
 
-    /// `audit PATH` or `check PATH`: whether a trace of a job, which is the file at the path, which is not empty, keeps the rules, all of them or
-    /// the processor's alone, and else where it fails first.
-    Judge { rules: Rules },
-
-    /// `migrate PATH`: the text in the second edition of a trace in the first, which is the file at the path, which is not empty.
-    Migrate,
-
-    /// `picture PATH`: the picture of a trace, which is the file at the path, which is not empty.
-    Picture,
-
-    /// `query PATH PLACE L PAGE` or `moves PATH L PAGE`: what is asked of a trace of a job, which is the file at the path, which is not
-    /// empty.
-    Ask { question: Question },
+    /// `picture PATH` or `migrate PATH`: a trace, which is the file at the path, which is not empty, is shown.
+    Show { showing: Showing },
 
     /// `gate ROUNDS`: from 1 to 100,000 rounds of four processors and a pager at a gate with no lock.
     Gate { rounds: u32 },
@@ -112,20 +105,30 @@ fn path_command_by(name: &str) -> Option<Command>
     if name == "run" {
         Some(Command::Run)
     } else if name == "least" {
-        Some(Command::Least)
+        Some(tell(Telling::Least))
     } else if name == "audit" {
-        Some(Command::Judge { rules: Rules::All })
+        Some(tell(Telling::Judge(Rules::All)))
     } else if name == "check" {
-        Some(Command::Judge {
-            rules: Rules::Processors,
-        })
+        Some(tell(Telling::Judge(Rules::Processors)))
     } else if name == "migrate" {
-        Some(Command::Migrate)
+        Some(show(Showing::Migrated))
     } else if name == "picture" {
-        Some(Command::Picture)
+        Some(show(Showing::Picture))
     } else {
         None
     }
+}
+
+fn tell(telling: Telling) -> Command
+    ensures { result ≡ commands.Tell telling }
+{
+    Command::Tell { telling }
+}
+
+fn show(showing: Showing) -> Command
+    ensures { result ≡ commands.Show showing }
+{
+    Command::Show { showing }
 }
 
 fn gate_command(word: &str) -> Option<Command>
@@ -177,9 +180,7 @@ fn behind(place: &[u8], letter: &[u8], page: &[u8]) -> Option<Command>
 {
     let place = count(place)?;
     let page = page_of(letter, page)?;
-    Some(Command::Ask {
-        question: Question::Behind { place, page },
-    })
+    Some(tell(Telling::Ask(Question::Behind { place, page })))
 }
 
 fn moves_command(name: &str, path: &str, letter: &str, page: &str) -> Option<Command>
@@ -198,9 +199,7 @@ fn moves(letter: &[u8], page: &[u8]) -> Option<Command>
     ensures sized { IfSome result IsSized }
 {
     let page = page_of(letter, page)?;
-    Some(Command::Ask {
-        question: Question::Moves { page },
-    })
+    Some(tell(Telling::Ask(Question::Moves { page })))
 }
 
 // The page that two words name.

@@ -4,3 +4,5 @@
 pub mod command;
 pub mod question;
 pub mod rules;
+pub mod showing;
+pub mod telling;

@@ -1,2 +1,2 @@
 mod SeenLaws
-mod OneLaws
+pub mod OneLaws

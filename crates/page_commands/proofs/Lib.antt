@@ -1,2 +1,3 @@
 pub mod CommandLaws
-pub mod AuditLaws
+pub mod EndLaws
+pub mod OneLaws

@@ -1,46 +1,35 @@
 -- How a command ends.
-use Rattle.std.specs.Prelude.{ℕ, ◌≡◌, ◌⊎◌, Option, Some}
+use Rattle.std.specs.Prelude.{ℕ, ◌≡◌, List}
 use Rattle.command_words.specs.declared.command.Command.{Command}
 use Rattle.command_words.specs.declared.command.Command.TheVariants as commands
-use Rattle.command_words.specs.declared.question.Question.{Question}
-use Rattle.command_words.specs.declared.rules.Rules.{Rules}
 use Rattle.io_edges.specs.Faults.{HasRisen}
 use Rattle.run_jobs.specs.declared.ends.End.{End}
 use Rattle.run_jobs.specs.declared.ends.End.TheVariants as ends
 use Rattle.page_commands.specs.declared.status.Status.{Status}
 use Rattle.page_commands.specs.declared.status.Status.TheVariants as statuses
+use Rattle.page_commands.specs.Runs.{HasJob}
 
 -- no fault was counted
 abbrev pub NoFault : ℕ → ℕ → Type 0
 NoFault old new = HasRisen old new → ⊥
 
--- the command asks a question of an old trace
-abbrev pub Asks : Option Command → Type 0
-Asks command = (question : Question) × (command ≡ Some (commands.Ask question))
+-- no job is run
+abbrev pub RunsNone : Command → Type 0
+RunsNone commands.Run = ⊥
+RunsNone (commands.Demo number size) = ⊥
+RunsNone command = Unit {0}
 
--- the command judges an old trace by some rules
-abbrev pub Judges : Option Command → Type 0
-Judges command = (rules : Rules) × (command ≡ Some (commands.Judge rules))
+-- a job is read
+abbrev pub ReadsJob : Command → Type 0
+ReadsJob commands.Run = Unit {0}
+ReadsJob (commands.Tell telling) = Unit {0}
+ReadsJob command = ⊥
 
--- the command reads an old trace, behind its job
-abbrev pub ReadsOld : Option Command → Type 0
-ReadsOld command = (command ≡ Some commands.Least) ⊎ Judges command ⊎ Asks command
-
--- the command reads a trace in the first edition
-abbrev pub Migrates : Option Command → Type 0
-Migrates command = command ≡ Some commands.Migrate
-
--- the command gives the picture of an old trace
-abbrev pub Pictures : Option Command → Type 0
-Pictures command = command ≡ Some commands.Picture
-
--- the command reads an old trace, and no job
-abbrev pub ReadsAlone : Option Command → Type 0
-ReadsAlone command = Migrates command ⊎ Pictures command
-
--- the command reads a job
-abbrev pub ReadsJob : Option Command → Type 0
-ReadsJob command = (command ≡ Some commands.Run) ⊎ ReadsOld command
+-- an old trace is read only to be shown, or behind a job
+abbrev pub MayReadOld : Command → List ℕ → Type 0
+MayReadOld (commands.Tell telling) bytes = HasJob bytes
+MayReadOld (commands.Show showing) bytes = Unit {0}
+MayReadOld command bytes = ⊥
 
 -- the status of a run whose texts were given
 abbrev pub status_of : End → Status
@@ -59,36 +48,15 @@ MayStandIn statuses.WriteFault = Unit {0}
 MayStandIn statuses.Memory = Unit {0}
 MayStandIn _ = ⊥
 
--- how a command may end that has made no run
-abbrev pub IsUnrun : Status → Type 0
-IsUnrun statuses.BadJob = Unit {0}
-IsUnrun status = MayStandIn status
+-- how `run` may end
+abbrev pub IsRunEnd : Status → Type 0
+IsRunEnd statuses.BadWords = ⊥
+IsRunEnd statuses.BadTrace = ⊥
+IsRunEnd statuses.AuditNo = ⊥
+IsRunEnd status = Unit {0}
 
--- how a command may end that has read no old trace
-abbrev pub IsUntraced : Status → Type 0
-IsUntraced statuses.BadTrace = Unit {0}
-IsUntraced status = IsUnrun status
-
+-- .. and `demo`
 abbrev pub IsDemoEnd : Status → Type 0
-IsDemoEnd statuses.BadWords = ⊥
 IsDemoEnd statuses.BadJob = ⊥
-IsDemoEnd statuses.BadTrace = ⊥
-IsDemoEnd statuses.AuditNo = ⊥
 IsDemoEnd statuses.ReadFault = ⊥
-IsDemoEnd status = Unit {0}
-
--- how `least` may end, and a question
-abbrev pub IsLeastEnd : Status → Type 0
-IsLeastEnd statuses.Done = Unit {0}
-IsLeastEnd status = IsUntraced status
-
--- how `migrate` may end, and `picture`
-abbrev pub IsMigrateEnd : Status → Type 0
-IsMigrateEnd statuses.Done = Unit {0}
-IsMigrateEnd statuses.BadTrace = Unit {0}
-IsMigrateEnd status = MayStandIn status
-
-abbrev pub IsAuditEnd : Status → Type 0
-IsAuditEnd statuses.Done = Unit {0}
-IsAuditEnd statuses.AuditNo = Unit {0}
-IsAuditEnd status = IsUntraced status
+IsDemoEnd status = IsRunEnd status

@@ -14,8 +14,6 @@ use Rattle.backing_store.specs.Calls.{Call}
 use Rattle.run_jobs.specs.declared.ends.End.{End}
 use Rattle.run_jobs.specs.Runs.{WholeRun}
 use Rattle.run_replies.specs.OutText.{out_of}
-use Rattle.page_commands.specs.declared.status.Status.{Status}
-use Rattle.page_commands.specs.declared.status.Status.TheVariants as statuses
 use Rattle.trace_text.specs.TraceText.{trace_of}
 
 -- ---- the job's bytes
@@ -50,15 +48,6 @@ pub record RanBy (bytes : List ℕ) (end : End) (told : Option (List Call)) (pla
   pub past : List Entry
   pub run : WholeRun job past end told plans
   pub given : Given job past
-
--- ---- commands that read nothing
-
--- a sink got this text, or a proper front of it, or nothing
-abbrev pub IsTextGiven : List ℕ → Status → Option (List ℕ) → Option (List ℕ) → Type 0
-IsTextGiven text statuses.Done out out' = out' ≡ followed_by out text
-IsTextGiven text statuses.WriteFault out out' = GivesPart out out' text
-IsTextGiven text statuses.Memory out out' = out' ≡ out
-IsTextGiven text status out out' = ⊥
 
 -- the job was run to this end, over a store that tells these calls and plan lines, and something of that run was given. Its entries stand
 -- oldest first

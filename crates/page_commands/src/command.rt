@@ -1,39 +1,28 @@
 //! The top call: the words of the command line, what each command does, and how it ends.
 
-ghost use Rattle.std.specs.Prelude.{◌≡◌, ◌+◌, ◌^◌, ◌⊎◌, ◌↔◌, ℕ, [], is_some, map, string_bytes, IfSome, IsSomeAnd, None};
-ghost use Rattle.std.specs.Prelude.{Some};
+ghost use Rattle.std.specs.Prelude.{◌≡◌, ◌+◌, ◌^◌, ◌⊎◌, ◌↔◌, ℕ, List, [], is_some, map, string_bytes, IfSome, IsSomeAnd, None, Some};
 ghost use Rattle.command_words.specs.Commands.{command_in};
 ghost use Rattle.command_words.specs.declared.command.Command.TheVariants as commands;
-ghost use Rattle.command_words.specs.declared.question.Question.{Question};
-ghost use Rattle.command_words.specs.declared.rules.Rules.{Rules};
-ghost use Rattle.gate_command.specs.GateText.{gate_text};
 ghost use Rattle.io_edges.specs.Faults.{HasRisen};
 ghost use Rattle.io_edges.specs.Sinks.{GivesPart, followed_by};
 ghost use Rattle.io_edges.specs.Sources.{TakesAtMost};
 ghost use Rattle.job_make.specs.MadeJob.{made_job};
-ghost use Rattle.job_print.specs.JobText.{job_text};
 ghost use Rattle.run_summary.specs.Summary.{summary_of};
 ghost use Rattle.old_trace.specs.Reading.{OfRead};
-ghost use Rattle.page_commands.specs.Commands.{Asks, HasEnded, IsAuditEnd, IsDemoEnd, IsLeastEnd, IsMigrateEnd, MayStandIn, Migrates};
-ghost use Rattle.page_commands.specs.Commands.{Judges, NoFault, Pictures, ReadsAlone, ReadsJob, ReadsOld};
+ghost use Rattle.page_commands.specs.Commands.{HasEnded, IsDemoEnd, IsRunEnd, MayReadOld, MayStandIn, NoFault, ReadsJob, RunsNone};
 ghost use Rattle.page_commands.specs.Commands.{status_of};
-ghost use Rattle.page_commands.specs.Runs.{BothGiven, DemoBy, HalfGiven, HalfTold, HasFault, HasJob, IsTextGiven, RanBy, Told};
-ghost use Rattle.page_commands.specs.Traces.{AnsweredBy, HalfJudged, HalfLineTold, HasTrace, HasWrongLine, IsRight, IsWrong, LeastBy};
-ghost use Rattle.page_commands.specs.Traces.{LineTold, MigratedBy, NoTold, PicturedBy};
-ghost use Rattle.page_commands.specs.Traces.{YesTold};
+ghost use Rattle.page_commands.specs.Runs.{BothGiven, DemoBy, HalfGiven, HalfTold, HasFault, HasJob, RanBy, Told};
+ghost use Rattle.page_commands.specs.Says.{Ends, Says};
 ghost use Rattle.run_jobs.specs.declared.ends.End.{End};
 
-use crate::asking::ask_command;
-use crate::audit::audit_command;
 use crate::ended::{Ended, unrun};
 use crate::gates::rounds_command;
-use crate::help::{HELP, help_command};
-use crate::least::least_command;
+use crate::help::help_command;
 use crate::making::{demo_command, make_command};
-use crate::migrate::migrate_command;
-use crate::picture::picture_command;
 use crate::running::run_command;
+use crate::showing::show_trace;
 use crate::status::Status;
+use crate::telling::tell_of_both;
 use backing_store::backing::Backing;
 use command_words::command::{Command, command_of};
 use io_edges::sinks::Sink;
@@ -41,7 +30,6 @@ use io_edges::sources::Source;
 use std::alloc::Global;
 use std::sync::Wait;
 use std::thread::Threads;
-use trace_text::edition::Edition;
 use turn_gate::gate::Gate;
 
 /// Does what the words of the command line say, which stand without the program's name.
@@ -101,32 +89,26 @@ pub fn sgxpage<
 
     ensures reads { TakesAtMost (2 ^ 24 + 1) (J.left job.old) (J.left job.new) }
     ensures reads_old { TakesAtMost (2 ^ 30 + 1) (O.left old.old) (O.left old.new) }
-    // An old trace is read by its commands alone, and behind a job but for `migrate` and `picture`.
-    ensures behind { ReadsOld (command_in (map string_bytes words.now)) × OfRead (J.left job.old) HasJob
-        ⊎ ReadsAlone (command_in (map string_bytes words.now)) ⊎ (old.new ≡ old.old) }
-    ensures read_fault { result.status ≡ Status.ReadFault →
+    ensures read_fault { result.status ≡ Status.ReadFault → IfSome (command_in (map string_bytes words.now)) (λ command.
         (HasRisen (J.faults job.old) (J.faults job.new) × (old.new ≡ old.old)
-        ⊎ ReadsOld (command_in (map string_bytes words.now)) × OfRead (J.left job.old) HasJob
-        × HasRisen (O.faults old.old) (O.faults old.new)
-        ⊎ ReadsAlone (command_in (map string_bytes words.now)) × HasRisen (O.faults old.old) (O.faults old.new))
-        × (out.new ≡ out.old) × (trace.new ≡ trace.old) × (result.store ≡ None) }
+        ⊎ OfRead (J.left job.old) (MayReadOld command) × HasRisen (O.faults old.old) (O.faults old.new))
+        × (out.new ≡ out.old) × (trace.new ≡ trace.old) × (result.store ≡ None)) }
+    ensures write_fault { result.status ≡ Status.WriteFault →
+        HasRisen (K.faults out.old) (K.faults out.new) ⊎ HasRisen (L.faults trace.old) (L.faults trace.new) }
+    ensures memory { result.status ≡ Status.Memory → (out.new ≡ out.old) × (trace.new ≡ trace.old) }
 
-    ensures bad_job { result.status ≡ Status.BadJob →
-        OfRead (J.left job.old) (λ bytes. Told bytes (K.given out.old) (K.given out.new))
-        × (old.new ≡ old.old) × (trace.new ≡ trace.old) × (result.store ≡ None) }
-    ensures no_job { ReadsJob (command_in (map string_bytes words.now)) → IsSomeAnd (J.left job.old) HasFault →
+    // Of the bytes that it reads each command says what is its to say, and runs no job.
+    ensures says { IfSome (command_in (map string_bytes words.now)) (λ command. RunsNone command →
+        OfRead (J.left job.old) (λ bytes. (MayReadOld command bytes ⊎ (old.new ≡ old.old)) × OfRead (O.left old.old) (λ old_bytes.
+        Ends (Says command bytes old_bytes) result.status (K.given out.old) (K.given out.new)))
+        × (ReadsJob command ⊎ (job.new ≡ job.old)) × (trace.new ≡ trace.old) × (result.store ≡ None)) }
+
+    // `run` gives the line on a text that is no job's.
+    ensures bad_job { command_in (map string_bytes words.now) ≡ Some commands.Run → result.status ≡ Status.BadJob →
+        OfRead (J.left job.old) (λ bytes. Told bytes (K.given out.old) (K.given out.new)) × (trace.new ≡ trace.old) × (result.store ≡ None) }
+    ensures no_job { command_in (map string_bytes words.now) ≡ Some commands.Run → IsSomeAnd (J.left job.old) HasFault →
         (result.status ≡ Status.BadJob) ⊎ MayStandIn result.status }
-
-    ensures bad_trace { result.status ≡ Status.BadTrace →
-        (ReadsOld (command_in (map string_bytes words.now)) × OfRead (J.left job.old) HasJob
-        × OfRead (O.left old.old) (λ bytes. LineTold Edition.Two bytes (K.given out.old) (K.given out.new))
-        ⊎ Pictures (command_in (map string_bytes words.now))
-        × OfRead (O.left old.old) (λ bytes. LineTold Edition.Two bytes (K.given out.old) (K.given out.new))
-        ⊎ Migrates (command_in (map string_bytes words.now))
-        × OfRead (O.left old.old) (λ bytes. LineTold Edition.One bytes (K.given out.old) (K.given out.new)))
-        × (trace.new ≡ trace.old) × (result.store ≡ None) }
-    ensures no_trace { ReadsOld (command_in (map string_bytes words.now)) → IsSomeAnd (J.left job.old) HasJob →
-        IsSomeAnd (O.left old.old) (HasWrongLine Edition.Two) → (result.status ≡ Status.BadTrace) ⊎ MayStandIn result.status }
+    ensures run_else { command_in (map string_bytes words.now) ≡ Some commands.Run → IsRunEnd result.status × (old.new ≡ old.old) }
 
     // Whatever the store gave: a whole run of the job, with its texts, that ended as the status says.
     ensures ran { command_in (map string_bytes words.now) ≡ Some commands.Run → (end : End) → result.status ≡ status_of end →
@@ -138,135 +120,16 @@ pub fn sgxpage<
         NoFault (K.faults out.old) (K.faults out.new) →
         NoFault (L.faults trace.old) (L.faults trace.new) →
         HasEnded result.status ⊎ (result.status ≡ Status.Memory) }
-
-    ensures write_fault { result.status ≡ Status.WriteFault →
-        HasRisen (K.faults out.old) (K.faults out.new) ⊎ HasRisen (L.faults trace.old) (L.faults trace.new) }
     ensures broke { command_in (map string_bytes words.now) ≡ Some commands.Run → result.status ≡ Status.WriteFault
         → OfRead (J.left job.old) (λ bytes.
         (HalfTold bytes (K.given out.old) (K.given out.new) × (trace.new ≡ trace.old) × (result.store ≡ None))
         ⊎ ((end : End) × IsSomeAnd result.store (λ store. RanBy bytes end (B.told store) (B.plans store)
         (λ j past. HalfGiven j past (K.given out.old) (K.given out.new) (L.given trace.old) (L.given trace.new))))) }
-    ensures memory { result.status ≡ Status.Memory → (out.new ≡ out.old) × (trace.new ≡ trace.old) }
     // The store comes back from a run that came to its end, whatever the status, and from no other.
     ensures back { command_in (map string_bytes words.now) ≡ Some commands.Run → IfSome result.store (λ store.
         OfRead (J.left job.old) (λ bytes. (end : End) × RanBy bytes end (B.told store) (B.plans store) (λ j past. Unit {0}))) }
-    ensures demo_back { (number size : ℕ) → command_in (map string_bytes words.now) ≡ Some (commands.Demo number size) →
-        IfSome result.store (λ store. (end : End) × DemoBy number size end (B.told store) (B.plans store) (λ entries. Unit {0})) }
-    // A store that tells its calls goes on to.
-    ensures tells { IfSome result.store (λ back. is_some (B.told back) ≡ is_some (B.told store)) }
 
-    ensures make { (number size : ℕ) → command_in (map string_bytes words.now) ≡ Some (commands.Make number size) →
-        IsTextGiven (job_text (made_job number size)) result.status (K.given out.old) (K.given out.new)
-        × (job.new ≡ job.old) × (trace.new ≡ trace.old) × (result.store ≡ None) }
-
-    ensures gate { (rounds : ℕ) → command_in (map string_bytes words.now) ≡ Some (commands.Gate rounds) →
-        IsTextGiven (gate_text rounds) result.status (K.given out.old) (K.given out.new)
-        × (job.new ≡ job.old) × (trace.new ≡ trace.old) × (result.store ≡ None) }
-
-    ensures help { command_in (map string_bytes words.now) ≡ Some commands.Help →
-        IsTextGiven HELP.now result.status (K.given out.old) (K.given out.new)
-        × (job.new ≡ job.old) × (trace.new ≡ trace.old) × (result.store ≡ None) }
-
-    // The numbers of the old trace, for the job.
-    ensures least { command_in (map string_bytes words.now) ≡ Some commands.Least → result.status ≡ Status.Done →
-        OfRead (J.left job.old) (λ bytes. OfRead (O.left old.old) (λ old_bytes.
-        LeastBy bytes old_bytes (λ text. K.given out.new ≡ followed_by (K.given out.old) text))) }
-    ensures least_complete { command_in (map string_bytes words.now) ≡ Some commands.Least →
-        IsSomeAnd (J.left job.old) HasJob → IsSomeAnd (O.left old.old) (HasTrace Edition.Two) →
-        NoFault (J.faults job.old) (J.faults job.new) →
-        NoFault (O.faults old.old) (O.faults old.new) →
-        NoFault (K.faults out.old) (K.faults out.new) →
-        (result.status ≡ Status.Done) ⊎ (result.status ≡ Status.Memory) }
-    ensures least_broke { command_in (map string_bytes words.now) ≡ Some commands.Least → result.status ≡ Status.WriteFault →
-        OfRead (J.left job.old) (λ bytes. HalfTold bytes (K.given out.old) (K.given out.new)) × (old.new ≡ old.old)
-        ⊎ OfRead (J.left job.old) HasJob × OfRead (O.left old.old)
-        (λ bytes. HalfLineTold Edition.Two bytes (K.given out.old) (K.given out.new))
-        ⊎ OfRead (J.left job.old) (λ bytes. OfRead (O.left old.old) (λ old_bytes.
-        LeastBy bytes old_bytes (λ text. GivesPart (K.given out.old) (K.given out.new) text))) }
-    ensures least_else { command_in (map string_bytes words.now) ≡ Some commands.Least →
-        IsLeastEnd result.status × (trace.new ≡ trace.old) × (result.store ≡ None) }
-
-    // The verdict on the old trace, by all rules or by the processor's: it keeps them, or some rule fails.
-    ensures judge { (rules : Rules) → command_in (map string_bytes words.now) ≡ Some (commands.Judge rules) → result.status ≡ Status.Done →
-        OfRead (J.left job.old) (λ bytes. OfRead (O.left old.old) (λ old_bytes.
-        YesTold rules bytes old_bytes (K.given out.old) (K.given out.new))) }
-    ensures judge_no { result.status ≡ Status.AuditNo →
-        (rules : Rules) × (command_in (map string_bytes words.now) ≡ Some (commands.Judge rules))
-        × OfRead (J.left job.old) (λ bytes. OfRead (O.left old.old) (λ old_bytes.
-        NoTold rules bytes old_bytes (K.given out.old) (K.given out.new))) }
-    // What keeps them is never refused, and nothing else is taken for it.
-    ensures judge_right { (rules : Rules) → command_in (map string_bytes words.now) ≡ Some (commands.Judge rules) →
-        IsSomeAnd (J.left job.old) (λ bytes. IsSomeAnd (O.left old.old) (IsRight rules bytes)) → result.status ≡ Status.AuditNo → ⊥ }
-    ensures judge_wrong { (rules : Rules) → command_in (map string_bytes words.now) ≡ Some (commands.Judge rules) →
-        IsSomeAnd (J.left job.old) (λ bytes. IsSomeAnd (O.left old.old) (IsWrong rules bytes)) → result.status ≡ Status.Done → ⊥ }
-    ensures judge_complete { Judges (command_in (map string_bytes words.now)) →
-        IsSomeAnd (J.left job.old) HasJob → IsSomeAnd (O.left old.old) (HasTrace Edition.Two) →
-        NoFault (J.faults job.old) (J.faults job.new) →
-        NoFault (O.faults old.old) (O.faults old.new) →
-        NoFault (K.faults out.old) (K.faults out.new) →
-        (result.status ≡ Status.Done) ⊎ (result.status ≡ Status.AuditNo) ⊎ (result.status ≡ Status.Memory) }
-    ensures judge_broke { (rules : Rules) → command_in (map string_bytes words.now) ≡ Some (commands.Judge rules) →
-        result.status ≡ Status.WriteFault →
-        OfRead (J.left job.old) (λ bytes. HalfTold bytes (K.given out.old) (K.given out.new)) × (old.new ≡ old.old)
-        ⊎ OfRead (J.left job.old) HasJob × OfRead (O.left old.old)
-        (λ bytes. HalfLineTold Edition.Two bytes (K.given out.old) (K.given out.new))
-        ⊎ OfRead (J.left job.old) (λ bytes. OfRead (O.left old.old) (λ old_bytes.
-        HalfJudged rules bytes old_bytes (K.given out.old) (K.given out.new))) }
-    ensures judge_else { Judges (command_in (map string_bytes words.now)) →
-        IsAuditEnd result.status × (trace.new ≡ trace.old) × (result.store ≡ None) }
-
-    // The answer to a question to the old trace.
-    ensures ask { (question : Question) → command_in (map string_bytes words.now) ≡ Some (commands.Ask question) →
-        result.status ≡ Status.Done → OfRead (J.left job.old) (λ bytes. OfRead (O.left old.old) (λ old_bytes.
-        AnsweredBy question bytes old_bytes (λ text. K.given out.new ≡ followed_by (K.given out.old) text))) }
-    ensures ask_complete { Asks (command_in (map string_bytes words.now)) →
-        IsSomeAnd (J.left job.old) HasJob → IsSomeAnd (O.left old.old) (HasTrace Edition.Two) →
-        NoFault (J.faults job.old) (J.faults job.new) →
-        NoFault (O.faults old.old) (O.faults old.new) →
-        NoFault (K.faults out.old) (K.faults out.new) →
-        (result.status ≡ Status.Done) ⊎ (result.status ≡ Status.Memory) }
-    ensures ask_broke { (question : Question) → command_in (map string_bytes words.now) ≡ Some (commands.Ask question) →
-        result.status ≡ Status.WriteFault →
-        OfRead (J.left job.old) (λ bytes. HalfTold bytes (K.given out.old) (K.given out.new)) × (old.new ≡ old.old)
-        ⊎ OfRead (J.left job.old) HasJob × OfRead (O.left old.old)
-        (λ bytes. HalfLineTold Edition.Two bytes (K.given out.old) (K.given out.new))
-        ⊎ OfRead (J.left job.old) (λ bytes. OfRead (O.left old.old) (λ old_bytes.
-        AnsweredBy question bytes old_bytes (λ text. GivesPart (K.given out.old) (K.given out.new) text))) }
-    ensures ask_else { Asks (command_in (map string_bytes words.now)) →
-        IsLeastEnd result.status × (trace.new ≡ trace.old) × (result.store ≡ None) }
-
-    // The picture of the old trace.
-    ensures picture { Pictures (command_in (map string_bytes words.now)) → result.status ≡ Status.Done →
-        OfRead (O.left old.old) (λ bytes. PicturedBy bytes (λ text. K.given out.new ≡ followed_by (K.given out.old) text)) }
-    ensures picture_no_trace { Pictures (command_in (map string_bytes words.now)) →
-        IsSomeAnd (O.left old.old) (HasWrongLine Edition.Two) → (result.status ≡ Status.BadTrace) ⊎ MayStandIn result.status }
-    ensures picture_complete { Pictures (command_in (map string_bytes words.now)) →
-        IsSomeAnd (O.left old.old) (HasTrace Edition.Two) →
-        NoFault (O.faults old.old) (O.faults old.new) →
-        NoFault (K.faults out.old) (K.faults out.new) →
-        (result.status ≡ Status.Done) ⊎ (result.status ≡ Status.Memory) }
-    ensures picture_broke { Pictures (command_in (map string_bytes words.now)) → result.status ≡ Status.WriteFault →
-        OfRead (O.left old.old) (λ bytes. HalfLineTold Edition.Two bytes (K.given out.old) (K.given out.new))
-        ⊎ OfRead (O.left old.old) (λ bytes. PicturedBy bytes (λ text. GivesPart (K.given out.old) (K.given out.new) text)) }
-    ensures picture_else { Pictures (command_in (map string_bytes words.now)) →
-        IsMigrateEnd result.status × (job.new ≡ job.old) × (trace.new ≡ trace.old) × (result.store ≡ None) }
-
-    // The old trace of the first edition in the second.
-    ensures migrate { Migrates (command_in (map string_bytes words.now)) → result.status ≡ Status.Done →
-        OfRead (O.left old.old) (λ bytes. MigratedBy bytes (λ text. K.given out.new ≡ followed_by (K.given out.old) text)) }
-    ensures migrate_no_trace { Migrates (command_in (map string_bytes words.now)) →
-        IsSomeAnd (O.left old.old) (HasWrongLine Edition.One) → (result.status ≡ Status.BadTrace) ⊎ MayStandIn result.status }
-    ensures migrate_complete { Migrates (command_in (map string_bytes words.now)) →
-        IsSomeAnd (O.left old.old) (HasTrace Edition.One) →
-        NoFault (O.faults old.old) (O.faults old.new) →
-        NoFault (K.faults out.old) (K.faults out.new) →
-        (result.status ≡ Status.Done) ⊎ (result.status ≡ Status.Memory) }
-    ensures migrate_broke { Migrates (command_in (map string_bytes words.now)) → result.status ≡ Status.WriteFault →
-        OfRead (O.left old.old) (λ bytes. HalfLineTold Edition.One bytes (K.given out.old) (K.given out.new))
-        ⊎ OfRead (O.left old.old) (λ bytes. MigratedBy bytes (λ text. GivesPart (K.given out.old) (K.given out.new) text)) }
-    ensures migrate_else { Migrates (command_in (map string_bytes words.now)) →
-        IsMigrateEnd result.status × (job.new ≡ job.old) × (trace.new ≡ trace.old) × (result.store ≡ None) }
-
+    // `demo` gives the summary of a whole run.
     ensures demo { (number size : ℕ) → command_in (map string_bytes words.now) ≡ Some (commands.Demo number size) →
         (end : End) → result.status ≡ status_of end → IsSomeAnd result.store (λ store.
         DemoBy number size end (B.told store) (B.plans store) (λ entries.
@@ -276,7 +139,12 @@ pub fn sgxpage<
         DemoBy number size end (B.told store) (B.plans store) (λ entries.
         GivesPart (K.given out.old) (K.given out.new) (summary_of (made_job number size) size entries))) }
     ensures demo_else { (number size : ℕ) → command_in (map string_bytes words.now) ≡ Some (commands.Demo number size) →
-        IsDemoEnd result.status × (job.new ≡ job.old) × (trace.new ≡ trace.old) }
+        IsDemoEnd result.status × (job.new ≡ job.old) × (old.new ≡ old.old) × (trace.new ≡ trace.old) }
+    ensures demo_back { (number size : ℕ) → command_in (map string_bytes words.now) ≡ Some (commands.Demo number size) →
+        IfSome result.store (λ store. (end : End) × DemoBy number size end (B.told store) (B.plans store) (λ entries. Unit {0})) }
+
+    // A store that tells its calls goes on to.
+    ensures tells { IfSome result.store (λ back. is_some (B.told back) ≡ is_some (B.told store)) }
 {
     match command_of(words) {
         None => unrun(Status::BadWords),
@@ -285,12 +153,16 @@ pub fn sgxpage<
         Some(Command::Demo { number, size }) => demo_command(
             rt, alloc, number, size, out, store, gate,
         ),
-        Some(Command::Least) => unrun(least_command(alloc, job, old, out)),
-        Some(Command::Judge { rules }) => unrun(audit_command(alloc, rules, job, old, out)),
-        Some(Command::Ask { question }) => unrun(ask_command(alloc, question, job, old, out)),
-        Some(Command::Picture) => unrun(picture_command(alloc, old, out)),
-        Some(Command::Migrate) => unrun(migrate_command(alloc, old, out)),
+        Some(Command::Tell { telling }) => unrun(tell_of_both(alloc, telling, job, old, out)),
+        Some(Command::Show { showing }) => unrun(show_trace(alloc, showing, old, out)),
         Some(Command::Gate { rounds }) => unrun(rounds_command(rt, alloc, rounds, out)),
         Some(Command::Help) => unrun(help_command(out)),
     }
 }
+
+/// A command that runs no job ends in one way, by the bytes that it reads. So what is no job or no trace is never taken for one, what keeps
+/// the rules is never refused, and nothing else is taken for that.
+pub fn a_command_ends_in_one_way()
+    ensures { (command : Command) (bytes old_bytes : List ℕ) (s t : Status) (text other : List ℕ) → Says command bytes old_bytes s text
+        → Says command bytes old_bytes t other → s ≡ t }
+{}

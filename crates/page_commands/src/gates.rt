@@ -2,7 +2,7 @@
 
 ghost use Rattle.gate_command.specs.GateText.{gate_text};
 ghost use Rattle.io_edges.specs.Faults.{HasRisen};
-ghost use Rattle.page_commands.specs.Runs.{IsTextGiven};
+ghost use Rattle.page_commands.specs.inner.Commands.{IsTextGiven};
 ghost use Rattle.std.specs.Prelude.{◌≡◌, ◌≤◌};
 
 use crate::status::Status;

@@ -1,7 +1,7 @@
 //! The command `help`: what the commands are.
 
 ghost use Rattle.io_edges.specs.Faults.{HasRisen};
-ghost use Rattle.page_commands.specs.Runs.{IsTextGiven};
+ghost use Rattle.page_commands.specs.inner.Commands.{IsTextGiven};
 ghost use Rattle.std.specs.Prelude.{◌≡◌};
 
 use crate::status::Status;

@@ -4,10 +4,11 @@ ghost use Rattle.std.specs.Prelude.{◌≡◌, ◌+◌, ◌^◌, IfErr, IfOk, Is
 ghost use Rattle.io_edges.specs.Faults.{HasRisen};
 ghost use Rattle.io_edges.specs.Sinks.{GivesPart, followed_by};
 ghost use Rattle.io_edges.specs.Sources.{TakesAtMost};
-ghost use Rattle.page_commands.specs.Commands.{IsUnrun};
+ghost use Rattle.page_commands.specs.inner.Commands.{IsUnrun};
 ghost use Rattle.job_text.specs.Reading.{read};
 ghost use Rattle.old_trace.specs.Reading.{OfRead};
 ghost use Rattle.page_commands.specs.Runs.{fault_line};
+ghost use Rattle.page_commands.specs.Says.{Ends};
 ghost use Rattle.page_commands.specs.inner.Runs.{IsFaultAnd, IsFaultOf};
 
 use crate::fault_lines::print_fault;
@@ -62,6 +63,8 @@ pub(crate) fn read<J: Source>(alloc: Global, source: &mut J) -> Result<Job, Unre
 
 /// Gives the line on what is wrong with a job. What else kept it from being read needs no text.
 pub(crate) fn tell<K: Sink>(alloc: Global, out: &mut K, unread: Unread) -> Status
+    ensures told { Ends (λ status text. (status ≡ Status.BadJob) × IsFaultAnd unread (λ fault. text ≡ fault_line fault)) result
+        (K.given out.old) (K.given out.new) }
     ensures unrun { IsUnrun result }
     ensures fault { result ≡ Status.BadJob →
         IsFaultAnd unread (λ fault. K.given out.new ≡ followed_by (K.given out.old) (fault_line fault)) }

@@ -1,14 +1,14 @@
 //! The commands `make` and `demo`, of a job that is made of a number and a size.
 
-ghost use Rattle.std.specs.Prelude.{◌≡◌, ◌≤◌, ◌⊎◌, [], is_some, IfSome, IsErrOf, IsSomeAnd, OnOk, Some};
+ghost use Rattle.std.specs.Prelude.{◌≡◌, ◌≤◌, [], is_some, IfSome, IsErrOf, IsSomeAnd, OnOk, Some};
 ghost use Rattle.io_edges.specs.Faults.{HasRisen};
 ghost use Rattle.io_edges.specs.Sinks.{GivesPart, followed_by};
 ghost use Rattle.job_make.specs.MadeJob.{made_job};
 ghost use Rattle.job_print.specs.JobText.{job_text};
 ghost use Rattle.run_summary.specs.Summary.{summary_of};
 ghost use Rattle.page_commands.specs.Commands.{IsDemoEnd, status_of};
-ghost use Rattle.page_commands.specs.inner.Commands.{IsGiven};
-ghost use Rattle.page_commands.specs.Runs.{DemoBy, IsTextGiven};
+ghost use Rattle.page_commands.specs.inner.Commands.{IsGiven, IsTextGiven};
+ghost use Rattle.page_commands.specs.Runs.{DemoBy};
 ghost use Rattle.run_jobs.specs.declared.ends.End.{End};
 
 use crate::ended::{Ended, unrun};

@@ -4,8 +4,8 @@ ghost use Rattle.std.specs.Prelude.{◌≡◌, ◌+◌, ◌^◌, ◌⊎◌, [], 
 ghost use Rattle.io_edges.specs.Faults.{HasRisen};
 ghost use Rattle.io_edges.specs.Sources.{TakesAtMost};
 ghost use Rattle.old_trace.specs.Reading.{OfRead};
-ghost use Rattle.page_commands.specs.Commands.{HasEnded, MayStandIn, NoFault, status_of};
-ghost use Rattle.page_commands.specs.inner.Commands.{IsGiven, IsRunEnd};
+ghost use Rattle.page_commands.specs.Commands.{HasEnded, IsRunEnd, MayStandIn, NoFault, status_of};
+ghost use Rattle.page_commands.specs.inner.Commands.{IsGiven};
 ghost use Rattle.page_commands.specs.Runs.{BothGiven, HalfGiven, HalfTold, HasFault, HasJob, RanBy, Told};
 ghost use Rattle.run_jobs.specs.declared.ends.End.{End};
 

@@ -1,15 +1,12 @@
 //! The old trace of a command: read behind its job, or the line on what is wrong with either.
 
-ghost use Rattle.std.specs.Prelude.{◌≡◌, ◌+◌, ◌^◌, ◌⊎◌, Err, Ok, IfErr, IfOk, IsErr, IsErrAnd, IsErrOf, IsSomeAnd};
-ghost use Rattle.std.specs.Prelude.{OnOk};
+ghost use Rattle.std.specs.Prelude.{◌≡◌, ◌+◌, ◌^◌, ◌⊎◌, Ok, IfErr, IfOk, IsErrOf, OnOk};
 ghost use Rattle.io_edges.specs.Faults.{HasRisen};
-ghost use Rattle.io_edges.specs.Sinks.{GivesPart, followed_by};
 ghost use Rattle.io_edges.specs.Sources.{TakesAtMost};
 ghost use Rattle.job_text.specs.Reading.{read};
 ghost use Rattle.old_trace.specs.Reading.{OfRead, Reads, fault_line};
-ghost use Rattle.page_commands.specs.Commands.{IsUntraced, MayStandIn, NoFault};
-ghost use Rattle.page_commands.specs.Runs.{HalfTold, HasFault, HasJob, Told};
-ghost use Rattle.page_commands.specs.Traces.{HalfLineTold, HasTrace, HasWrongLine, LineTold};
+ghost use Rattle.page_commands.specs.Runs.{HasJob};
+ghost use Rattle.page_commands.specs.Says.{Ends, OfBoth, OfTrace};
 
 use crate::jobs::{read, tell};
 use crate::status::Status;
@@ -39,44 +36,30 @@ pub(crate) fn read_traced<J: Source, O: Source, K: Sink>(
     old: &mut O,
     out: &mut K,
 ) -> Result<Traced, Status>
-    ensures kind { IfErr result IsUntraced }
     ensures reads_job { TakesAtMost (2 ^ 24 + 1) (J.left job.old) (J.left job.new) }
     ensures reads_old { TakesAtMost (2 ^ 30 + 1) (O.left old.old) (O.left old.new) }
-    ensures behind { OfRead (J.left job.old) HasJob ⊎ (old.new ≡ old.old) }
 
     ensures job { IfOk result (λ traced. OfRead (J.left job.old) (λ bytes. read bytes ≡ Ok traced.job)) }
     ensures entries { IfOk result (λ traced. OfRead (O.left old.old) (λ bytes. Reads Edition.Two bytes (Ok traced.entries.items))) }
     ensures untold { OnOk result (out.new ≡ out.old) }
+    ensures told { IfErr result (λ status.
+        OfRead (J.left job.old) (λ bytes. (HasJob bytes ⊎ (old.new ≡ old.old)) × OfRead (O.left old.old) (λ old_bytes.
+        Ends (OfBoth bytes old_bytes (λ j past status text. ⊥)) status (K.given out.old) (K.given out.new)))) }
 
     ensures read_fault { IsErrOf result Status.ReadFault →
         (HasRisen (J.faults job.old) (J.faults job.new) × (old.new ≡ old.old)
         ⊎ OfRead (J.left job.old) HasJob × HasRisen (O.faults old.old) (O.faults old.new)) × (out.new ≡ out.old) }
-    ensures bad_job { IsErrOf result Status.BadJob →
-        OfRead (J.left job.old) (λ bytes. Told bytes (K.given out.old) (K.given out.new)) × (old.new ≡ old.old) }
-    ensures bad_trace { IsErrOf result Status.BadTrace →
-        OfRead (J.left job.old) HasJob × OfRead (O.left old.old) (λ bytes. LineTold Edition.Two bytes (K.given out.old) (K.given out.new)) }
-    ensures no_job { IsSomeAnd (J.left job.old) HasFault →
-        IsErrAnd result (λ status. (status ≡ Status.BadJob) ⊎ MayStandIn status) }
-    ensures no_trace { IsSomeAnd (J.left job.old) HasJob → IsSomeAnd (O.left old.old) (HasWrongLine Edition.Two) →
-        IsErrAnd result (λ status. (status ≡ Status.BadTrace) ⊎ MayStandIn status) }
-    // What is read without a fault is read, unless memory is refused.
-    ensures complete { IsSomeAnd (J.left job.old) HasJob → IsSomeAnd (O.left old.old) (HasTrace Edition.Two) →
-        NoFault (J.faults job.old) (J.faults job.new) →
-        NoFault (O.faults old.old) (O.faults old.new) →
-        IfErr result (λ status. status ≡ Status.Memory) }
-
     ensures write_fault { IsErrOf result Status.WriteFault → HasRisen (K.faults out.old) (K.faults out.new) }
-    ensures broke { IsErrOf result Status.WriteFault →
-        OfRead (J.left job.old) (λ bytes. HalfTold bytes (K.given out.old) (K.given out.new)) × (old.new ≡ old.old)
-        ⊎ OfRead (J.left job.old) HasJob × OfRead (O.left old.old)
-        (λ bytes. HalfLineTold Edition.Two bytes (K.given out.old) (K.given out.new)) }
     ensures memory { IsErrOf result Status.Memory → out.new ≡ out.old }
 {
     let job = match read(alloc, job) {
         Ok(job) => job,
         Err(unread) => return Err(tell(alloc, out, unread)),
     };
-    let entries = read_entries(alloc, Edition::Two, old, out)?;
+    let entries = match read_entries(alloc, Edition::Two, old, out) {
+        Ok(entries) => entries,
+        Err(status) => return Err(status),
+    };
     Ok(Traced { job, entries })
 }
 
@@ -87,19 +70,13 @@ pub(crate) fn read_entries<O: Source, K: Sink>(
     old: &mut O,
     out: &mut K,
 ) -> Result<Vec<Entry>, Status>
-    ensures kind { IfErr result (λ status. (status ≡ Status.BadTrace) ⊎ MayStandIn status) }
     ensures reads { TakesAtMost (2 ^ 30 + 1) (O.left old.old) (O.left old.new) }
     ensures entries { IfOk result (λ entries. OfRead (O.left old.old) (λ bytes. Reads edition bytes (Ok entries.items))) }
     ensures untold { OnOk result (out.new ≡ out.old) }
+    ensures told { IfErr result (λ status. OfRead (O.left old.old) (λ bytes.
+        Ends (OfTrace edition bytes (λ past status text. ⊥)) status (K.given out.old) (K.given out.new))) }
     ensures read_fault { IsErrOf result Status.ReadFault → HasRisen (O.faults old.old) (O.faults old.new) × (out.new ≡ out.old) }
-    ensures bad_trace { IsErrOf result Status.BadTrace →
-        OfRead (O.left old.old) (λ bytes. LineTold edition bytes (K.given out.old) (K.given out.new)) }
-    ensures no_trace { IsSomeAnd (O.left old.old) (HasWrongLine edition) → IsErr result }
-    ensures complete { IsSomeAnd (O.left old.old) (HasTrace edition) → NoFault (O.faults old.old) (O.faults old.new) →
-        IfErr result (λ status. status ≡ Status.Memory) }
     ensures write_fault { IsErrOf result Status.WriteFault → HasRisen (K.faults out.old) (K.faults out.new) }
-    ensures broke { IsErrOf result Status.WriteFault →
-        OfRead (O.left old.old) (λ bytes. HalfLineTold edition bytes (K.given out.old) (K.given out.new)) }
     ensures memory { IsErrOf result Status.Memory → out.new ≡ out.old }
 {
     match read_old(alloc, edition, old) {
@@ -112,9 +89,8 @@ pub(crate) fn read_entries<O: Source, K: Sink>(
 
 // Gives the line on the first fault of an old trace.
 fn tell_line<K: Sink>(alloc: Global, out: &mut K, line: u64) -> Status
+    ensures told { Ends (λ status text. (status ≡ Status.BadTrace) × (text ≡ fault_line line)) result (K.given out.old) (K.given out.new) }
     ensures kind { (result ≡ Status.BadTrace) ⊎ (result ≡ Status.WriteFault) ⊎ (result ≡ Status.Memory) }
-    ensures bad_trace { result ≡ Status.BadTrace → K.given out.new ≡ followed_by (K.given out.old) (fault_line line) }
-    ensures broke { result ≡ Status.WriteFault → GivesPart (K.given out.old) (K.given out.new) (fault_line line) }
     ensures write_fault { result ≡ Status.WriteFault → HasRisen (K.faults out.old) (K.faults out.new) }
     ensures memory { result ≡ Status.Memory → out.new ≡ out.old }
 {

@@ -87,17 +87,9 @@ fn unread_words(why: ErrorKind) -> Status {
 // The path that the words name: of the trace that a run gives, or of the old one that is read. Other commands open none.
 fn trace_path(words: &[String]) -> &str {
     match (command_of(words), words.get(1)) {
-        (
-            Some(
-                Command::Run
-                | Command::Judge { .. }
-                | Command::Least
-                | Command::Ask { .. }
-                | Command::Migrate
-                | Command::Picture,
-            ),
-            Some(path),
-        ) => path.as_str(),
+        (Some(Command::Run | Command::Tell { .. } | Command::Show { .. }), Some(path)) => {
+            path.as_str()
+        }
         _ => "",
     }
 }

@@ -8,4 +8,6 @@ mod makes;
 #[cfg(test)]
 mod prints;
 #[cfg(test)]
+mod same;
+#[cfg(test)]
 mod texts;

@@ -2,6 +2,7 @@
 
 ghost use Rattle.std.specs.Prelude.{◌≤◌};
 
+use crate::same::are_same;
 use hex::ToHex;
 use job_make::maker::make_job;
 use job_print::printer::print_job;
@@ -63,9 +64,9 @@ fn texts_of_made_jobs(rt: HostRuntime) -> Result<(), Fail> {
     for (number, size, bytes, digest) in JOBS {
         assert!(rt; 4 <= *size && *size <= 2000);
         let text = text_of(rt.alloc(), *number, *size)?;
-        assert_eq!(rt; text.len(), *bytes);
+        are_same(&rt, text.len(), *bytes);
         let found = Sha256::digest(text.as_slice()).encode_hex(rt.alloc())?;
-        assert_eq!(rt; found.as_str(), *digest);
+        are_same(&rt, found.as_str(), *digest);
     }
     Ok(())
 }
@@ -77,6 +78,6 @@ fn hundred_large_jobs(rt: HostRuntime) -> Result<(), Fail> {
     for number in 0..100 {
         bytes = bytes.saturating_add(text_of(rt.alloc(), number, 2000)?.len());
     }
-    assert_eq!(rt; bytes, 13_132_821);
+    are_same(&rt, bytes, 13_132_821);
     Ok(())
 }

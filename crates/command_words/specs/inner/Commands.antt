@@ -6,11 +6,8 @@ use Rattle.command_words.specs.declared.command.Command.TheVariants as commands
 -- its size, or its rounds, are as many as those words can say
 abbrev pub IsSized : Command → Type 0
 IsSized commands.Run = Unit {0}
-IsSized commands.Least = Unit {0}
-IsSized (commands.Judge rules) = Unit {0}
-IsSized commands.Migrate = Unit {0}
-IsSized commands.Picture = Unit {0}
-IsSized (commands.Ask question) = Unit {0}
+IsSized (commands.Tell telling) = Unit {0}
+IsSized (commands.Show showing) = Unit {0}
 IsSized (commands.Make number size) = (4 ≤ size) × (size ≤ 2000)
 IsSized (commands.Demo number size) = (4 ≤ size) × (size ≤ 2000)
 IsSized (commands.Gate rounds) = (1 ≤ rounds) × (rounds ≤ 100000)

@@ -1,9 +1,10 @@
--- The numbers of the statuses, and how each command may end.
-use Rattle.std.specs.Prelude.{ℕ, ◌≡◌}
+-- The numbers of the statuses, and how commands end inside.
+use Rattle.std.specs.Prelude.{ℕ, ◌≡◌, List, Option}
+use Rattle.io_edges.specs.Sinks.{followed_by, GivesPart}
 use Rattle.run_jobs.specs.declared.ends.End.{End}
 use Rattle.page_commands.specs.declared.status.Status.{Status}
 use Rattle.page_commands.specs.declared.status.Status.TheVariants as statuses
-use Rattle.page_commands.specs.Commands.{status_of}
+use Rattle.page_commands.specs.Commands.{MayStandIn, status_of}
 
 -- the exit status of the program
 abbrev pub number_of : Status → ℕ
@@ -24,9 +25,14 @@ IsGiven end statuses.WriteFault Given = Unit {0}
 IsGiven end statuses.Memory Given = Unit {0}
 IsGiven end status Given = (status ≡ status_of end) × Given
 
--- how `run` may end, how `demo`, how `least` and how `audit`
-abbrev pub IsRunEnd : Status → Type 0
-IsRunEnd statuses.BadWords = ⊥
-IsRunEnd statuses.BadTrace = ⊥
-IsRunEnd statuses.AuditNo = ⊥
-IsRunEnd status = Unit {0}
+-- a sink got this text, or a proper front of it, or nothing
+abbrev pub IsTextGiven : List ℕ → Status → Option (List ℕ) → Option (List ℕ) → Type 0
+IsTextGiven text statuses.Done out out' = out' ≡ followed_by out text
+IsTextGiven text statuses.WriteFault out out' = GivesPart out out' text
+IsTextGiven text statuses.Memory out out' = out' ≡ out
+IsTextGiven text status out out' = ⊥
+
+-- how a command may end that has read no job
+abbrev pub IsUnrun : Status → Type 0
+IsUnrun statuses.BadJob = Unit {0}
+IsUnrun status = MayStandIn status

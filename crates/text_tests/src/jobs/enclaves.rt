@@ -1,5 +1,6 @@
 //! Jobs of two enclaves, and what is wrong with others.
 
+use crate::same::are_same;
 use job_grammar::jobs::{EnclaveJob, Job, Op, PageLine, needed};
 use sgx_types::names::Perm;
 use std::process::Abort;
@@ -59,17 +60,19 @@ fn outline(enclave: &EnclaveJob) -> (u64, u64, usize, Option<PageLine>) {
 
 pub fn is_two(rt: &impl Abort, job: &Job) {
     let counts = (job.epc(), job.enclaves().len(), job.va_pages(), needed(job));
-    assert_eq!(rt; counts, (10, 2, 1, 7));
-    assert_eq!(rt;
+    are_same(rt, counts, (10, 2, 1, 7));
+    are_same(
+        rt,
         job.enclaves().first().map(outline),
-        Some((65536, 65536, 3, Some(FIRST_LINE)))
+        Some((65536, 65536, 3, Some(FIRST_LINE))),
     );
-    assert_eq!(rt;
+    are_same(
+        rt,
         job.enclaves().get(1).map(outline),
-        Some((65536, 32768, 3, Some(SECOND_LINE)))
+        Some((65536, 32768, 3, Some(SECOND_LINE))),
     );
     for script in job.scripts() {
-        assert_eq!(rt; script.as_slice(), SCRIPT.as_slice());
+        are_same(rt, script.as_slice(), SCRIPT.as_slice());
     }
 }
 
@@ -101,7 +104,7 @@ pub type Digest = Option<[u8; 32]>;
 pub fn expects(rt: &impl Abort, job: &Job, one: &Digest, other: &Digest) {
     let first = job.enclaves().first().and_then(|enclave| enclave.expect);
     let second = job.enclaves().get(1).and_then(|enclave| enclave.expect);
-    assert_eq!(rt; (first, second), (*one, *other));
+    are_same(rt, (first, second), (*one, *other));
 }
 
 // `TWO` with a digest within A.

@@ -1,6 +1,7 @@
 //! The grammar of jobs, line by line.
 
 use super::enclaves::DIGEST;
+use crate::same::are_same;
 use io_edges::plans::PlanLine;
 use job_grammar::jobs::{Job, Marks};
 use sgx_types::names::Page;
@@ -213,20 +214,22 @@ pub fn is_whole(rt: &impl Abort, job: &Job) {
         high: 8,
         scan: 2,
     };
-    assert_eq!(rt;
+    are_same(
+        rt,
         (
             job.epc(),
             job.marks(),
             job.start_epoch(),
-            job.start_version()
+            job.start_version(),
         ),
-        (40, marks, 5, 9)
+        (40, marks, 5, 9),
     );
-    assert_eq!(rt; job.key().as_slice(), DIGEST.as_slice());
-    assert_eq!(rt; job.plans(), PLANS);
-    assert_eq!(rt;
+    are_same(rt, job.key().as_slice(), DIGEST.as_slice());
+    are_same(rt, job.plans(), PLANS);
+    are_same(
+        rt,
         (job.enclaves().len(), job.scripts().len(), job.pages()),
-        (2, 2, 8)
+        (2, 2, 8),
     );
 }
 

@@ -1,5 +1,6 @@
 //! A small job, and others that differ from it.
 
+use crate::same::are_same;
 use job_grammar::jobs::{Job, Marks, Op, PageLine, needed};
 use sgx_types::names::Perm;
 use std::process::Abort;
@@ -77,18 +78,19 @@ pub fn is_first(rt: &impl Abort, job: &Job) {
         job.va_pages(),
         needed(job),
     );
-    assert_eq!(rt; head, HEAD);
+    are_same(rt, head, HEAD);
     let counts = (job.plans().len(), job.enclaves().len(), job.scripts().len());
-    assert_eq!(rt; counts, (0, 1, 1));
+    are_same(rt, counts, (0, 1, 1));
     for enclave in job.enclaves() {
-        assert_eq!(rt;
+        are_same(
+            rt,
             (enclave.base, enclave.size, enclave.expect),
-            (65536, 65536, None)
+            (65536, 65536, None),
         );
-        assert_eq!(rt; enclave.lines.as_slice(), LINES.as_slice());
+        are_same(rt, enclave.lines.as_slice(), LINES.as_slice());
     }
     for script in job.scripts() {
-        assert_eq!(rt; script.as_slice(), SCRIPT.as_slice());
+        are_same(rt, script.as_slice(), SCRIPT.as_slice());
     }
 }
 

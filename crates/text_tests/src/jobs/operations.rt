@@ -1,5 +1,6 @@
 //! The operations of a script.
 
+use crate::same::are_same;
 use job_grammar::jobs::{Job, Op};
 use std::process::Abort;
 
@@ -48,7 +49,7 @@ const OPERATIONS: [Op; 12] = [
 
 pub fn has_operations(rt: &impl Abort, job: &Job) {
     for script in job.scripts() {
-        assert_eq!(rt; script.as_slice(), OPERATIONS.as_slice());
+        are_same(rt, script.as_slice(), OPERATIONS.as_slice());
     }
 }
 

@@ -1,5 +1,6 @@
 //! A trace that is given in pieces.
 
+use crate::same::are_same;
 use io_edges::mem_sink::MemSink;
 use sgx_rules::entries::{Action, Answer, Entry, Event};
 use sgx_types::names::Actor;
@@ -31,8 +32,8 @@ fn a_long_trace_is_given_in_pieces(rt: HostRuntime) -> Result<(), Fail> {
     let text = print_trace(alloc, &entries)?;
     for (fails, answer, given) in ROWS {
         let mut sink = MemSink::new(alloc, PIECE, fails)?;
-        assert_eq!(rt; give_trace(alloc, &mut sink, &entries), answer);
-        assert_eq!(rt; Some(sink.bytes()), text.get(..given));
+        are_same(&rt, give_trace(alloc, &mut sink, &entries), answer);
+        are_same(&rt, Some(sink.bytes()), text.get(..given));
     }
     Ok(())
 }

@@ -4,6 +4,7 @@ use super::building::{OTHER_PAGES, TEXT, WHOLE};
 use super::paging::{PAGING, REFUSED};
 use super::rows::Row;
 use super::running::PROCESSORS;
+use crate::same::are_same;
 use std::process::Abort;
 use std::str;
 use std::test::Fail;
@@ -16,8 +17,8 @@ fn are_printed(rt: &impl Abort, rows: &[Row], text: &mut Vec<u8>) -> Result<(), 
         text.clear();
         text.reserve(LONGEST_LINE)?;
         print_entry(&row.entry(), text);
-        assert_eq!(rt; text.pop(), Some(b'\n'));
-        assert_eq!(rt; str::from_utf8(text)?, row.line());
+        are_same(rt, text.pop(), Some(b'\n'));
+        are_same(rt, str::from_utf8(text)?, row.line());
     }
     Ok(())
 }
@@ -38,6 +39,6 @@ fn a_trace_has_a_first_and_a_last_line(rt: HostRuntime) -> Result<(), Fail> {
         entries.push(row.entry())?;
     }
     let text = print_trace(rt.alloc(), &entries)?;
-    assert_eq!(rt; str::from_utf8(&text)?, TEXT);
+    are_same(&rt, str::from_utf8(&text)?, TEXT);
     Ok(())
 }

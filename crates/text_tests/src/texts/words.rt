@@ -2,6 +2,8 @@
 
 use command_words::command::{Command, command_of};
 use command_words::rules::Rules;
+use command_words::showing::Showing;
+use command_words::telling::Telling;
 use sgx_types::names::Memory;
 use std::alloc::Global;
 use std::test::Fail;
@@ -43,16 +45,26 @@ const ROWS: [(&str, Option<Command>); 43] = [
     ("gate ", None),
     ("gate", None),
     ("gate 1 2", None),
-    ("least t", Some(Command::Least)),
+    (
+        "least t",
+        Some(Command::Tell {
+            telling: Telling::Least,
+        }),
+    ),
     ("least ", None),
     ("least", None),
     ("least t t", None),
     ("leas t", None),
-    ("audit t", Some(Command::Judge { rules: Rules::All })),
+    (
+        "audit t",
+        Some(Command::Tell {
+            telling: Telling::Judge(Rules::All),
+        }),
+    ),
     (
         "check t",
-        Some(Command::Judge {
-            rules: Rules::Processors,
+        Some(Command::Tell {
+            telling: Telling::Judge(Rules::Processors),
         }),
     ),
     ("check ", None),
@@ -60,9 +72,19 @@ const ROWS: [(&str, Option<Command>); 43] = [
     ("audit", None),
     ("audit t x", None),
     ("Audit t", None),
-    ("migrate t", Some(Command::Migrate)),
+    (
+        "migrate t",
+        Some(Command::Show {
+            showing: Showing::Migrated,
+        }),
+    ),
     ("migrate ", None),
-    ("picture t", Some(Command::Picture)),
+    (
+        "picture t",
+        Some(Command::Show {
+            showing: Showing::Picture,
+        }),
+    ),
     ("picture ", None),
     ("pictures t", None),
     ("help", Some(Command::Help)),
