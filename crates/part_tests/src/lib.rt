@@ -1,14 +1,10 @@
-// Tests of the parts on which machine and driver stand: of types and layouts, of the edges where bytes come in and go out, of frames,
-// enclaves and slots, of the driver's tables, and of logs and seals against other programs. What the instructions make of these parts is
-// tested of the machine.
+// Tests of the parts on which machine and driver stand: of types and layouts, of the edges where bytes come in and go out, of the bytes
+// of version array pages, of the driver's tables, and of logs and seals against other programs. What the instructions make of these
+// parts is tested of the machine.
 #![tactic(auto)]
 
 #[cfg(test)]
 mod edges;
-#[cfg(test)]
-mod enclaves;
-#[cfg(test)]
-mod frames;
 #[cfg(test)]
 mod logs;
 #[cfg(test)]
@@ -17,8 +13,6 @@ mod pages;
 mod same;
 #[cfg(test)]
 mod seals;
-#[cfg(test)]
-mod slots;
 #[cfg(test)]
 mod tables;
 #[cfg(test)]
