@@ -16,10 +16,10 @@ use Rattle.sgx_rules.specs.Starts.{open_start}
 use Rattle.cached_translations.specs.declared.processor.Mode.{Mode}
 use Rattle.cached_translations.specs.declared.processor.Mode.TheVariants.{Inside, Outside}
 use Rattle.job_grammar.specs.Jobs.{JobView}
-use Rattle.turn_rules.specs.declared.steps.BuildStep.{BuildStep}
-use Rattle.turn_rules.specs.Script.{build_of, built, replied, script_of}
-use Rattle.paging_laws.specs.inner.Columns.{seat_of_stay}
-use Rattle.paging_machine.specs.inner.Parts.{Parts, cpu_at, seat_of_mode}
+use Rattle.script_rules.specs.declared.steps.BuildStep.{BuildStep}
+use Rattle.script_rules.specs.Script.{build_of, built, replied, script_of}
+use Rattle.machine_laws.specs.inner.Columns.{seat_of_stay}
+use Rattle.sgx_machine.specs.inner.Parts.{Parts, cpu_at, seat_of_mode}
 use Rattle.driver_rules.specs.inner.Decided.{are_done, is_done, is_ended, is_outside}
 use Rattle.driver_rules.specs.Dues.{IsNext, Stopped}
 use Rattle.driver_rules.specs.Scripts.{IsActors, ScriptRule}
@@ -27,17 +27,17 @@ use Rattle.driver_rules.specs.Stops.{has_bus, is_bus, is_spent}
 use Rattle.driver_rules.specs.Turns.{Last, Loads, Fails, Other, WasEnded, cpu_due, due_after, is_last, last_by, last_of, turn_due}
 use Rattle.driver_laws.specs.inner.Agrees.{Keeping}
 use Rattle.driver_tables.specs.declared.driver.Driver.{Driver}
-use Rattle.turn_tables.specs.declared.cpu_turns.Last as kept
-use Rattle.turn_tables.specs.declared.cpu_turns.Last.TheVariants as ways
-use Rattle.turn_tables.specs.declared.turns.Turns.{Turns}
-use Rattle.turn_tables.specs.inner.Asked.{next_step}
-use Rattle.turn_tables.specs.inner.CpuTurns.{last_told, turn_at}
-use Rattle.turn_tables.specs.inner.Due.{IsShown}
-use Rattle.turn_tables.specs.inner.Ending.{EndsAreTold}
-use Rattle.turn_tables.specs.inner.Shown.{ShowsTurns}
-use Rattle.turn_tables.proofs.DueLaws.{head_left}
-use Rattle.turn_tables.proofs.EndLaws.{built_few, past_all}
-use Rattle.turn_tables.proofs.LookLaws.{looks_are}
+use Rattle.due_tables.specs.declared.cpu_turns.Last as kept
+use Rattle.due_tables.specs.declared.cpu_turns.Last.TheVariants as ways
+use Rattle.due_tables.specs.declared.turns.Turns.{Turns}
+use Rattle.due_tables.specs.inner.Asked.{next_step}
+use Rattle.due_tables.specs.inner.CpuTurns.{last_told, turn_at}
+use Rattle.due_tables.specs.inner.Due.{IsShown}
+use Rattle.due_tables.specs.inner.Ending.{EndsAreTold}
+use Rattle.due_tables.specs.inner.Shown.{ShowsTurns}
+use Rattle.due_tables.proofs.DueLaws.{head_left}
+use Rattle.due_tables.proofs.EndLaws.{built_few, past_all}
+use Rattle.due_tables.proofs.LookLaws.{looks_are}
 use Rattle.audit_dues.specs.inner.Ends.{are_done_by, is_done_by, is_ended_by, none_left, stands_outside, was_ended}
 
 -- no step is left exactly where the build is whole

@@ -12,12 +12,12 @@ use Rattle.sgx_types.specs.declared.names.VaSlot.{VaSlot}
 use Rattle.sgx_types.specs.Pages.{is_own_page, secs_page, va_page}
 use Rattle.sgx_rules.specs.Frames.{content, least_free}
 use Rattle.job_grammar.specs.Jobs.{JobView}
-use Rattle.active_list.specs.inner.Places.{IsPlaced}
-use Rattle.active_list.specs.inner.States.{state_of as page_state}
-use Rattle.active_list.specs.declared.page_states.PageState.{PageState}
-use Rattle.active_list.specs.declared.page_states.PageState.TheVariants as states
-use Rattle.paging_laws.specs.inner.Columns.{FrameColumns}
-use Rattle.paging_machine.specs.inner.Parts.{Parts, state_of}
+use Rattle.driver_list.specs.inner.Places.{IsPlaced}
+use Rattle.driver_list.specs.inner.States.{state_of as page_state}
+use Rattle.driver_list.specs.declared.page_states.PageState.{PageState}
+use Rattle.driver_list.specs.declared.page_states.PageState.TheVariants as states
+use Rattle.machine_laws.specs.inner.Columns.{FrameColumns}
+use Rattle.sgx_machine.specs.inner.Parts.{Parts, state_of}
 use Rattle.driver_rules.specs.inner.Decided.{is_actors, is_fetch, is_next, keeps_script}
 use Rattle.driver_rules.specs.Dues.{Asks, Due}
 use Rattle.driver_rules.specs.Places.{Away, place}
@@ -30,16 +30,16 @@ use Rattle.driver_tables.specs.declared.driver.Driver.{Driver}
 use Rattle.driver_tables.specs.inner.Tables.{place_in}
 use Rattle.driver_tables.specs.inner.Targets.{is_here_in, slot_here_in, target_in}
 use Rattle.driver_tables.proofs.TargetLaws.{array_of, secs_of, slot_here_is, target_is}
-use Rattle.turn_tables.specs.declared.dues.BuilderDue.{BuilderDue}
-use Rattle.turn_tables.specs.declared.dues.BuilderDue.TheVariants as builders
-use Rattle.turn_tables.specs.declared.dues.CpuDue.{CpuDue}
-use Rattle.turn_tables.specs.declared.dues.CpuDue.TheVariants as dues
-use Rattle.turn_tables.specs.declared.turns.Turns.{Turns}
-use Rattle.turn_tables.specs.inner.Due.{IsShown, building_in, due_in}
-use Rattle.turn_tables.specs.inner.Shown.{ShowsTurns}
-use Rattle.turn_tables.specs.inner.TcsTurns.{has_place}
-use Rattle.turn_tables.proofs.LookLaws.{absent_is, places_same}
-use Rattle.turn_tables.proofs.RowLaws.{placed_row}
+use Rattle.due_tables.specs.declared.dues.BuilderDue.{BuilderDue}
+use Rattle.due_tables.specs.declared.dues.BuilderDue.TheVariants as builders
+use Rattle.due_tables.specs.declared.dues.CpuDue.{CpuDue}
+use Rattle.due_tables.specs.declared.dues.CpuDue.TheVariants as dues
+use Rattle.due_tables.specs.declared.turns.Turns.{Turns}
+use Rattle.due_tables.specs.inner.Due.{IsShown, building_in, due_in}
+use Rattle.due_tables.specs.inner.Shown.{ShowsTurns}
+use Rattle.due_tables.specs.inner.TcsTurns.{has_place}
+use Rattle.due_tables.proofs.LookLaws.{absent_is, places_same}
+use Rattle.due_tables.proofs.RowLaws.{placed_row}
 use Rattle.audit_dues.specs.inner.Next.{CanFetch, built_by, fetch_by as told_by, fetch_from}
 use Rattle.audit_dues.specs.inner.Next.{fetch_seen, next_by, slot_by, slot_if, step_for}
 

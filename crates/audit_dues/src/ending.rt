@@ -3,24 +3,24 @@
 ghost use Rattle.std.specs.Prelude.{◌≡◌, ◌<◌, ◌≤◌, List, length};
 ghost use Rattle.sgx_rules.specs.Rules.{Along};
 ghost use Rattle.sgx_rules.specs.declared.entries.Entry.{Entry};
-ghost use Rattle.turn_rules.specs.inner.Cursor.{IsCursor};
-ghost use Rattle.turn_rules.specs.Script.{script_of};
+ghost use Rattle.script_rules.specs.inner.Cursor.{IsCursor};
+ghost use Rattle.script_rules.specs.Script.{script_of};
 ghost use Rattle.driver_rules.specs.inner.Decided.{is_ended};
 ghost use Rattle.driver_rules.specs.Scripts.{ScriptRule};
 ghost use Rattle.driver_laws.specs.inner.Agrees.{Keeping};
-ghost use Rattle.turn_tables.specs.inner.Asked.{next_step};
-ghost use Rattle.turn_tables.specs.inner.Due.{IsReady, IsShown};
-ghost use Rattle.turn_tables.specs.inner.Ending.{EndsAreTold};
-ghost use Rattle.turn_tables.specs.inner.Shown.{ShowsTurns};
+ghost use Rattle.due_tables.specs.inner.Asked.{next_step};
+ghost use Rattle.due_tables.specs.inner.Due.{IsReady, IsShown};
+ghost use Rattle.due_tables.specs.inner.Ending.{EndsAreTold};
+ghost use Rattle.due_tables.specs.inner.Shown.{ShowsTurns};
 ghost use Rattle.audit_dues.specs.inner.Ends.{are_done_by, is_done_by, none_left};
 
 use cached_translations::processor::Mode;
 use driver_tables::driver::Driver;
+use due_tables::cpu_turns::Last;
+use due_tables::turns::Turns;
 use job_grammar::jobs::Job;
-use paging_machine::machine::Machine;
+use sgx_machine::machine::Machine;
 use sgx_types::names::Cpu;
-use turn_tables::cpu_turns::Last;
-use turn_tables::turns::Turns;
 
 /// Whether nothing more is to come, by the rule Script: an epoch or a version was used up, or the build is whole and each processor is
 /// outside with all its replies, or was ended. Linear in the number of processors.

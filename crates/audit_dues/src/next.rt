@@ -3,23 +3,23 @@
 ghost use Rattle.std.specs.Prelude.{◌≡◌, length, map, option_map, IfSome};
 ghost use Rattle.sgx_rules.specs.declared.entries.Event.{Event};
 ghost use Rattle.sgx_rules.specs.Frames.{least_free};
-ghost use Rattle.turn_rules.specs.Script.{action_of};
-ghost use Rattle.paging_machine.specs.inner.Parts.{state_of};
-ghost use Rattle.active_list.specs.inner.Places.{IsPlaced};
+ghost use Rattle.script_rules.specs.Script.{action_of};
+ghost use Rattle.sgx_machine.specs.inner.Parts.{state_of};
+ghost use Rattle.driver_list.specs.inner.Places.{IsPlaced};
 ghost use Rattle.driver_rules.specs.Dues as fetches;
 ghost use Rattle.driver_rules.specs.inner.Decided.{is_action, is_fetch, is_stop};
-ghost use Rattle.turn_tables.specs.inner.TcsTurns.{rows};
+ghost use Rattle.due_tables.specs.inner.TcsTurns.{rows};
 ghost use Rattle.audit_dues.specs.inner.Next.{CanFetch, built_by, fetch_by, fetch_seen, loads_by, next_by, slot_by, slot_seen};
 
 use crate::same::same_action;
-use active_list::page_states::PageState;
+use driver_list::page_states::PageState;
 use driver_tables::driver::Driver;
-use paging_machine::machine::Machine;
+use due_tables::dues::{BuilderDue, CpuDue};
+use due_tables::turns::Turns;
+use sgx_machine::machine::Machine;
 use sgx_rules::entries::{Action, BusWhy, Event};
 use sgx_rules::refusals::Refusal;
 use sgx_types::names::{Frame, Page, SlotAt, VaSlot};
-use turn_tables::dues::{BuilderDue, CpuDue};
-use turn_tables::turns::Turns;
 
 /// Whether an event is what is due to the builder.
 pub(crate) fn is_build_step(due: BuilderDue, event: &Event) -> bool

@@ -5,16 +5,16 @@ ghost use Rattle.sgx_rules.specs.declared.entries.Entry.{Entry};
 ghost use Rattle.driver_rules.specs.inner.Decided.{keeps_script};
 ghost use Rattle.driver_rules.specs.Scripts.{is_load};
 ghost use Rattle.driver_laws.specs.inner.Agrees.{Keeping};
-ghost use Rattle.turn_tables.specs.inner.Due.{IsOrderly, IsReady, IsShown};
-ghost use Rattle.turn_tables.specs.inner.Shown.{ShowsTurns};
+ghost use Rattle.due_tables.specs.inner.Due.{IsOrderly, IsReady, IsShown};
+ghost use Rattle.due_tables.specs.inner.Shown.{ShowsTurns};
 
 use crate::next::{is_build_step, is_next};
 use driver_tables::driver::Driver;
+use due_tables::turns::Turns;
 use job_grammar::jobs::Job;
-use paging_machine::machine::Machine;
+use sgx_machine::machine::Machine;
 use sgx_rules::entries::{Action, Entry, Event};
 use sgx_types::names::Actor;
-use turn_tables::turns::Turns;
 
 /// Whether an entry is the one that is due to its actor, by the rule Script. The reclaimer may make every entry but loads, their ends,
 /// and those that tell why a page did not come back; a processor that the job does not have makes none. Constant time.

@@ -15,16 +15,16 @@ use Rattle.sgx_types.specs.Making.{Making}
 use Rattle.sgx_rules.specs.Table.{first_of_row}
 use Rattle.seal_record.specs.Records.{Made}
 use Rattle.job_grammar.specs.Jobs.{JobView}
-use Rattle.turn_rules.specs.Script.{action_of}
-use Rattle.paging_laws.specs.inner.Histories.{StandsWithAllRules}
-use Rattle.paging_laws.specs.inner.State.{State, row_of}
-use Rattle.paging_laws.specs.inner.Steps.{CanApply, IsDone, IsStep, refused_by}
-use Rattle.run_history.specs.declared.rules.Rule.{Rule}
-use Rattle.run_history.specs.inner.Histories.{is_machines}
-use Rattle.machine_history.specs.Histories.{FailsAmong}
-use Rattle.audit_rules.specs.inner.Rivals.{AreRivals, KeepsMachines, is_load_refused}
-use Rattle.audit_rules.specs.inner.Same.{same_end}
-use Rattle.audit_rules.proofs.SameLaws.{ends_alike, ends_apart}
+use Rattle.script_rules.specs.Script.{action_of}
+use Rattle.machine_laws.specs.inner.Histories.{StandsWithAllRules}
+use Rattle.machine_laws.specs.inner.State.{State, row_of}
+use Rattle.machine_laws.specs.inner.Steps.{CanApply, IsDone, IsStep, refused_by}
+use Rattle.history_rules.specs.declared.rules.Rule.{Rule}
+use Rattle.history_rules.specs.inner.Histories.{is_machines}
+use Rattle.history_machine.specs.Histories.{FailsAmong}
+use Rattle.audit_machine.specs.inner.Rivals.{AreRivals, KeepsMachines, is_load_refused}
+use Rattle.audit_machine.specs.inner.Same.{same_end}
+use Rattle.audit_machine.proofs.SameLaws.{ends_alike, ends_apart}
 use Rattle.audit_machine.specs.inner.Asked.{Breaks, GoesOnWith, made_for}
 use Rattle.audit_machine.proofs.KeptLaws.{last_kept}
 

@@ -33,29 +33,29 @@ use Rattle.seal_record.specs.Cipher.{tag}
 use Rattle.seal_record.specs.Records.{Made}
 use Rattle.seal_record.specs.inner.Row.{same_header}
 use Rattle.job_grammar.specs.Jobs.{JobView}
-use Rattle.page_history.specs.inner.Copies.{InFrame, InSlot, OneLiveCopy, copy}
-use Rattle.page_history.specs.inner.Once.{IsGone, KeepsMoves, StartsApart}
-use Rattle.page_history.proofs.ArrayLaws.{va_stands}
-use Rattle.page_history.proofs.CopyLaws.{live_copies, out_is_gone, whose_copy}
-use Rattle.page_history.proofs.DrawnLaws.{drawn_once}
-use Rattle.page_history.proofs.StartLaws.{starts_apart}
-use Rattle.turn_rules.specs.Machines.{machine_of}
-use Rattle.turn_rules.specs.Script.{action_of}
-use Rattle.paging_laws.specs.inner.Histories.{BringsBack, BringsIn, StandsWithAllRules}
-use Rattle.paging_laws.specs.inner.Notes.{IsDone}
-use Rattle.paging_laws.specs.inner.State.{State}
-use Rattle.paging_laws.specs.inner.Steps.{CanBring, CanEnd, IsComing, IsComingHeader, IsReloaded, commit_row, did_by, header_in, refused_by}
-use Rattle.paging_laws.proofs.ColumnLaws.{content_is, start_is}
-use Rattle.paging_laws.proofs.MoveEnds.{coming_header, ends_refused}
-use Rattle.paging_laws.proofs.ReloadLaws.{keeps_moves, row_allows}
-use Rattle.run_history.specs.declared.rules.Rule.{Rule}
-use Rattle.run_history.specs.declared.rules.Rule.TheVariants as rules
-use Rattle.run_history.specs.inner.Histories.{is_machines}
-use Rattle.machine_history.specs.Histories.{FailsAmong}
-use Rattle.audit_rules.proofs.OrderLaws.{refusal_fails}
-use Rattle.audit_rules.proofs.SameLaws.{ends_apart}
-use Rattle.audit_rules.specs.inner.Rivals.{AreRivals, is_load_refused}
-use Rattle.audit_rules.specs.inner.Same.{same_end}
+use Rattle.machine_copies.specs.inner.Copies.{InFrame, InSlot, OneLiveCopy, copy}
+use Rattle.machine_copies.specs.inner.Once.{IsGone, KeepsMoves, StartsApart}
+use Rattle.machine_copies.proofs.ArrayLaws.{va_stands}
+use Rattle.machine_copies.proofs.CopyLaws.{live_copies, out_is_gone, whose_copy}
+use Rattle.machine_copies.proofs.DrawnLaws.{drawn_once}
+use Rattle.machine_copies.proofs.StartLaws.{starts_apart}
+use Rattle.script_rules.specs.Machines.{machine_of}
+use Rattle.script_rules.specs.Script.{action_of}
+use Rattle.machine_laws.specs.inner.Histories.{BringsBack, BringsIn, StandsWithAllRules}
+use Rattle.machine_laws.specs.inner.Notes.{IsDone}
+use Rattle.machine_laws.specs.inner.State.{State}
+use Rattle.machine_laws.specs.inner.Steps.{CanBring, CanEnd, IsComing, IsComingHeader, IsReloaded, commit_row, did_by, header_in, refused_by}
+use Rattle.machine_laws.proofs.ColumnLaws.{content_is, start_is}
+use Rattle.machine_laws.proofs.MoveEnds.{coming_header, ends_refused}
+use Rattle.machine_laws.proofs.ReloadLaws.{keeps_moves, row_allows}
+use Rattle.history_rules.specs.declared.rules.Rule.{Rule}
+use Rattle.history_rules.specs.declared.rules.Rule.TheVariants as rules
+use Rattle.history_rules.specs.inner.Histories.{is_machines}
+use Rattle.history_machine.specs.Histories.{FailsAmong}
+use Rattle.audit_machine.proofs.OrderLaws.{refusal_fails}
+use Rattle.audit_machine.proofs.SameLaws.{ends_apart}
+use Rattle.audit_machine.specs.inner.Rivals.{AreRivals, is_load_refused}
+use Rattle.audit_machine.specs.inner.Same.{same_end}
 use Rattle.audit_machine.specs.inner.Asked.{Breaks, GoesOnWith, IsDoneBack, IsOwnRecord, made_for}
 use Rattle.audit_machine.specs.inner.Reasons.{is_unfit, other_number}
 use Rattle.audit_machine.proofs.AskLaws.{IsMadeOf, Tells, alike, made_of_it, with_none}

@@ -14,14 +14,14 @@ use Rattle.sgx_rules.specs.inner.Rules.{KeepsRules}
 use Rattle.sgx_types.specs.Making.{Making}
 use Rattle.seal_record.specs.Records.{Made}
 use Rattle.job_grammar.specs.Jobs.{JobView}
-use Rattle.paging_laws.specs.inner.Histories.{StandsWithAllRules}
-use Rattle.paging_laws.specs.inner.State.{State}
-use Rattle.paging_laws.proofs.TestLaws.{last_place}
-use Rattle.run_history.specs.declared.rules.Rule.{Rule}
-use Rattle.run_history.specs.declared.rules.Rule.TheVariants as rules
-use Rattle.run_history.specs.Histories.{Says}
-use Rattle.run_history.specs.inner.Histories.{is_machines}
-use Rattle.audit_rules.specs.inner.Rivals.{KeepsMachines}
+use Rattle.machine_laws.specs.inner.Histories.{StandsWithAllRules}
+use Rattle.machine_laws.specs.inner.State.{State}
+use Rattle.machine_laws.proofs.TestLaws.{last_place}
+use Rattle.history_rules.specs.declared.rules.Rule.{Rule}
+use Rattle.history_rules.specs.declared.rules.Rule.TheVariants as rules
+use Rattle.history_rules.specs.Histories.{Says}
+use Rattle.history_rules.specs.inner.Histories.{is_machines}
+use Rattle.audit_machine.specs.inner.Rivals.{KeepsMachines}
 use Rattle.audit_machine.specs.inner.Asked.{made_for}
 
 -- its rules, of the machine that it was made as

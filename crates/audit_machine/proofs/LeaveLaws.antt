@@ -30,17 +30,17 @@ use Rattle.seal_record.specs.Sealing.{made_with}
 use Rattle.seal_record.specs.declared.unseal.UnsealedWork.{UnsealedWork}
 use Rattle.seal_record.proofs.CipherLaws.{cipher_twice}
 use Rattle.job_grammar.specs.Jobs.{JobView}
-use Rattle.turn_rules.specs.Machines.{machine_of}
-use Rattle.turn_rules.specs.Script.{action_of}
-use Rattle.paging_laws.specs.inner.Histories.{StandsWithAllRules, given_out}
-use Rattle.paging_laws.specs.inner.State.{State}
-use Rattle.paging_laws.specs.inner.Steps.{HasBytesOf, IsLeaving, IsWrittenOut, SealsPage, did_by}
-use Rattle.paging_laws.proofs.ColumnLaws.{sealing_is}
-use Rattle.run_history.specs.declared.rules.Rule.{Rule}
-use Rattle.run_history.specs.declared.rules.Rule.TheVariants as rules
-use Rattle.audit_rules.proofs.OrderLaws.{refusal_fails}
-use Rattle.audit_rules.specs.inner.Rivals.{is_load_refused}
-use Rattle.audit_rules.specs.inner.Same.{same_end}
+use Rattle.script_rules.specs.Machines.{machine_of}
+use Rattle.script_rules.specs.Script.{action_of}
+use Rattle.machine_laws.specs.inner.Histories.{StandsWithAllRules, given_out}
+use Rattle.machine_laws.specs.inner.State.{State}
+use Rattle.machine_laws.specs.inner.Steps.{HasBytesOf, IsLeaving, IsWrittenOut, SealsPage, did_by}
+use Rattle.machine_laws.proofs.ColumnLaws.{sealing_is}
+use Rattle.history_rules.specs.declared.rules.Rule.{Rule}
+use Rattle.history_rules.specs.declared.rules.Rule.TheVariants as rules
+use Rattle.audit_machine.proofs.OrderLaws.{refusal_fails}
+use Rattle.audit_machine.specs.inner.Rivals.{is_load_refused}
+use Rattle.audit_machine.specs.inner.Same.{same_end}
 use Rattle.audit_machine.specs.inner.Asked.{Breaks, GoesOnWith, HasLeft, tells_secs}
 use Rattle.audit_machine.proofs.AskLaws.{IsMadeOf, Tells, alike, broken, made_of_it, taken}
 

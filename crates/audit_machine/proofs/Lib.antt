@@ -4,3 +4,11 @@ pub mod LeaveLaws
 pub mod OtherRefusal
 pub mod ComeLaws
 pub mod OutsideLaws
+pub mod SameLaws
+pub mod FormLaws
+pub mod OrderLaws
+pub mod EndLaws
+pub mod RivalLaws
+pub mod MapLaws
+pub mod OwnLaws
+pub mod StayLaws

@@ -10,12 +10,12 @@ use Rattle.sgx_types.specs.Making.{Making}
 use Rattle.sgx_rules.specs.Processors.{stay}
 use Rattle.sgx_rules.specs.Rules.{IsUndisturbed, Stale}
 use Rattle.seal_record.specs.Records.{Made}
-use Rattle.paging_laws.specs.inner.Columns.{HasColumns}
-use Rattle.paging_laws.specs.inner.Histories.{OutsideBytes, StandsWithAllRules}
-use Rattle.paging_laws.specs.inner.Shape.{ShapeWithRules}
-use Rattle.paging_laws.specs.inner.Stands.{Stands}
-use Rattle.paging_laws.specs.inner.State.{State}
-use Rattle.paging_laws.specs.inner.Steps.{refused_by}
+use Rattle.machine_laws.specs.inner.Columns.{HasColumns}
+use Rattle.machine_laws.specs.inner.Histories.{OutsideBytes, StandsWithAllRules}
+use Rattle.machine_laws.specs.inner.Shape.{ShapeWithRules}
+use Rattle.machine_laws.specs.inner.Stands.{Stands}
+use Rattle.machine_laws.specs.inner.State.{State}
+use Rattle.machine_laws.specs.inner.Steps.{refused_by}
 
 if_some : {A : Type 0} (P Q : A → Type 0) (o : Option A) → ((x : A) → P x → Q x) → IfSome o P → IfSome o Q
 if_some P Q None f h = h

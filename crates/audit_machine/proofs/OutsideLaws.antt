@@ -21,20 +21,20 @@ use Rattle.sgx_rules.specs.Table.{first_of_row}
 use Rattle.seal_record.specs.Records.{Made}
 use Rattle.job_grammar.specs.Jobs.{JobView}
 use Rattle.sgx_types.specs.Making.{Making}
-use Rattle.turn_rules.specs.Machines.{machine_of}
-use Rattle.turn_rules.specs.Script.{action_of}
-use Rattle.paging_laws.specs.inner.Histories.{StandsWithAllRules}
-use Rattle.paging_laws.specs.inner.State.{State, row_outside}
-use Rattle.paging_laws.specs.inner.Steps.{IsNoProcessor, did_by, is_of_cpus, refused_by}
-use Rattle.paging_laws.proofs.AccessLaws.{outside_refused}
-use Rattle.paging_laws.proofs.ProcessorLaws.{mode_by_entries}
-use Rattle.paging_laws.proofs.RowLaws.{row_outside_agrees}
-use Rattle.run_history.specs.declared.rules.Rule.TheVariants as rules
-use Rattle.audit_rules.specs.inner.Forms.{has_form}
-use Rattle.audit_rules.specs.inner.Same.{same_refusal}
-use Rattle.audit_rules.proofs.FormLaws.{has_its_form, is_apart, is_of_its_form}
-use Rattle.audit_rules.proofs.OrderLaws.{flat_fails, refusal_fails}
-use Rattle.audit_rules.proofs.SameLaws.{ends_apart, refusal_same}
+use Rattle.script_rules.specs.Machines.{machine_of}
+use Rattle.script_rules.specs.Script.{action_of}
+use Rattle.machine_laws.specs.inner.Histories.{StandsWithAllRules}
+use Rattle.machine_laws.specs.inner.State.{State, row_outside}
+use Rattle.machine_laws.specs.inner.Steps.{IsNoProcessor, did_by, is_of_cpus, refused_by}
+use Rattle.machine_laws.proofs.AccessLaws.{outside_refused}
+use Rattle.machine_laws.proofs.ProcessorLaws.{mode_by_entries}
+use Rattle.machine_laws.proofs.RowLaws.{row_outside_agrees}
+use Rattle.history_rules.specs.declared.rules.Rule.TheVariants as rules
+use Rattle.audit_machine.specs.inner.Forms.{has_form}
+use Rattle.audit_machine.specs.inner.Same.{same_refusal}
+use Rattle.audit_machine.proofs.FormLaws.{has_its_form, is_apart, is_of_its_form}
+use Rattle.audit_machine.proofs.OrderLaws.{flat_fails, refusal_fails}
+use Rattle.audit_machine.proofs.SameLaws.{ends_apart, refusal_same}
 use Rattle.audit_machine.specs.inner.Asked.{Breaks, GoesOnWith, Takes, made_for}
 use Rattle.audit_machine.specs.inner.Outside.{rule_of_done, rule_of_refused}
 use Rattle.audit_machine.proofs.AskLaws.{with_none}

@@ -2,15 +2,15 @@
 
 ghost use Rattle.std.specs.Prelude.{◌≡◌, IfOk, OnErr, None, Some, length};
 ghost use Rattle.audit_machine.specs.inner.Asked.{Takes};
-ghost use Rattle.paging_laws.specs.inner.State.{making_of};
-ghost use Rattle.paging_laws.specs.inner.Steps.{CanApply, CanMove, IsStep, MayNeedMemory};
-ghost use Rattle.paging_machine.specs.inner.Parts.{state_of};
-ghost use Rattle.turn_rules.specs.Script.{action_of};
+ghost use Rattle.machine_laws.specs.inner.State.{making_of};
+ghost use Rattle.machine_laws.specs.inner.Steps.{CanApply, CanMove, IsStep, MayNeedMemory};
+ghost use Rattle.sgx_machine.specs.inner.Parts.{state_of};
+ghost use Rattle.script_rules.specs.Script.{action_of};
 
-use audit_rules::rivals::first_broken;
-use audit_rules::same::same_end;
-use paging_machine::machine::Machine;
-use run_history::rules::Rule;
+use crate::rivals::first_broken;
+use crate::same::same_end;
+use history_rules::rules::Rule;
+use sgx_machine::machine::Machine;
 use sgx_rules::entries::{Action, Entry};
 use sgx_types::names::Memory;
 use std::alloc::Global;

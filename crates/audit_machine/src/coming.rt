@@ -3,17 +3,17 @@
 ghost use Rattle.std.specs.Prelude.{◌≡◌, true, IfOk, OnErr, length};
 ghost use Rattle.audit_machine.specs.inner.Asked.{IsDoneBack, Takes, TakesBack};
 ghost use Rattle.audit_machine.specs.inner.Reasons.{is_unfit, other_number};
-ghost use Rattle.paging_laws.specs.inner.State.{making_of};
-ghost use Rattle.paging_laws.specs.inner.Steps.{CanBring, refused_by};
-ghost use Rattle.paging_machine.specs.inner.Parts.{state_of};
+ghost use Rattle.machine_laws.specs.inner.State.{making_of};
+ghost use Rattle.machine_laws.specs.inner.Steps.{CanBring, refused_by};
+ghost use Rattle.sgx_machine.specs.inner.Parts.{state_of};
 ghost use Rattle.sgx_rules.specs.declared.entries.Action.TheVariants as actions;
 ghost use Rattle.sgx_rules.specs.Table.{is_loading};
 
-use audit_rules::rivals::first_broken;
-use audit_rules::same::same_end;
-use paging_machine::machine::Machine;
-use run_history::rules::Rule;
+use crate::rivals::first_broken;
+use crate::same::same_end;
+use history_rules::rules::Rule;
 use seal_record::unseal::{UnsealWork, UnsealedWork, unseal};
+use sgx_machine::machine::Machine;
 use sgx_rules::entries::Entry;
 use sgx_rules::refusals::Refusal;
 use sgx_types::names::{Actor, Frame, Memory};

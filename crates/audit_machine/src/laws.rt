@@ -2,9 +2,9 @@
 
 ghost use Rattle.std.specs.Prelude.{List};
 ghost use Rattle.audit_machine.specs.inner.Asked.{IsOwnRecord};
-ghost use Rattle.paging_laws.specs.inner.Histories.{StandsWithAllRules};
-ghost use Rattle.paging_laws.specs.inner.State.{State};
-ghost use Rattle.paging_laws.specs.inner.Steps.{CanBring};
+ghost use Rattle.machine_laws.specs.inner.Histories.{StandsWithAllRules};
+ghost use Rattle.machine_laws.specs.inner.State.{State};
+ghost use Rattle.machine_laws.specs.inner.Steps.{CanBring};
 ghost use Rattle.seal_record.specs.Records.{Made};
 ghost use Rattle.sgx_rules.specs.declared.entries.Entry.{Entry};
 ghost use Rattle.sgx_types.specs.Making.{Making};

@@ -2,17 +2,17 @@
 
 ghost use Rattle.std.specs.Prelude.{◌≡◌, IfOk, OnErr, Some, length};
 ghost use Rattle.audit_machine.specs.inner.Asked.{TakesOut, tells_secs};
-ghost use Rattle.paging_laws.specs.inner.State.{making_of};
-ghost use Rattle.paging_machine.specs.inner.Parts.{state_of};
+ghost use Rattle.machine_laws.specs.inner.State.{making_of};
+ghost use Rattle.sgx_machine.specs.inner.Parts.{state_of};
 ghost use Rattle.sgx_rules.specs.declared.entries.Action.TheVariants as actions;
-ghost use Rattle.turn_rules.specs.Script.{action_of};
+ghost use Rattle.script_rules.specs.Script.{action_of};
 
-use audit_rules::rivals::first_broken;
-use audit_rules::same::same_end;
-use paging_machine::machine::Machine;
-use run_history::rules::Rule;
+use crate::rivals::first_broken;
+use crate::same::same_end;
+use history_rules::rules::Rule;
 use seal_record::seal::{SealWork, seal};
 use seal_record::unseal::{UnsealWork, UnsealedWork, unseal};
+use sgx_machine::machine::Machine;
 use sgx_rules::entries::{Answer, Entry, Event};
 use sgx_types::names::{Frame, Memory, SECS_NUMBER};
 use sgx_types::record::Record;

@@ -3,14 +3,14 @@
 ghost use Rattle.std.specs.Prelude.{◌≡◌, true, Some};
 ghost use Rattle.audit_machine.specs.inner.Asked.{Takes};
 ghost use Rattle.audit_machine.specs.inner.Outside.{rule_of_done, rule_of_refused};
-ghost use Rattle.paging_laws.specs.inner.Steps.{IsNoProcessor, is_of_cpus};
-ghost use Rattle.paging_machine.specs.inner.Parts.{state_of};
-ghost use Rattle.turn_rules.specs.Script.{action_of};
+ghost use Rattle.machine_laws.specs.inner.Steps.{IsNoProcessor, is_of_cpus};
+ghost use Rattle.sgx_machine.specs.inner.Parts.{state_of};
+ghost use Rattle.script_rules.specs.Script.{action_of};
 
-use audit_rules::forms::has_form;
-use audit_rules::same::same_refusal;
-use paging_machine::machine::Machine;
-use run_history::rules::Rule;
+use crate::forms::has_form;
+use crate::same::same_refusal;
+use history_rules::rules::Rule;
+use sgx_machine::machine::Machine;
 use sgx_rules::entries::{Action, Entry, Event};
 use sgx_rules::refusals::Refusal;
 

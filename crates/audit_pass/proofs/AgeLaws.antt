@@ -16,9 +16,9 @@ use Rattle.sgx_types.specs.declared.names.Page.{Page}
 use Rattle.sgx_types.specs.Making.{Making}
 use Rattle.sgx_types.specs.Pages.{same_page}
 use Rattle.job_grammar.specs.Jobs.{JobView}
-use Rattle.paging_machine.specs.inner.Parts.{Parts, state_of}
-use Rattle.active_list.specs.inner.Holds.{is_held as is_held_by}
-use Rattle.active_list.specs.inner.Listing as listing
+use Rattle.sgx_machine.specs.inner.Parts.{Parts, state_of}
+use Rattle.driver_list.specs.inner.Holds.{is_held as is_held_by}
+use Rattle.driver_list.specs.inner.Listing as listing
 use Rattle.driver_rules.specs.inner.Decided as decided
 use Rattle.driver_rules.specs.inner.Decided.{age_of, is_ahead, is_end_ahead, is_in_pass, is_of_pass, is_some_page, is_try_ahead}
 use Rattle.driver_rules.specs.inner.Decided.{keeps_age_by, looks_at, looks_of}
@@ -35,17 +35,17 @@ use Rattle.driver_tables.specs.declared.driver.Driver.{Driver}
 use Rattle.driver_tables.specs.inner.Held.{ShowsHolds}
 use Rattle.driver_tables.specs.inner.Tables.{ShowsTables}
 use Rattle.driver_tables.proofs.ListLaws.{head_marks, heads}
-use Rattle.reclaim_pass.specs.declared.stages.Aside.{Aside}
-use Rattle.reclaim_pass.specs.declared.stages.Aside.TheVariants as asides
-use Rattle.reclaim_pass.specs.declared.stages.Stage.{Stage}
-use Rattle.reclaim_pass.specs.declared.stages.Stage.TheVariants as stages
-use Rattle.reclaim_pass.specs.declared.stages.Taken.{Taken}
-use Rattle.reclaim_pass.specs.inner.Dues.{due_in, HasAllSlots, ShowsOuts}
-use Rattle.driver_steps.specs.inner.Tells.{Tells}
-use Rattle.reclaim_pass.specs.inner.Standing.{AreInFrames, IsAside, StandsAt}
-use Rattle.reclaim_pass.specs.inner.Viewed.{aside_by, form_in, pages_in, pass_by, PassView, tries_of, waiting_by}
-use Rattle.reclaim_pass.proofs.DueLaws.{dues_are}
-use Rattle.reclaim_pass.proofs.ListLaws.{get_drop, head}
+use Rattle.driver_pass.specs.declared.stages.Aside.{Aside}
+use Rattle.driver_pass.specs.declared.stages.Aside.TheVariants as asides
+use Rattle.driver_pass.specs.declared.stages.Stage.{Stage}
+use Rattle.driver_pass.specs.declared.stages.Stage.TheVariants as stages
+use Rattle.driver_pass.specs.declared.stages.Taken.{Taken}
+use Rattle.driver_pass.specs.inner.Dues.{due_in, HasAllSlots, ShowsOuts}
+use Rattle.driver_tables.specs.inner.Tells.{Tells}
+use Rattle.driver_pass.specs.inner.Standing.{AreInFrames, IsAside, StandsAt}
+use Rattle.driver_pass.specs.inner.Viewed.{aside_by, form_in, pages_in, pass_by, PassView, tries_of, waiting_by}
+use Rattle.driver_pass.proofs.DueLaws.{dues_are}
+use Rattle.driver_pass.proofs.ListLaws.{get_drop, head}
 use Rattle.audit_pass.specs.inner.Told.{age_told, ahead_told, due_told, in_pass, in_tries, is_end_of, is_in_block, is_in_tries, is_start_of}
 use Rattle.audit_pass.specs.inner.Told.{look_is_right, looks_right, of_pass}
 

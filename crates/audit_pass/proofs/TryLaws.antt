@@ -9,26 +9,26 @@ use Rattle.sgx_rules.specs.declared.entries.Event.TheVariants.{Age, Kick}
 use Rattle.sgx_types.specs.declared.names.Page.{Page}
 use Rattle.sgx_types.specs.Making.{Making}
 use Rattle.job_grammar.specs.Jobs.{JobView}
-use Rattle.paging_machine.specs.inner.Parts.{Parts}
+use Rattle.sgx_machine.specs.inner.Parts.{Parts}
 use Rattle.driver_rules.specs.inner.Decided as decided
 use Rattle.driver_rules.specs.inner.Decided.{beside_of, form_of, is_in_form, is_kick_of, keeps_kick}
 use Rattle.driver_rules.specs.Passes as passes
 use Rattle.driver_rules.specs.Passes.{is_aside, keepers, pass, Tries}
 use Rattle.driver_laws.specs.inner.Agrees.{Keeping}
 use Rattle.driver_tables.specs.declared.driver.Driver.{Driver}
-use Rattle.reclaim_pass.specs.declared.stages.Aside.{Aside}
-use Rattle.reclaim_pass.specs.declared.stages.Aside.TheVariants as asides
-use Rattle.reclaim_pass.specs.declared.stages.Form.{Form}
-use Rattle.reclaim_pass.specs.declared.stages.Form.TheVariants as forms
-use Rattle.reclaim_pass.specs.declared.stages.Stage.{Stage}
-use Rattle.reclaim_pass.specs.declared.stages.Stage.TheVariants as stages
-use Rattle.reclaim_pass.specs.declared.stages.Taken.{Taken}
-use Rattle.reclaim_pass.specs.inner.Keeping.{first_of, keepers_by}
-use Rattle.driver_steps.specs.inner.Tells.{Tells}
-use Rattle.reclaim_pass.specs.inner.Standing.{epoch_told, IsForm, StandsAt, StandsFor}
-use Rattle.reclaim_pass.specs.inner.Viewed.{aside_by, form_in, pages_in, pass_by, PassView, tries_of}
-use Rattle.reclaim_pass.proofs.KeptLaws.{kept_told}
-use Rattle.reclaim_pass.proofs.ListLaws.{get_drop, head}
+use Rattle.driver_pass.specs.declared.stages.Aside.{Aside}
+use Rattle.driver_pass.specs.declared.stages.Aside.TheVariants as asides
+use Rattle.driver_pass.specs.declared.stages.Form.{Form}
+use Rattle.driver_pass.specs.declared.stages.Form.TheVariants as forms
+use Rattle.driver_pass.specs.declared.stages.Stage.{Stage}
+use Rattle.driver_pass.specs.declared.stages.Stage.TheVariants as stages
+use Rattle.driver_pass.specs.declared.stages.Taken.{Taken}
+use Rattle.driver_pass.specs.inner.Keeping.{first_of, keepers_by}
+use Rattle.driver_tables.specs.inner.Tells.{Tells}
+use Rattle.driver_pass.specs.inner.Standing.{epoch_told, IsForm, StandsAt, StandsFor}
+use Rattle.driver_pass.specs.inner.Viewed.{aside_by, form_in, pages_in, pass_by, PassView, tries_of}
+use Rattle.driver_pass.proofs.KeptLaws.{kept_told}
+use Rattle.driver_pass.proofs.ListLaws.{get_drop, head}
 use Rattle.audit_pass.specs.inner.Told.{by_actor, in_form, is_aside_told, is_beside, is_kick_or_try, kick_by, kick_is, kick_told, with_page}
 
 -- ---- within the tries

@@ -4,15 +4,15 @@ ghost use Rattle.std.specs.Prelude.{ℕ, ◌≡◌, List};
 ghost use Rattle.sgx_rules.specs.declared.entries.Entry.{Entry};
 ghost use Rattle.sgx_types.specs.Making.{Making};
 ghost use Rattle.job_grammar.specs.Jobs.{JobView};
-ghost use Rattle.paging_machine.specs.inner.Parts.{Parts, state_of};
+ghost use Rattle.sgx_machine.specs.inner.Parts.{Parts, state_of};
 ghost use Rattle.driver_rules.specs.Spares.{Outs};
 ghost use Rattle.driver_rules.specs.inner.Decided.{keeps_age_by, keeps_kick};
 ghost use Rattle.driver_laws.specs.inner.Agrees.{Keeping};
 ghost use Rattle.driver_tables.specs.declared.driver.Driver.{Driver};
 ghost use Rattle.driver_tables.specs.inner.Held.{ShowsHolds};
-ghost use Rattle.reclaim_pass.specs.inner.Dues.{CanBeDue, due_in, HasAllSlots, ShowsOuts};
-ghost use Rattle.driver_steps.specs.inner.Tells.{Tells};
-ghost use Rattle.reclaim_pass.specs.inner.Standing.{StandsAt};
+ghost use Rattle.driver_pass.specs.inner.Dues.{CanBeDue, due_in, HasAllSlots, ShowsOuts};
+ghost use Rattle.driver_tables.specs.inner.Tells.{Tells};
+ghost use Rattle.driver_pass.specs.inner.Standing.{StandsAt};
 ghost use Rattle.audit_pass.specs.inner.Told.{age_told, due_told, in_form, in_pass, is_aside_told, kick_told, of_pass};
 
 use crate::looks::looks_right;
@@ -20,13 +20,13 @@ use crate::tries::{
     is_end, is_end_of, is_in_tries, is_kick_of, is_kick_or_try, is_last_try, is_look_ahead,
     is_start_of, is_track_of, is_try,
 };
+use driver_pass::dues::due;
+use driver_pass::keepers::first_keeper;
+use driver_pass::pass::Pass;
+use driver_pass::stages::{Aside, Form, Stage};
 use driver_tables::driver::Driver;
 use driver_tables::moves::is_own_page;
-use paging_machine::machine::Machine;
-use reclaim_pass::dues::due;
-use reclaim_pass::keepers::first_keeper;
-use reclaim_pass::pass::Pass;
-use reclaim_pass::stages::{Aside, Form, Stage};
+use sgx_machine::machine::Machine;
 use sgx_rules::entries::{Action, Entry, Event};
 use sgx_types::names::Actor;
 

@@ -2,7 +2,7 @@
 
 ghost use Rattle.std.specs.Prelude.{◌≡◌};
 ghost use Rattle.driver_rules.specs.Dues.{is_look};
-ghost use Rattle.active_list.specs.inner.Listing.{head_of};
+ghost use Rattle.driver_list.specs.inner.Listing.{head_of};
 ghost use Rattle.audit_pass.specs.inner.Told.{look_is_right, looks_right};
 
 use driver_tables::driver::Driver;

@@ -3,7 +3,7 @@
 ghost use Rattle.std.specs.Prelude.{◌≡◌};
 ghost use Rattle.driver_rules.specs.inner.Decided.{is_end, is_last_try, is_look_ahead, is_track_of, is_try};
 ghost use Rattle.std.specs.Option.{option_map};
-ghost use Rattle.reclaim_pass.specs.inner.Viewed.{number_of};
+ghost use Rattle.driver_pass.specs.inner.Viewed.{number_of};
 ghost use Rattle.audit_pass.specs.inner.Told.{in_frame, in_tries, is_end_of, is_kick_or_try, is_start_of, kick_is};
 
 use sgx_rules::entries::{Action, Event, Look};

@@ -24,11 +24,11 @@ use Rattle.sgx_rules.specs.declared.refusals.Refusal.{Refusal}
 use Rattle.sgx_rules.specs.Starts.{open_start, slot_found, slot_in}
 use Rattle.cached_translations.specs.declared.processor.Mode.{Mode}
 use Rattle.job_grammar.specs.Jobs.{JobView}
-use Rattle.turn_rules.specs.Machines.{machine_of}
-use Rattle.active_list.specs.inner.Places.{IsPlaced}
-use Rattle.paging_machine.specs.declared.starts.Start as starts
-use Rattle.paging_machine.specs.inner.Parts.{Parts}
-use Rattle.paging_laws.specs.inner.Steps.{did_by, refused_by}
+use Rattle.script_rules.specs.Machines.{machine_of}
+use Rattle.driver_list.specs.inner.Places.{IsPlaced}
+use Rattle.sgx_machine.specs.declared.starts.Start as starts
+use Rattle.sgx_machine.specs.inner.Parts.{Parts}
+use Rattle.machine_laws.specs.inner.Steps.{did_by, refused_by}
 use Rattle.driver_rules.specs.Ages.{AgeRule, head_of}
 use Rattle.driver_rules.specs.Places.{active, place}
 use Rattle.driver_laws.specs.inner.Agrees.{auditors}
@@ -37,9 +37,9 @@ use Rattle.driver_laws.specs.inner.Sound.{is_absent, once_listed, slot_at, slot_
 use Rattle.driver_laws.proofs.SoundLaws.{entry_of, head_here}
 use Rattle.driver_tables.specs.declared.driver.Driver.{Driver}
 use Rattle.driver_tables.proofs.ListLaws.{heads, not_listed}
-use Rattle.driver_steps.specs.inner.Tells.{Tells}
-use Rattle.turn_tables.specs.declared.turns.Turns.{Turns}
-use Rattle.audit_laws.proofs.AgreeLaws.{tells_by_rules}
+use Rattle.driver_tables.specs.inner.Tells.{Tells}
+use Rattle.due_tables.specs.declared.turns.Turns.{Turns}
+use Rattle.audit_tables.proofs.AgreeLaws.{tells_by_rules}
 use Rattle.audit_tables.specs.inner.Followed.{CanFollow}
 use Rattle.audit_tables.specs.inner.Following.{FitsAway, FitsEnd, FitsEnded, FitsEvent, FitsGone, FitsLoad, FitsLook, FitsMove}
 use Rattle.audit_tables.specs.inner.Following.{FitsRefused, FitsStarted, IsLeft}

@@ -24,15 +24,15 @@ use Rattle.sgx_types.specs.Sealed.{Sealed}
 use Rattle.sgx_rules.specs.Starts.{open_start}
 use Rattle.cached_translations.specs.declared.processor.Mode.{Mode}
 use Rattle.job_grammar.specs.Jobs.{JobView}
-use Rattle.turn_rules.specs.Machines.{machine_of}
-use Rattle.active_list.specs.declared.page_states.PageState.{PageState}
-use Rattle.active_list.specs.declared.page_states.PageState.TheVariants as states
-use Rattle.active_list.specs.inner.Places.{IsPlaced}
-use Rattle.active_list.specs.inner.States.{state_of as page_state, with_state}
-use Rattle.slot_keeper.specs.inner.Keeper.{Keeper}
-use Rattle.paging_laws.specs.inner.Steps.{did_by, refused_by}
-use Rattle.paging_machine.specs.declared.starts.Start as starts
-use Rattle.paging_machine.specs.inner.Parts.{Parts}
+use Rattle.script_rules.specs.Machines.{machine_of}
+use Rattle.driver_list.specs.declared.page_states.PageState.{PageState}
+use Rattle.driver_list.specs.declared.page_states.PageState.TheVariants as states
+use Rattle.driver_list.specs.inner.Places.{IsPlaced}
+use Rattle.driver_list.specs.inner.States.{state_of as page_state, with_state}
+use Rattle.driver_slots.specs.inner.Keeper.{Keeper}
+use Rattle.machine_laws.specs.inner.Steps.{did_by, refused_by}
+use Rattle.sgx_machine.specs.declared.starts.Start as starts
+use Rattle.sgx_machine.specs.inner.Parts.{Parts}
 use Rattle.driver_rules.specs.Places.{Loading, place, Away}
 use Rattle.driver_rules.specs.Turns.{Fails, Last, Loads, Other, WasEnded, last_of, start_fails}
 use Rattle.driver_rules.specs.Spares.{outs}
@@ -52,11 +52,11 @@ use Rattle.driver_tables.proofs.LoadShowLaws.{shows_bus, shows_load_end, shows_l
 use Rattle.driver_tables.proofs.OtherShowLaws.{shows_others}
 use Rattle.driver_tables.proofs.ShowLaws.{is_slotless, same_out, shows_gone, shows_looked, shows_looked_aside}
 use Rattle.driver_tables.proofs.ShowLaws.{shows_occupied, shows_quiet_entry, shows_started}
-use Rattle.driver_steps.specs.inner.Tells.{Tells}
-use Rattle.turn_tables.specs.declared.turns.Turns.{Turns}
-use Rattle.table_notes.specs.inner.Arrays.{HasAsMany, KeepsArrays}
-use Rattle.table_notes.proofs.ArrayLaws.{arrays_in_pass, arrays_stay}
-use Rattle.audit_laws.proofs.AgreeLaws.{tells_by_rules}
+use Rattle.driver_tables.specs.inner.Tells.{Tells}
+use Rattle.due_tables.specs.declared.turns.Turns.{Turns}
+use Rattle.due_notes.specs.inner.Arrays.{HasAsMany, KeepsArrays}
+use Rattle.due_notes.proofs.ArrayLaws.{arrays_in_pass, arrays_stay}
+use Rattle.audit_tables.proofs.AgreeLaws.{tells_by_rules}
 use Rattle.audit_tables.specs.inner.Followed.{CanFollow, IsFollowed}
 use Rattle.audit_tables.specs.inner.Following.{ComesBack, DoesEvent, HasEnded, HasLooked, HasStarted, IsStarted, away_again, forgetting}
 use Rattle.audit_tables.specs.inner.Following.{is_plain_event, with_begun, with_gone, with_refused}

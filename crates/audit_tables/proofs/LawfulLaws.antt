@@ -15,10 +15,10 @@ use Rattle.sgx_rules.specs.Starts.{open_start}
 use Rattle.sgx_rules.specs.inner.Starts.{bare_start}
 use Rattle.cached_translations.specs.declared.processor.Mode.{Mode}
 use Rattle.job_grammar.specs.Jobs.{JobView}
-use Rattle.turn_rules.specs.Machines.{machine_of}
-use Rattle.turn_rules.specs.Script.{action_of}
-use Rattle.paging_machine.specs.declared.starts.Start as starts
-use Rattle.paging_machine.specs.inner.Parts.{start_of}
+use Rattle.script_rules.specs.Machines.{machine_of}
+use Rattle.script_rules.specs.Script.{action_of}
+use Rattle.sgx_machine.specs.declared.starts.Start as starts
+use Rattle.sgx_machine.specs.inner.Parts.{start_of}
 use Rattle.driver_rules.specs.Ages.{AgeRule, Ahead, EndsNext, GoesOn, InPass, IsAhead, Looks, TriesNext, ahead}
 use Rattle.driver_rules.specs.Passes.{Between, Blocking, Pass, Scan, Tries, pass}
 use Rattle.driver_rules.specs.Spares.{outs}
@@ -30,11 +30,11 @@ use Rattle.driver_laws.specs.inner.Tracks.{is_reclaimers}
 use Rattle.driver_laws.proofs.EndLaws.{their_rule}
 use Rattle.driver_laws.proofs.OwnLaws.{script_own}
 use Rattle.driver_tables.specs.declared.driver.Driver.{Driver}
-use Rattle.turn_tables.specs.declared.turns.Turns.{Turns}
-use Rattle.table_notes.specs.inner.Noted.{AreNoted, CanNoteTables, HasSecsHere}
-use Rattle.table_notes.proofs.FromLaws.{auditors_keep}
-use Rattle.table_notes.specs.inner.Plain.{is_plain, is_reclaimer}
-use Rattle.audit_laws.proofs.AgreeLaws.{lawful_can, lawful_starts, tells_by_rules, tells_shown}
+use Rattle.due_tables.specs.declared.turns.Turns.{Turns}
+use Rattle.due_notes.specs.inner.Noted.{AreNoted, CanNoteTables, HasSecsHere}
+use Rattle.due_notes.proofs.FromLaws.{auditors_keep}
+use Rattle.due_notes.specs.inner.Plain.{is_plain, is_reclaimer}
+use Rattle.audit_tables.proofs.AgreeLaws.{lawful_can, lawful_starts, tells_by_rules, tells_shown}
 use Rattle.audit_tables.specs.inner.Followed.{CanFollow, IsFollowed, frame_begun, frame_ended}
 use Rattle.audit_tables.specs.inner.Following.{is_plain_event}
 

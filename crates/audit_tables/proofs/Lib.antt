@@ -3,3 +3,5 @@ mod LawfulLaws
 pub mod SpareLaws
 mod FitLaws
 mod FollowLaws
+pub mod AgreeLaws
+pub mod EndLaws

@@ -20,8 +20,8 @@ use Rattle.sgx_types.specs.Pages.{is_own_page, is_secs_page, is_va_page, secs_pa
 use Rattle.sgx_rules.specs.Frames.{children, content, vas_made}
 use Rattle.sgx_rules.specs.Slots.{is_va_in_use}
 use Rattle.job_grammar.specs.Jobs.{JobView}
-use Rattle.turn_rules.specs.Script.{is_initialised}
-use Rattle.slot_keeper.specs.inner.Keeper.{Keeper, is_ours, is_out}
+use Rattle.script_rules.specs.Script.{is_initialised}
+use Rattle.driver_slots.specs.inner.Keeper.{Keeper, is_ours, is_out}
 use Rattle.driver_rules.specs.Ages.{AgeRule, IsAhead, ahead_by}
 use Rattle.driver_rules.specs.Holds.{is_held_below}
 use Rattle.driver_rules.specs.Stops.{last_event}

@@ -17,10 +17,10 @@ use Rattle.sgx_rules.specs.Frames.{content, is_this, vas_made}
 use Rattle.sgx_rules.specs.Starts.{Start, open_start, slot_found, version_told}
 use Rattle.sgx_rules.specs.inner.Starts.{BareStart, bare_start, without_place}
 use Rattle.job_grammar.specs.Jobs.{JobView}
-use Rattle.slot_keeper.specs.inner.Keeper.{Gives, Keeper, Takes, is_ours, is_out}
-use Rattle.paging_laws.specs.inner.Steps.{did_by}
-use Rattle.paging_machine.specs.declared.starts.Start as starts
-use Rattle.paging_machine.specs.inner.Parts.{start_of}
+use Rattle.driver_slots.specs.inner.Keeper.{Gives, Keeper, Takes, is_ours, is_out}
+use Rattle.machine_laws.specs.inner.Steps.{did_by}
+use Rattle.sgx_machine.specs.declared.starts.Start as starts
+use Rattle.sgx_machine.specs.inner.Parts.{start_of}
 use Rattle.driver_rules.specs.Places.{Absent, Away, Here, Leaving, Loading, Place, is_here, place}
 use Rattle.driver_laws.specs.inner.Agrees.{ShowsSlots, auditors, stays}
 use Rattle.driver_laws.specs.inner.Keeps.{GivesIf, TakesIf}

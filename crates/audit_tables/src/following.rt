@@ -10,12 +10,12 @@ ghost use Rattle.audit_tables.specs.inner.Following.{with_gone, with_refused};
 use cached_translations::processor::Mode;
 use driver_tables::driver::Driver;
 use driver_tables::moves::is_own_page;
-use paging_machine::starts::Start;
+use due_notes::notes::note_tables;
+use due_tables::turns::Turns;
+use sgx_machine::starts::Start;
 use sgx_rules::entries::{Action, Answer, Entry, Event, Look};
 use sgx_types::names::{Actor, Frame, Page};
 use sgx_types::record::Record;
-use table_notes::notes::note_tables;
-use turn_tables::turns::Turns;
 
 /// Brings the driver's tables to an entry of a trace, which keeps each rule with it. `before` is how the entry's processor stood before it,
 /// and `start` the open start that it ends, or that it has opened. `rec` is kept for a load that starts: of it the rules say nothing. The

@@ -26,8 +26,8 @@ use Rattle.sgx_types.specs.Pages.{page_at, same_page, same_slot, secs_page, va_p
 use Rattle.sgx_rules.specs.Slots.{names_slot, open_slot, slot_of as starts_slot, version_in}
 use Rattle.sgx_rules.specs.inner.Slots.{IsIdle}
 use Rattle.sgx_rules.specs.Starts.{open_start, slot_found, slot_in, Start, started, version_told}
-use Rattle.slot_keeper.specs.inner.Keeper.{Adds, array_at, HasSame, is_added, is_in, is_ours, is_ours_by as ours_by, is_out}
-use Rattle.slot_keeper.specs.inner.Keeper.{is_out_by, Keeper}
+use Rattle.driver_slots.specs.inner.Keeper.{Adds, array_at, HasSame, is_added, is_in, is_ours, is_ours_by as ours_by, is_out}
+use Rattle.driver_slots.specs.inner.Keeper.{is_out_by, Keeper}
 use Rattle.job_grammar.specs.Jobs.{JobView, va_pages}
 use Rattle.driver_rules.specs.Places.{Absent, after_look, Away, comes_into, gone_to, Here, is_here, Leaving, Loading, Place}
 use Rattle.driver_rules.specs.Places.{place}

@@ -20,13 +20,13 @@ use Rattle.sgx_types.specs.declared.names.Perm.{Perm}
 use Rattle.sgx_rules.specs.inner.Enclaves.{created, is_there}
 use Rattle.sgx_types.proofs.Truths.{both_true}
 use Rattle.sgx_types.specs.Pages.{is_own_page}
-use Rattle.slot_keeper.specs.inner.Keeper.{AllOut, array_at, ArrayView, count_all, count_out, is_of, is_ours_by, Keeper, slots_of}
-use Rattle.slot_keeper.specs.inner.Keeper.{va_slot}
+use Rattle.driver_slots.specs.inner.Keeper.{AllOut, array_at, ArrayView, count_all, count_out, is_of, is_ours_by, Keeper, slots_of}
+use Rattle.driver_slots.specs.inner.Keeper.{va_slot}
 use Rattle.job_grammar.specs.Jobs.{enclave_pages, EnclaveView, job_pages, JobView, page_count, va_pages}
 use Rattle.job_grammar.specs.declared.jobs.PageLine.{PageLine}
-use Rattle.turn_rules.specs.Script.{build_of, built, chunk_steps, enclave_steps, enclaves_steps, is_builder, line_steps, numbers_from}
-use Rattle.turn_rules.specs.Script.{page_steps}
-use Rattle.turn_rules.specs.declared.steps.BuildStep.{BuildStep}
+use Rattle.script_rules.specs.Script.{build_of, built, chunk_steps, enclave_steps, enclaves_steps, is_builder, line_steps, numbers_from}
+use Rattle.script_rules.specs.Script.{page_steps}
+use Rattle.script_rules.specs.declared.steps.BuildStep.{BuildStep}
 use Rattle.driver_rules.specs.Ages.{AgeRuleBy}
 use Rattle.driver_rules.specs.Places.{place}
 use Rattle.driver_rules.specs.Scripts.{ScriptRule}
@@ -44,7 +44,7 @@ use Rattle.sgx_rules.specs.declared.entries.Action.TheVariants as actions
 use Rattle.sgx_types.specs.declared.lawful.PageInit.TheVariants as inits
 use Rattle.sgx_types.specs.declared.names.Kind.TheVariants as kinds
 use Rattle.job_grammar.specs.declared.jobs.PageLine.TheVariants as lines
-use Rattle.turn_rules.specs.declared.steps.BuildStep.TheVariants as builds
+use Rattle.script_rules.specs.declared.steps.BuildStep.TheVariants as builds
 
 -- ---- how many pages the build adds
 

@@ -21,7 +21,7 @@ use Rattle.sgx_types.specs.declared.names.SlotAt.{SlotAt}
 use Rattle.sgx_types.specs.Pages.{is_own_page, page_at, same_page}
 use Rattle.sgx_rules.specs.Frames.{added, Content, content, Free, Holds, IsLoading, IsVa, SecsOf, stands}
 use Rattle.sgx_rules.specs.Starts.{open_start}
-use Rattle.slot_keeper.specs.inner.Keeper.{count_out, Keeper, new_keeper}
+use Rattle.driver_slots.specs.inner.Keeper.{count_out, Keeper, new_keeper}
 use Rattle.driver_rules.specs.Places.{Absent, Leaving, Loading, place}
 use Rattle.driver_rules.specs.inner.Slotted.{occupied}
 use Rattle.driver_laws.specs.inner.Counted.{CountMoves, CountsSlots, has_slot, is_own_there, pages_added}

@@ -15,7 +15,7 @@ use Rattle.sgx_rules.specs.Frames.{children, content, is_child, vas_made}
 use Rattle.sgx_types.specs.Pages.{is_own_page, is_secs_page, is_va_page, secs_page, va_page}
 use Rattle.sgx_rules.specs.Slots.{is_of_va, is_va_in_use, open_slot}
 use Rattle.job_grammar.specs.Jobs.{JobView}
-use Rattle.turn_rules.specs.Script.{is_initialised}
+use Rattle.script_rules.specs.Script.{is_initialised}
 use Rattle.driver_rules.specs.Holds.{is_held_below}
 use Rattle.driver_rules.specs.Places.{is_here, place}
 use Rattle.driver_rules.specs.Spares.{array_at, due_behind, due_by, is_alone, is_full, is_spare, least_from, Outs, spare}

@@ -3,11 +3,11 @@ use Rattle.std.proofs.Common.{◌≡◌, ℕ, ◌≤◌, ◌^◌, ◌==◌, ◌|
 use Rattle.std.proofs.Common.{refl, sym, ◌∙◌, ap, subst, List, [], ◌∷◌, Option, Some, None, is_some, nat_lt, arith}
 use Rattle.std.proofs.lemmas.Bool.{eqb-true, eq-eqb, false≢true, not-false}
 use Rattle.std.proofs.lemmas.Option.{same_Some}
-use Rattle.page_history.proofs.CopyLaws.{out_is_gone}
-use Rattle.page_history.proofs.DrawnLaws.{drawn_once}
-use Rattle.page_history.proofs.StartLaws.{starts_apart}
-use Rattle.page_history.proofs.ThereLaws.{add_makes, create_makes, created_there, epa_makes, Makes as MakesPage, sees_created}
-use Rattle.page_history.specs.inner.Once.{KeepsMoves}
+use Rattle.machine_copies.proofs.CopyLaws.{out_is_gone}
+use Rattle.machine_copies.proofs.DrawnLaws.{drawn_once}
+use Rattle.machine_copies.proofs.StartLaws.{starts_apart}
+use Rattle.machine_copies.proofs.ThereLaws.{add_makes, create_makes, created_there, epa_makes, Makes as MakesPage, sees_created}
+use Rattle.machine_copies.specs.inner.Once.{KeepsMoves}
 use Rattle.sgx_rules.proofs.Busy.{idle_apart, not_busy_idle}
 use Rattle.sgx_rules.proofs.Contents.{one_there, there_is, va_there}
 use Rattle.sgx_rules.proofs.Rows.{none_holds, NoneHolds}
@@ -45,7 +45,7 @@ use Rattle.sgx_rules.specs.Starts.{open_start, slot_found, slot_in, Start}
 use Rattle.sgx_rules.specs.inner.Starts.{is_load_of}
 use Rattle.sgx_rules.specs.Table.{add_row, ewbstart_row, FrameSight, init_row, is_busy, is_va, SecsSight}
 use Rattle.job_grammar.specs.Jobs.{JobView}
-use Rattle.turn_rules.specs.Script.{frame_at, is_init_of, is_initialised}
+use Rattle.script_rules.specs.Script.{frame_at, is_init_of, is_initialised}
 use Rattle.driver_rules.specs.Ages.{AgeOf, AgeRule, ahead_by, InPass, IsAhead}
 use Rattle.driver_rules.specs.Passes.{Aside, aside, Between, Blocking, IsGoing, IsToGo, NoneAside, Pass, pass, Scan, Tries}
 use Rattle.driver_rules.specs.Places.{Absent, Away, frame_here, Here, is_here, Leaving, Loading, Place, place}

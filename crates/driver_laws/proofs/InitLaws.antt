@@ -15,8 +15,8 @@ use Rattle.sgx_rules.specs.Rules.{Along, RefusalRule}
 use Rattle.sgx_rules.specs.Sights.{row_at, secs_sight_at}
 use Rattle.sgx_rules.specs.Table.{init_row, is_ready, SecsSight}
 use Rattle.sgx_rules.proofs.Rows.{none_holds, NoneHolds}
-use Rattle.page_history.proofs.ThereLaws.{sees_created}
-use Rattle.turn_rules.specs.Script.{is_init_of, is_initialised}
+use Rattle.machine_copies.proofs.ThereLaws.{sees_created}
+use Rattle.script_rules.specs.Script.{is_init_of, is_initialised}
 use Rattle.driver_laws.proofs.SoundLaws.{entry_of}
 use Rattle.driver_laws.specs.inner.Kinds.{CanMove}
 use Rattle.driver_laws.specs.inner.Sound.{is_absent, IsSound}

@@ -15,7 +15,7 @@ use Rattle.sgx_types.specs.declared.names.VaSlot.{VaSlot}
 use Rattle.sgx_rules.specs.Frames.{Content, content, Free, Holds, IsLoading, IsVa, SecsOf, stands, vas_made}
 use Rattle.sgx_types.specs.Pages.{va_page}
 use Rattle.sgx_rules.specs.Starts.{slot_found, slot_in}
-use Rattle.slot_keeper.specs.inner.Keeper.{Keeper, new_keeper}
+use Rattle.driver_slots.specs.inner.Keeper.{Keeper, new_keeper}
 use Rattle.job_grammar.specs.Jobs.{JobView}
 use Rattle.driver_rules.specs.Places.{Absent, Away, Here, is_here, Leaving, Loading, Place, place}
 use Rattle.driver_laws.specs.inner.Agrees.{Keeping, ShowsSlots}

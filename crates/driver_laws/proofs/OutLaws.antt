@@ -9,7 +9,7 @@ use Rattle.sgx_types.specs.declared.names.VaSlot.{VaSlot}
 use Rattle.sgx_rules.specs.Slots.{is_slot_busy, slot_of as slot_of_start, version_in}
 use Rattle.sgx_rules.specs.Starts.{open_start, Start}
 use Rattle.sgx_rules.proofs.Busy.{idle_free, open_busy}
-use Rattle.slot_keeper.specs.inner.Keeper.{is_ours, is_out, Keeper}
+use Rattle.driver_slots.specs.inner.Keeper.{is_ours, is_out, Keeper}
 use Rattle.job_grammar.specs.Jobs.{JobView}
 use Rattle.driver_rules.specs.Places.{Absent, Away, Here, Leaving, Loading, Place, place}
 use Rattle.driver_rules.specs.Spares.{outs, outs_kept, was_occupied}

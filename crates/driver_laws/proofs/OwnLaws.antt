@@ -21,8 +21,8 @@ use Rattle.sgx_rules.specs.Processors.{holds_number, Stay, stay, translations}
 use Rattle.sgx_rules.specs.Table.{is_lawful_access}
 use Rattle.job_grammar.specs.declared.jobs.Op.{Op}
 use Rattle.job_grammar.specs.Jobs.{JobView}
-use Rattle.turn_rules.specs.declared.steps.BuildStep.{BuildStep}
-use Rattle.turn_rules.specs.Script.{action_of, build_of, built, enter_with, frame_at, is_turned_away, resume_with, with_frame}
+use Rattle.script_rules.specs.declared.steps.BuildStep.{BuildStep}
+use Rattle.script_rules.specs.Script.{action_of, build_of, built, enter_with, frame_at, is_turned_away, resume_with, with_frame}
 use Rattle.driver_rules.specs.Needs.{Interruption, interruption, needs_after, needs_to_enter, needs_to_resume, next_op, save_to_enter}
 use Rattle.driver_rules.specs.Needs.{save_to_resume}
 use Rattle.driver_rules.specs.Places.{Absent, Away, frame_here, Here, is_here, Leaving, Loading, Place, place}
@@ -41,7 +41,7 @@ use Rattle.sgx_rules.specs.declared.entries.Action.TheVariants as actions
 use Rattle.sgx_types.specs.declared.names.Actor.TheVariants as actors
 use Rattle.sgx_rules.specs.declared.refusals.Refusal.TheVariants as why
 use Rattle.job_grammar.specs.declared.jobs.Op.TheVariants as ops
-use Rattle.turn_rules.specs.declared.steps.BuildStep.TheVariants as builds
+use Rattle.script_rules.specs.declared.steps.BuildStep.TheVariants as builds
 use Rattle.driver_rules.specs.declared.waits.Why.TheVariants as waits
 
 -- ---- what is due moves no page but by a load

@@ -32,7 +32,7 @@ use Rattle.sgx_types.specs.declared.names.SlotAt.{SlotAt}
 use Rattle.sgx_types.specs.declared.names.VaSlot.{VaSlot}
 use Rattle.sgx_rules.proofs.Busy.{idle_free, StaysIn}
 use Rattle.sgx_rules.proofs.Contents.{held_page, IsHeld, there_is, va_no_free}
-use Rattle.slot_keeper.specs.inner.Keeper.{is_ours, is_out, Keeper, va_slot}
+use Rattle.driver_slots.specs.inner.Keeper.{is_ours, is_out, Keeper, va_slot}
 use Rattle.job_grammar.specs.Jobs.{JobView}
 use Rattle.driver_rules.specs.Places.{Absent, Away, Here, is_here, Leaving, Loading, Place, place}
 use Rattle.driver_laws.specs.inner.Agrees.{Keeping, ShowsSlots}

@@ -14,8 +14,8 @@ use Rattle.sgx_rules.specs.declared.entries.Event.{Event}
 use Rattle.sgx_rules.specs.declared.entries.Event.TheVariants.{Age, Bus, Did, Kick, Refused}
 use Rattle.sgx_types.specs.declared.names.Page.{Page}
 use Rattle.job_grammar.specs.Jobs.{JobView}
-use Rattle.turn_rules.specs.Script.{action_of, build_of, built, frame_at, is_builder, step_action, with_frame}
-use Rattle.turn_rules.specs.declared.steps.BuildStep.{BuildStep}
+use Rattle.script_rules.specs.Script.{action_of, build_of, built, frame_at, is_builder, step_action, with_frame}
+use Rattle.script_rules.specs.declared.steps.BuildStep.{BuildStep}
 use Rattle.driver_rules.specs.Ages.{AgeOf, AgeRuleBy, Ahead, ahead, EndsNext, GoesOn, InPass, IsAhead, Looks, TriesNext}
 use Rattle.driver_rules.specs.Dues.{Asks, Due, Ends, Fetch, Fetches, Finished, IsFetch, IsNext, KicksAll, LooksAt, Makes, makes_or}
 use Rattle.driver_rules.specs.Dues.{Reports, Stopped, TriesOut, Waits}
@@ -32,7 +32,7 @@ use Rattle.driver_laws.proofs.OwnLaws.{is_script, loaded_own, OfTurn, turn_scrip
 use Rattle.sgx_rules.specs.declared.entries.Action.TheVariants as actions
 use Rattle.sgx_types.specs.declared.names.Actor.TheVariants as actors
 use Rattle.sgx_rules.specs.declared.refusals.Refusal.TheVariants as why
-use Rattle.turn_rules.specs.declared.steps.BuildStep.TheVariants as builds
+use Rattle.script_rules.specs.declared.steps.BuildStep.TheVariants as builds
 use Rattle.driver_rules.specs.declared.waits.Why.TheVariants as waits
 
 -- ---- whose such instructions are

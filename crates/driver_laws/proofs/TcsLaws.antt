@@ -26,9 +26,9 @@ use Rattle.sgx_rules.specs.Processors.{translations}
 use Rattle.sgx_rules.specs.Table.{is_lawful_access}
 use Rattle.job_grammar.specs.declared.jobs.Op.{Op}
 use Rattle.job_grammar.specs.Jobs.{JobView}
-use Rattle.turn_rules.specs.declared.steps.BuildStep.{BuildStep}
-use Rattle.turn_rules.specs.Script.{build_of, built, enter_with, frame_at, is_seated_at, is_turned_away, leaves_by, replied}
-use Rattle.turn_rules.specs.Script.{resume_with, saved, saved_after, script_of, with_frame}
+use Rattle.script_rules.specs.declared.steps.BuildStep.{BuildStep}
+use Rattle.script_rules.specs.Script.{build_of, built, enter_with, frame_at, is_seated_at, is_turned_away, leaves_by, replied}
+use Rattle.script_rules.specs.Script.{resume_with, saved, saved_after, script_of, with_frame}
 use Rattle.driver_rules.specs.Ages.{AgeOf, AgeRuleBy, Ahead, ahead, EndsNext, GoesOn, InPass, IsAhead, Looks, TriesNext}
 use Rattle.driver_laws.specs.inner.Driven.{IsDriven}
 use Rattle.driver_rules.specs.Needs.{interrupted_by, interrupted_in, Interruption, interruption, interruption_after, needs_after}
@@ -56,7 +56,7 @@ use Rattle.sgx_rules.specs.declared.entries.Action.TheVariants as actions
 use Rattle.sgx_types.specs.declared.names.Actor.TheVariants as actors
 use Rattle.sgx_rules.specs.declared.entries.Cause.TheVariants as causes
 use Rattle.job_grammar.specs.declared.jobs.Op.TheVariants as ops
-use Rattle.turn_rules.specs.declared.steps.BuildStep.TheVariants as builds
+use Rattle.script_rules.specs.declared.steps.BuildStep.TheVariants as builds
 use Rattle.driver_rules.specs.declared.waits.Why.TheVariants as waits
 
 -- ---- an operation of a script names its page

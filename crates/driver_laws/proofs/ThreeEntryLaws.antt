@@ -21,7 +21,7 @@ use Rattle.sgx_rules.specs.Processors.{Enters, is_by, Keeps, Leaves, Move, move_
 use Rattle.job_grammar.specs.declared.jobs.Op.{Op}
 use Rattle.job_grammar.specs.declared.jobs.PageLine.{PageLine}
 use Rattle.job_grammar.specs.Jobs.{JobView, lines_at, tcs_line}
-use Rattle.turn_rules.specs.Script.{action_of, interrupted_after, is_interrupted, is_reply, leaves_by, saved, saved_after}
+use Rattle.script_rules.specs.Script.{action_of, interrupted_after, is_interrupted, is_reply, leaves_by, saved, saved_after}
 use Rattle.driver_rules.specs.Holds.{access_of_stay, front_to, holds, holds_by, is_among, page_in, up_to}
 use Rattle.driver_rules.specs.Needs.{access_page, interrupted_by, interrupted_in, Interruption, interruption, interruption_after}
 use Rattle.driver_rules.specs.Needs.{last_save, listed, next_op, next_save}

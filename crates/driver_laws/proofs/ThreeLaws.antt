@@ -22,8 +22,8 @@ use Rattle.sgx_rules.specs.Processors.{holds_number, Stay, stay, translations}
 use Rattle.sgx_rules.specs.Table.{is_lawful_access}
 use Rattle.job_grammar.specs.declared.jobs.Op.{Op}
 use Rattle.job_grammar.specs.Jobs.{JobView, lines_at, tcs_line}
-use Rattle.turn_rules.specs.Script.{action_of, enter_with, frame_at, is_interrupted, is_reply, is_reply_action, is_turned_away}
-use Rattle.turn_rules.specs.Script.{resume_with, saved}
+use Rattle.script_rules.specs.Script.{action_of, enter_with, frame_at, is_interrupted, is_reply, is_reply_action, is_turned_away}
+use Rattle.script_rules.specs.Script.{resume_with, saved}
 use Rattle.driver_rules.specs.Holds.{access_of_stay, brought_with, holds_by, is_among, page_in, page_of_stay, those_here, up_to}
 use Rattle.driver_rules.specs.Needs.{access_page, Interruption, interruption, last_save, listed, needs, needs_after, needs_of}
 use Rattle.driver_rules.specs.Needs.{needs_to_enter, needs_to_resume, next_op, save_to_enter, save_to_resume}

@@ -19,8 +19,8 @@ use Rattle.sgx_rules.specs.Frames.{added, Content, content, frame_of, Free, free
 use Rattle.sgx_rules.specs.Frames.{IsVa, least_free, made_before, put_by, reloaded, SecsOf, vas_made}
 use Rattle.sgx_rules.specs.Slots.{is_of_va, slot_of}
 use Rattle.job_grammar.specs.Jobs.{JobView}
-use Rattle.turn_rules.specs.Script.{build_of, built, step_action, with_frame}
-use Rattle.turn_rules.specs.declared.steps.BuildStep.{BuildStep}
+use Rattle.script_rules.specs.Script.{build_of, built, step_action, with_frame}
+use Rattle.script_rules.specs.declared.steps.BuildStep.{BuildStep}
 use Rattle.driver_rules.specs.Ages.{AgeRule}
 use Rattle.driver_rules.specs.Dues.{Asks, Due, Ends, Fetch, Fetches, Finished, IsFetch, IsNext, KicksAll, LooksAt, Makes, makes_or}
 use Rattle.driver_rules.specs.Dues.{Reports, Stopped, TriesOut, Waits, WaitsFor}
@@ -40,7 +40,7 @@ use Rattle.driver_laws.proofs.StepLaws.{Builds, builds_by, builds_or_none, BySte
 use Rattle.driver_laws.proofs.StillLaws.{load_open}
 use Rattle.sgx_rules.specs.declared.entries.Action.TheVariants as actions
 use Rattle.sgx_types.specs.declared.names.Actor.TheVariants as actors
-use Rattle.turn_rules.specs.declared.steps.BuildStep.TheVariants as builds
+use Rattle.script_rules.specs.declared.steps.BuildStep.TheVariants as builds
 use Rattle.driver_rules.specs.declared.waits.Why.TheVariants as waits
 
 -- ---- frames that are free

@@ -18,7 +18,7 @@ ghost use Rattle.sgx_types.specs.declared.names.SlotAt.{SlotAt};
 ghost use Rattle.sgx_rules.specs.Sights.{secs_sight_at, sight_at, use_sight_at};
 ghost use Rattle.sgx_rules.specs.Table.{DrainSight, LoadSight, eldstart_row, ewbstart_row, first_of_row, is_va};
 ghost use Rattle.sgx_rules.specs.Flat.{settled};
-ghost use Rattle.slot_keeper.specs.inner.Keeper.{AllOut, count_all, count_out, is_ours, is_out, Keeper, new_keeper};
+ghost use Rattle.driver_slots.specs.inner.Keeper.{AllOut, count_all, count_out, is_ours, is_out, Keeper, new_keeper};
 ghost use Rattle.job_grammar.specs.Jobs.{JobView};
 ghost use Rattle.sgx_rules.specs.Rules.{Along, EvictRule, FitsRule, RefusalRule, RisingRule};
 ghost use Rattle.driver_rules.specs.Ages.{AgeRuleBy, KickRule};

@@ -15,7 +15,7 @@ use Rattle.sgx_rules.specs.declared.entries.Look.{Look}
 use Rattle.sgx_types.specs.declared.names.Page.{Page}
 use Rattle.sgx_types.specs.Pages.{same_page}
 use Rattle.job_grammar.specs.Jobs.{JobView}
-use Rattle.turn_rules.specs.Script.{action_of, build_of, built, replied, script_of}
+use Rattle.script_rules.specs.Script.{action_of, build_of, built, replied, script_of}
 use Rattle.driver_rules.specs.Ages.{AgeOf, AgeRuleBy, Ahead, ahead, BesideOf, EndsNext, FormOf, FormUnless, GoesOn, head_of, InForm}
 use Rattle.driver_rules.specs.Ages.{InPass, IsAhead, IsBeside, IsEnd, IsEndAhead, IsInTries, IsKickOrTry, IsLastTry, IsLookAhead}
 use Rattle.driver_rules.specs.Ages.{IsLookAt, IsNextBlock, IsOfPass, IsTrackOf, IsTry, IsTryAhead, KickRule, LookOf, Looks, TriesNext}

@@ -11,12 +11,12 @@ use Rattle.sgx_rules.specs.Frames.{Content, content, page_of}
 use Rattle.sgx_types.specs.Pages.{is_own_page, is_va_page, page_at, same_page}
 use Rattle.sgx_rules.specs.Processors.{is_by, Stay, stay}
 use Rattle.job_grammar.specs.Jobs.{JobView}
-use Rattle.turn_rules.specs.declared.steps.BuildStep.{BuildStep}
-use Rattle.turn_rules.specs.Script.{action_of, build_of, built, is_reply_of}
+use Rattle.script_rules.specs.declared.steps.BuildStep.{BuildStep}
+use Rattle.script_rules.specs.Script.{action_of, build_of, built, is_reply_of}
 use Rattle.driver_rules.specs.Needs.{access_page, listed, needs, next_op}
 use Rattle.driver_rules.specs.Places.{is_here, place}
 use Rattle.sgx_rules.specs.declared.entries.Cause.TheVariants as causes
-use Rattle.turn_rules.specs.declared.steps.BuildStep.TheVariants as builds
+use Rattle.script_rules.specs.declared.steps.BuildStep.TheVariants as builds
 
 abbrev pub is_among : List Page → Page → Bool
 is_among pages g = list_any (λ h. same_page h g) pages

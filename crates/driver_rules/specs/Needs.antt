@@ -16,7 +16,7 @@ use Rattle.job_grammar.specs.declared.jobs.Op.TheVariants as ops
 use Rattle.job_grammar.specs.declared.jobs.PageLine.{PageLine}
 use Rattle.job_grammar.specs.declared.jobs.PageLine.TheVariants as lines
 use Rattle.job_grammar.specs.Jobs.{JobView, lines_at, tcs_line}
-use Rattle.turn_rules.specs.Script.{replied, saved, script_of}
+use Rattle.script_rules.specs.Script.{replied, saved, script_of}
 
 -- ---- interruptions
 

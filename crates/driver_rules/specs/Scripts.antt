@@ -9,7 +9,7 @@ use Rattle.sgx_rules.specs.declared.entries.Action.TheVariants as actions
 use Rattle.sgx_rules.specs.Processors.{stay}
 use Rattle.sgx_rules.specs.Rules.{Along}
 use Rattle.job_grammar.specs.Jobs.{JobView}
-use Rattle.turn_rules.specs.Script.{build_of, built, replied, script_of}
+use Rattle.script_rules.specs.Script.{build_of, built, replied, script_of}
 use Rattle.driver_rules.specs.Dues.{IsNext}
 use Rattle.driver_rules.specs.Stops.{has_bus, is_spent}
 use Rattle.driver_rules.specs.Turns.{builder_due, cpu_due}

@@ -15,7 +15,7 @@ use Rattle.sgx_types.specs.Pages.{is_own_page, is_secs_page, secs_page, va_page}
 use Rattle.sgx_rules.specs.Slots.{is_slot_busy, is_va_in_use, names_slot, version_in}
 use Rattle.sgx_rules.specs.Starts.{slot_found}
 use Rattle.job_grammar.specs.Jobs.{JobView}
-use Rattle.turn_rules.specs.Script.{is_initialised}
+use Rattle.script_rules.specs.Script.{is_initialised}
 use Rattle.driver_rules.specs.Holds.{is_held_below}
 use Rattle.driver_rules.specs.Places.{is_here, place}
 use Rattle.driver_rules.specs.Stops.{last_event}

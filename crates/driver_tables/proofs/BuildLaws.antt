@@ -17,11 +17,11 @@ use Rattle.job_grammar.specs.declared.jobs.PageLine.{PageLine}
 use Rattle.job_grammar.specs.declared.jobs.PageLine.TheVariants as lines
 use Rattle.job_grammar.specs.Jobs.{EnclaveView, JobView, va_pages}
 use Rattle.job_grammar.specs.inner.Valid.{IsValid}
-use Rattle.turn_rules.specs.declared.steps.BuildStep.{BuildStep}
-use Rattle.turn_rules.specs.declared.steps.BuildStep.TheVariants as builds
-use Rattle.turn_rules.specs.Script.{build_of, enclave_steps, enclaves_steps, line_steps, numbers_from, page_steps}
-use Rattle.active_list.specs.inner.Places.{IsPlaced}
-use Rattle.active_list.proofs.PlaceLaws.{low_own, secs_placed}
+use Rattle.script_rules.specs.declared.steps.BuildStep.{BuildStep}
+use Rattle.script_rules.specs.declared.steps.BuildStep.TheVariants as builds
+use Rattle.script_rules.specs.Script.{build_of, enclave_steps, enclaves_steps, line_steps, numbers_from, page_steps}
+use Rattle.driver_list.specs.inner.Places.{IsPlaced}
+use Rattle.driver_list.proofs.PlaceLaws.{low_own, secs_placed}
 use Rattle.driver_rules.specs.Holds.{page_extended}
 use Rattle.driver_laws.specs.inner.Keeps.{is_va_step}
 use Rattle.driver_tables.specs.inner.Counts.{enclave_places, job_counts, last_end, line_end, page_counts}

@@ -5,7 +5,7 @@ use Rattle.std.proofs.lemmas.Bool.{and_parts, eqb-true, leb-true}
 use Rattle.std.proofs.lemmas.List.{length-map}
 use Rattle.std.proofs.lemmas.List.Elements.{All-nil, All-cons, All-head, All-tail}
 use Rattle.std.proofs.lemmas.List.Sums.{sum_by-cons}
-use Rattle.active_list.specs.inner.Places.{IsPlaced, PageCounts, total}
+use Rattle.driver_list.specs.inner.Places.{IsPlaced, PageCounts, total}
 use Rattle.sgx_types.specs.declared.names.Page.{Page}
 use Rattle.sgx_types.specs.Lawful.{is_lawful, is_lawful_size}
 use Rattle.job_grammar.specs.declared.jobs.EnclaveJob.{EnclaveJob}

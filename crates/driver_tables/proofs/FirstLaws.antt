@@ -5,10 +5,10 @@ use Rattle.std.proofs.lemmas.List.{get_or-replicate, get_or_past, length-replica
 use Rattle.std.proofs.lemmas.Bool.{false≢true, leb-true}
 use Rattle.job_grammar.specs.Jobs.{JobView, va_pages}
 use Rattle.job_grammar.specs.inner.Valid.{IsValid}
-use Rattle.active_list.specs.inner.Keeping.{kept_at, page_kept}
-use Rattle.active_list.specs.inner.Places.{place_of, total}
-use Rattle.active_list.specs.inner.States.{state_of}
-use Rattle.active_list.specs.declared.page_states.PageState.TheVariants as states
+use Rattle.driver_list.specs.inner.Keeping.{kept_at, page_kept}
+use Rattle.driver_list.specs.inner.Places.{place_of, total}
+use Rattle.driver_list.specs.inner.States.{state_of}
+use Rattle.driver_list.specs.declared.page_states.PageState.TheVariants as states
 use Rattle.driver_laws.specs.inner.Agrees.{Keeping, ShowsSlots}
 use Rattle.driver_laws.proofs.KeepLaws.{first_shows}
 use Rattle.driver_tables.specs.declared.driver.Driver.{Driver}

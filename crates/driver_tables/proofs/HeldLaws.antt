@@ -15,7 +15,7 @@ use Rattle.sgx_types.proofs.Pages.{same_pages}
 use Rattle.driver_laws.proofs.SoundLaws.{entry_of}
 use Rattle.driver_tables.proofs.FirstLaws.{all_same}
 use Rattle.job_grammar.specs.Jobs.{JobView}
-use Rattle.active_list.specs.inner.Holds.{holds_page, is_held as is_held_by, joined, own_of}
+use Rattle.driver_list.specs.inner.Holds.{holds_page, is_held as is_held_by, joined, own_of}
 use Rattle.driver_rules.specs.Holds.{builder_holds, holds, is_among, is_held, is_held_below}
 use Rattle.driver_rules.specs.Needs.{listed}
 use Rattle.driver_tables.specs.inner.Held.{ShowsHolds}

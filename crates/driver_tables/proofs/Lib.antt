@@ -7,3 +7,7 @@ pub mod OtherShowLaws
 pub mod HeldLaws
 pub mod ListLaws
 pub mod BuildLaws
+pub mod PartLaws
+pub mod AgreesLaws
+pub mod SightLaws
+pub mod TellsLaws

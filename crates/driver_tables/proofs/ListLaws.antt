@@ -7,9 +7,9 @@ use Rattle.sgx_types.proofs.Pages.{same_page-refl, same_pages}
 use Rattle.sgx_rules.specs.declared.entries.Entry.{Entry}
 use Rattle.sgx_types.specs.declared.names.Page.{Page}
 use Rattle.sgx_types.specs.Pages.{same_page}
-use Rattle.active_list.specs.declared.ring.Listed as ring
-use Rattle.active_list.specs.inner.Listing as listing
-use Rattle.active_list.specs.inner.Ring.{is_listed, pages_of}
+use Rattle.driver_list.specs.declared.ring.Listed as ring
+use Rattle.driver_list.specs.inner.Listing as listing
+use Rattle.driver_list.specs.inner.Ring.{is_listed, pages_of}
 use Rattle.driver_rules.specs.Ages.{head_of}
 use Rattle.driver_rules.specs.Places.{is_young}
 use Rattle.driver_laws.specs.inner.Agrees.{Listed, marked}

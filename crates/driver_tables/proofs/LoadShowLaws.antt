@@ -23,16 +23,16 @@ use Rattle.sgx_rules.specs.Processors.{is_by}
 use Rattle.sgx_types.specs.Sealed.{Sealed}
 use Rattle.sgx_rules.specs.Starts.{open_start}
 use Rattle.job_grammar.specs.Jobs.{JobView}
-use Rattle.active_list.specs.declared.ring.Listed as ring
-use Rattle.active_list.specs.declared.page_states.PageState.TheVariants as states
-use Rattle.active_list.specs.inner.Keeping.{Kept, keeping, kept_at, page_kept}
-use Rattle.active_list.specs.inner.Places.{IsPlaced}
-use Rattle.active_list.specs.inner.States.{with_state}
+use Rattle.driver_list.specs.declared.ring.Listed as ring
+use Rattle.driver_list.specs.declared.page_states.PageState.TheVariants as states
+use Rattle.driver_list.specs.inner.Keeping.{Kept, keeping, kept_at, page_kept}
+use Rattle.driver_list.specs.inner.Places.{IsPlaced}
+use Rattle.driver_list.specs.inner.States.{with_state}
 use Rattle.driver_rules.specs.Places.{Away, is_here, Loading, place}
 use Rattle.driver_rules.specs.Turns.{fails_with, last_by, last_of, load_of}
 use Rattle.driver_laws.specs.inner.Agrees.{Keeping, ShowsSlots, loaded_by}
 use Rattle.driver_laws.specs.inner.Keeps.{GivesIf}
-use Rattle.slot_keeper.specs.inner.Keeper.{is_ours}
+use Rattle.driver_slots.specs.inner.Keeper.{is_ours}
 use Rattle.driver_laws.specs.inner.Kinds.{CanMove}
 use Rattle.driver_laws.specs.inner.Sound.{IsSound}
 use Rattle.driver_laws.proofs.AgreeLaws.{is_less, IsLess, shows_eld, shows_eldstart, shows_refused}

@@ -18,13 +18,13 @@ use Rattle.sgx_types.specs.Pages.{page_at, same_page, secs_page, va_page}
 use Rattle.sgx_rules.specs.Frames.{vas_made}
 use Rattle.sgx_rules.specs.Starts.{open_start}
 use Rattle.job_grammar.specs.Jobs.{JobView, va_pages}
-use Rattle.active_list.specs.declared.ring.Listed as ring
-use Rattle.active_list.specs.declared.page_states.PageState.TheVariants as states
-use Rattle.active_list.specs.inner.Active.{pushed, with_touch}
-use Rattle.active_list.specs.inner.Keeping.{kept_at, page_kept}
-use Rattle.active_list.specs.inner.Listing as listing
-use Rattle.active_list.specs.inner.Places.{IsPlaced}
-use Rattle.active_list.specs.inner.States.{with_state}
+use Rattle.driver_list.specs.declared.ring.Listed as ring
+use Rattle.driver_list.specs.declared.page_states.PageState.TheVariants as states
+use Rattle.driver_list.specs.inner.Active.{pushed, with_touch}
+use Rattle.driver_list.specs.inner.Keeping.{kept_at, page_kept}
+use Rattle.driver_list.specs.inner.Listing as listing
+use Rattle.driver_list.specs.inner.Places.{IsPlaced}
+use Rattle.driver_list.specs.inner.States.{with_state}
 use Rattle.driver_rules.specs.Places.{uses}
 use Rattle.driver_rules.specs.Turns.{last_by, last_of}
 use Rattle.driver_laws.specs.inner.Agrees.{Keeping, ShowsSlots, has_pages, listed_by, loaded_by, touched}

@@ -22,15 +22,15 @@ use Rattle.sgx_types.specs.Pages.{is_own_page, is_va_page, same_page, va_page}
 use Rattle.sgx_rules.specs.declared.refusals.Refusal.TheVariants as why
 use Rattle.sgx_rules.specs.Starts.{Start, open_start}
 use Rattle.job_grammar.specs.Jobs.{JobView}
-use Rattle.active_list.specs.declared.ring.Listed as ring
-use Rattle.active_list.specs.declared.page_states.PageState.{PageState}
-use Rattle.active_list.specs.declared.page_states.PageState.TheVariants as states
-use Rattle.active_list.specs.inner.Keeping.{kept_at, page_kept}
-use Rattle.active_list.specs.inner.Listing.{turn}
-use Rattle.active_list.specs.inner.Places.{IsPlaced, place_of, total}
-use Rattle.active_list.specs.inner.States.{state_of, with_state}
-use Rattle.active_list.proofs.StateLaws.{state_of-with_state}
-use Rattle.slot_keeper.specs.inner.Keeper.{is_ours, Keeper}
+use Rattle.driver_list.specs.declared.ring.Listed as ring
+use Rattle.driver_list.specs.declared.page_states.PageState.{PageState}
+use Rattle.driver_list.specs.declared.page_states.PageState.TheVariants as states
+use Rattle.driver_list.specs.inner.Keeping.{kept_at, page_kept}
+use Rattle.driver_list.specs.inner.Listing.{turn}
+use Rattle.driver_list.specs.inner.Places.{IsPlaced, place_of, total}
+use Rattle.driver_list.specs.inner.States.{state_of, with_state}
+use Rattle.driver_list.proofs.StateLaws.{state_of-with_state}
+use Rattle.driver_slots.specs.inner.Keeper.{is_ours, Keeper}
 use Rattle.driver_rules.specs.Ages.{head_of}
 use Rattle.driver_rules.specs.Places.{Absent, Away, Here, is_here, Leaving, Loading, Place, active, place}
 use Rattle.driver_rules.specs.Turns.{last_of}

@@ -10,12 +10,12 @@ use Rattle.sgx_types.specs.Pages.{is_own_page, is_secs_page, is_va_page, secs_pa
 use Rattle.sgx_rules.specs.Frames.{vas_made}
 use Rattle.sgx_rules.specs.Starts.{open_start}
 use Rattle.job_grammar.specs.Jobs.{JobView, va_pages}
-use Rattle.active_list.specs.declared.page_states.PageState.{PageState}
-use Rattle.active_list.specs.declared.page_states.PageState.TheVariants as states
-use Rattle.active_list.specs.inner.Places.{IsPlaced}
-use Rattle.active_list.specs.inner.States.{state_of}
-use Rattle.active_list.proofs.PlaceLaws.{own_low, secs_placed}
-use Rattle.slot_keeper.specs.inner.Keeper.{is_ours}
+use Rattle.driver_list.specs.declared.page_states.PageState.{PageState}
+use Rattle.driver_list.specs.declared.page_states.PageState.TheVariants as states
+use Rattle.driver_list.specs.inner.Places.{IsPlaced}
+use Rattle.driver_list.specs.inner.States.{state_of}
+use Rattle.driver_list.proofs.PlaceLaws.{own_low, secs_placed}
+use Rattle.driver_slots.specs.inner.Keeper.{is_ours}
 use Rattle.driver_rules.specs.inner.Slotted.{fixed_count, fixed_slot}
 use Rattle.driver_rules.specs.Places.{Away, frame_here, is_here, place}
 use Rattle.driver_rules.specs.Targets.{at_frame, slot_here, target_by, target_from}

@@ -3,3 +3,7 @@ pub mod Moves
 pub mod Tables
 pub mod Targets
 pub mod Held
+pub mod Carried
+pub mod Agrees
+pub mod Tells
+pub mod Asked

@@ -1,16 +1,16 @@
 //! The driver's tables.
 
 ghost use Rattle.std.specs.Prelude.{◌≡◌, IfOk};
-ghost use Rattle.active_list.specs.inner.Active.{are_held};
+ghost use Rattle.driver_list.specs.inner.Active.{are_held};
 ghost use Rattle.driver_tables.specs.inner.Tables.{IsNew};
 
 use crate::counts::page_counts;
-use active_list::active::Active;
-use active_list::kept_records::KeptRecords;
-use active_list::page_states::PageStates;
+use driver_list::active::Active;
+use driver_list::kept_records::KeptRecords;
+use driver_list::page_states::PageStates;
+use driver_slots::keeper::SlotKeeper;
 use job_grammar::jobs::{Job, Marks};
 use sgx_types::names::Memory;
-use slot_keeper::keeper::SlotKeeper;
 use std::alloc::Global;
 
 /// What the driver keeps of a job: the list of the TCS and REG pages that may be written out and the holds of pages, what became of each

@@ -1,11 +1,11 @@
 //! That tables and entries begin together. A law is the contract of a function without arguments.
 
 ghost use Rattle.std.specs.Prelude.{◌≡◌, ◌≤◌, ◌<◌, ◌+◌, ◌^◌, ℕ, true, false, [], List, length};
-ghost use Rattle.active_list.specs.inner.Holds.{is_held as is_held_by};
+ghost use Rattle.driver_list.specs.inner.Holds.{is_held as is_held_by};
 ghost use Rattle.driver_rules.specs.Holds.{is_held};
 ghost use Rattle.driver_laws.specs.inner.Agrees.{first_kept, Keeping};
 ghost use Rattle.driver_laws.specs.inner.Sound.{IsSound, is_absent};
-ghost use Rattle.active_list.specs.inner.Places.{IsPlaced};
+ghost use Rattle.driver_list.specs.inner.Places.{IsPlaced};
 ghost use Rattle.driver_rules.specs.inner.Slotted.{fixed_slot};
 ghost use Rattle.driver_rules.specs.Places.{Away, place};
 ghost use Rattle.driver_rules.specs.Targets.{slot_here};

@@ -2,19 +2,19 @@
 
 ghost use Rattle.std.specs.Prelude.{◌≡◌, ◌<◌, ◌≤◌, true, false, Some, length};
 ghost use Rattle.sgx_types.specs.Pages.{is_own_page, va_page};
-ghost use Rattle.active_list.specs.inner.Active.{pushed};
-ghost use Rattle.active_list.specs.inner.Listing.{head_of};
-ghost use Rattle.active_list.specs.inner.Places.{IsPlaced};
-ghost use Rattle.active_list.specs.inner.Ring.{is_listed};
-ghost use Rattle.active_list.specs.inner.States.{state_of, with_state};
-ghost use Rattle.active_list.specs.declared.page_states.PageState.TheVariants as states;
+ghost use Rattle.driver_list.specs.inner.Active.{pushed};
+ghost use Rattle.driver_list.specs.inner.Listing.{head_of};
+ghost use Rattle.driver_list.specs.inner.Places.{IsPlaced};
+ghost use Rattle.driver_list.specs.inner.Ring.{is_listed};
+ghost use Rattle.driver_list.specs.inner.States.{state_of, with_state};
+ghost use Rattle.driver_list.specs.declared.page_states.PageState.TheVariants as states;
 ghost use Rattle.sgx_rules.specs.declared.entries.Look.TheVariants as looks;
-ghost use Rattle.slot_keeper.specs.inner.Keeper.{is_added, is_out};
+ghost use Rattle.driver_slots.specs.inner.Keeper.{is_added, is_out};
 ghost use Rattle.driver_tables.specs.inner.Moves.{IsLooked, IsLookedAside, IsLoaded, frame_in, gone, leaving_of, slot_away};
 ghost use Rattle.driver_tables.specs.inner.Moves.{HasArray, with_here, with_leaving, with_load};
 
 use crate::driver::Driver;
-use active_list::page_states::PageState;
+use driver_list::page_states::PageState;
 use sgx_rules::entries::Look;
 use sgx_types::names::{Cpu, Frame, Page, SECS_NUMBER, VaSlot};
 use sgx_types::record::Record;

@@ -2,12 +2,12 @@
 
 ghost use Rattle.std.specs.Prelude.{◌≡◌, ◌+◌, ◌<◌, ◌^◌, true};
 ghost use Rattle.sgx_types.specs.Pages.{is_own_page, is_va_page, secs_page, va_page};
-ghost use Rattle.active_list.specs.inner.Places.{IsPlaced};
+ghost use Rattle.driver_list.specs.inner.Places.{IsPlaced};
 ghost use Rattle.driver_tables.specs.inner.Targets.{first_in, fixed_in, is_here_in, slot_here_in, target_in};
 
 use crate::driver::Driver;
 use crate::moves::is_own_page;
-use active_list::page_states::PageState;
+use driver_list::page_states::PageState;
 use sgx_types::names::{Page, SECS_NUMBER, SlotAt, VaSlot};
 
 impl Driver {

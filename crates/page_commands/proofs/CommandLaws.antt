@@ -17,7 +17,7 @@ use Rattle.run_jobs.specs.declared.ends.End.{End}
 use Rattle.run_jobs.specs.Runs.{WholeRun}
 use Rattle.page_commands.specs.declared.jobs.Unread.TheVariants as unread
 use Rattle.job_make.specs.MadeJob.{made_job}
-use Rattle.old_trace.specs.Reading.{OfRead}
+use Rattle.trace_file.specs.Reading.{OfRead}
 use Rattle.page_commands.specs.Runs.{DemoBy, RanBy}
 use Rattle.page_commands.specs.inner.Runs.{IsFaultOf}
 

@@ -1,13 +1,13 @@
 -- How commands end by what they say.
 use Rattle.std.proofs.Common.{◌≡◌, ◌⊎◌, ℕ, List, [], Option, Some, None, Ok, Err, reverse, refl, sym, subst, inl, inr}
 use Rattle.std.specs.Prelude.{IfSome}
-use Rattle.audit_command.specs.Verdict.TheVariants as verdicts
+use Rattle.audit_check.specs.declared.verdict.Verdict.TheVariants as verdicts
 use Rattle.command_words.specs.declared.command.Command.{Command}
 use Rattle.io_edges.specs.Sinks.{followed_by, GivesPart}
 use Rattle.job_grammar.specs.Jobs.{JobView}
 use Rattle.job_text.specs.Reading.{read}
-use Rattle.old_trace.specs.Reading as old
-use Rattle.old_trace.specs.Reading.{OfRead, Reads}
+use Rattle.trace_file.specs.Reading as old
+use Rattle.trace_file.specs.Reading.{OfRead, Reads}
 use Rattle.sgx_rules.specs.declared.entries.Entry.{Entry}
 use Rattle.trace_text.specs.declared.edition.Edition.{Edition}
 use Rattle.trace_text.specs.declared.edition.Edition.TheVariants as editions

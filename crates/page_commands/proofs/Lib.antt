@@ -1,3 +1,5 @@
 pub mod CommandLaws
 pub mod EndLaws
 pub mod OneLaws
+pub mod SumLaws
+pub mod XaddLaws

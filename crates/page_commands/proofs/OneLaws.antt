@@ -1,7 +1,7 @@
 -- A command ends in one way, by the bytes that it reads.
 use Rattle.std.proofs.Common.{◌≡◌, ◌⊎◌, ℕ, List, Ok, Err, inl, inr, refl, reverse, sym, subst, ◌∙◌}
-use Rattle.audit_command.specs.JudgedBy.{JudgesBy}
-use Rattle.audit_command.specs.Verdict.TheVariants as verdicts
+use Rattle.page_commands.specs.JudgedBy.{JudgesBy}
+use Rattle.audit_check.specs.declared.verdict.Verdict.TheVariants as verdicts
 use Rattle.command_words.specs.declared.command.Command.{Command}
 use Rattle.command_words.specs.declared.command.Command.TheVariants as commands
 use Rattle.command_words.specs.declared.rules.Rules.{Rules}
@@ -11,11 +11,11 @@ use Rattle.command_words.specs.declared.telling.Telling.TheVariants as tellings
 use Rattle.job_grammar.specs.Jobs.{JobView}
 use Rattle.job_text.specs.declared.refusals.Fault.{Fault}
 use Rattle.job_text.specs.Reading.{read}
-use Rattle.machine_history.proofs.SomeLaws.{fails_nowhere}
-use Rattle.old_trace.proofs.OneLaws.{one_thing}
-use Rattle.old_trace.specs.Reading.{Reads}
-use Rattle.run_history.proofs.HistoryLaws.{no_history}
-use Rattle.run_history.specs.declared.rules.Rule.{Rule}
+use Rattle.history_machine.proofs.SomeLaws.{fails_nowhere}
+use Rattle.trace_file.proofs.OneLaws.{one_thing}
+use Rattle.trace_file.specs.Reading.{Reads}
+use Rattle.history_rules.proofs.HistoryLaws.{no_history}
+use Rattle.history_rules.specs.declared.rules.Rule.{Rule}
 use Rattle.sgx_rules.specs.declared.entries.Entry.{Entry}
 use Rattle.trace_text.specs.declared.edition.Edition.{Edition}
 use Rattle.trace_text.specs.declared.edition.Edition.TheVariants as editions

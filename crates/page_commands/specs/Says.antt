@@ -1,9 +1,9 @@
 -- What each command says of the bytes that it reads: a text on the output, with a status.
 use Rattle.std.specs.Prelude.{ℕ, ◌≡◌, List, Option, Ok, Err, reverse}
-use Rattle.audit_command.specs.JudgedBy.{JudgesBy}
-use Rattle.audit_command.specs.Verdict.{Verdict}
-use Rattle.audit_command.specs.Verdict.TheVariants as verdicts
-use Rattle.audit_command.specs.VerdictText.{judged_text}
+use Rattle.page_commands.specs.JudgedBy.{JudgesBy}
+use Rattle.audit_check.specs.declared.verdict.Verdict.{Verdict}
+use Rattle.audit_check.specs.declared.verdict.Verdict.TheVariants as verdicts
+use Rattle.page_commands.specs.VerdictText.{judged_text}
 use Rattle.command_words.specs.declared.command.Command.{Command}
 use Rattle.command_words.specs.declared.command.Command.TheVariants as commands
 use Rattle.command_words.specs.declared.rules.Rules.{Rules}
@@ -11,18 +11,18 @@ use Rattle.command_words.specs.declared.showing.Showing.{Showing}
 use Rattle.command_words.specs.declared.showing.Showing.TheVariants as showings
 use Rattle.command_words.specs.declared.telling.Telling.{Telling}
 use Rattle.command_words.specs.declared.telling.Telling.TheVariants as tellings
-use Rattle.gate_command.specs.GateText.{gate_text}
+use Rattle.page_commands.specs.GateText.{gate_text}
 use Rattle.io_edges.specs.Sinks.{followed_by, GivesPart}
 use Rattle.job_grammar.specs.Jobs.{JobView}
 use Rattle.job_make.specs.MadeJob.{made_job}
 use Rattle.job_print.specs.JobText.{job_text}
 use Rattle.job_text.specs.declared.refusals.Fault.{Fault}
 use Rattle.job_text.specs.Reading.{read}
-use Rattle.least_command.specs.Fewest.{IsLeastText}
-use Rattle.old_trace.specs.Reading as old
-use Rattle.old_trace.specs.Reading.{Reads}
+use Rattle.command_least.specs.Fewest.{IsLeastText}
+use Rattle.trace_file.specs.Reading as old
+use Rattle.trace_file.specs.Reading.{Reads}
 use Rattle.picture_text.specs.PictureText.{picture_of}
-use Rattle.query_command.specs.AnswerText.{answer_text}
+use Rattle.command_query.specs.AnswerText.{answer_text}
 use Rattle.sgx_rules.specs.declared.entries.Entry.{Entry}
 use Rattle.trace_migrate.specs.Migrated.{numbered}
 use Rattle.trace_text.specs.declared.edition.Edition.{Edition}

@@ -7,8 +7,8 @@ ghost use Rattle.io_edges.specs.Faults.{HasRisen};
 ghost use Rattle.io_edges.specs.Sinks.{GivesPart, followed_by};
 ghost use Rattle.io_edges.specs.Sources.{TakesAtMost};
 ghost use Rattle.job_make.specs.MadeJob.{made_job};
-ghost use Rattle.run_summary.specs.Summary.{summary_of};
-ghost use Rattle.old_trace.specs.Reading.{OfRead};
+ghost use Rattle.page_commands.specs.Summary.{summary_of};
+ghost use Rattle.trace_file.specs.Reading.{OfRead};
 ghost use Rattle.page_commands.specs.Commands.{HasEnded, IsDemoEnd, IsRunEnd, MayReadOld, MayStandIn, NoFault, ReadsJob, RunsNone};
 ghost use Rattle.page_commands.specs.Commands.{status_of};
 ghost use Rattle.page_commands.specs.Runs.{BothGiven, DemoBy, HalfGiven, HalfTold, HasFault, HasJob, RanBy, Told};
@@ -27,10 +27,10 @@ use backing_store::backing::Backing;
 use command_words::command::{Command, command_of};
 use io_edges::sinks::Sink;
 use io_edges::sources::Source;
+use run_crew::gate::Gate;
 use std::alloc::Global;
 use std::sync::Wait;
 use std::thread::Threads;
-use turn_gate::gate::Gate;
 
 /// Does what the words of the command line say, which stand without the program's name.
 ///

@@ -1,12 +1,12 @@
 //! The command `gate`: many rounds at a gate with no lock.
 
-ghost use Rattle.gate_command.specs.GateText.{gate_text};
+ghost use Rattle.page_commands.specs.GateText.{gate_text};
 ghost use Rattle.io_edges.specs.Faults.{HasRisen};
 ghost use Rattle.page_commands.specs.inner.Commands.{IsTextGiven};
 ghost use Rattle.std.specs.Prelude.{◌≡◌, ◌≤◌};
 
+use crate::gate_counts::give_counts;
 use crate::status::Status;
-use gate_command::counts::give_counts;
 use io_edges::sinks::Sink;
 use std::alloc::Global;
 use std::sync::Wait;

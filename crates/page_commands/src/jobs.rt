@@ -6,7 +6,7 @@ ghost use Rattle.io_edges.specs.Sinks.{GivesPart, followed_by};
 ghost use Rattle.io_edges.specs.Sources.{TakesAtMost};
 ghost use Rattle.page_commands.specs.inner.Commands.{IsUnrun};
 ghost use Rattle.job_text.specs.Reading.{read};
-ghost use Rattle.old_trace.specs.Reading.{OfRead};
+ghost use Rattle.trace_file.specs.Reading.{OfRead};
 ghost use Rattle.page_commands.specs.Runs.{fault_line};
 ghost use Rattle.page_commands.specs.Says.{Ends};
 ghost use Rattle.page_commands.specs.inner.Runs.{IsFaultAnd, IsFaultOf};

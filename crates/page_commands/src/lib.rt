@@ -4,13 +4,18 @@
 pub mod command;
 pub mod complaints;
 pub mod ended;
+mod exchanges;
 mod fault_lines;
+pub mod gate_counts;
 mod gates;
 pub mod help;
 mod jobs;
+pub mod judging;
 mod making;
 mod running;
 mod showing;
 pub mod status;
+pub mod summary;
 mod telling;
 mod traces;
+pub mod verdicts;

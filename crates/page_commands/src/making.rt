@@ -5,7 +5,7 @@ ghost use Rattle.io_edges.specs.Faults.{HasRisen};
 ghost use Rattle.io_edges.specs.Sinks.{GivesPart, followed_by};
 ghost use Rattle.job_make.specs.MadeJob.{made_job};
 ghost use Rattle.job_print.specs.JobText.{job_text};
-ghost use Rattle.run_summary.specs.Summary.{summary_of};
+ghost use Rattle.page_commands.specs.Summary.{summary_of};
 ghost use Rattle.page_commands.specs.Commands.{IsDemoEnd, status_of};
 ghost use Rattle.page_commands.specs.inner.Commands.{IsGiven, IsTextGiven};
 ghost use Rattle.page_commands.specs.Runs.{DemoBy};
@@ -13,21 +13,21 @@ ghost use Rattle.run_jobs.specs.declared.ends.End.{End};
 
 use crate::ended::{Ended, unrun};
 use crate::status::Status;
+use crate::summary::print_summary;
 use backing_store::backing::Backing;
 use io_edges::giving::give_all;
 use io_edges::sinks::Sink;
 use job_grammar::jobs::Job;
 use job_make::maker::make_job;
 use job_print::printer::print_job;
+use run_crew::gate::Gate;
 use run_jobs::run::{Run, run_job};
-use run_summary::summary::print_summary;
 use sgx_rules::entries::Entry;
 use sgx_types::names::Memory;
 use std::alloc::Global;
 use std::sync::Wait;
 use std::thread::Threads;
 use trace_pieces::ungiven::Ungiven;
-use turn_gate::gate::Gate;
 
 /// Gives the text of the job that is made of a number and a size.
 pub(crate) fn make_command<K: Sink>(alloc: Global, number: u64, size: u32, out: &mut K) -> Status

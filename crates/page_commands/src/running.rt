@@ -3,7 +3,7 @@
 ghost use Rattle.std.specs.Prelude.{◌≡◌, ◌+◌, ◌^◌, ◌⊎◌, [], is_some, reverse, IfSome, IsErrOf, IsSomeAnd, None, OnOk, Some};
 ghost use Rattle.io_edges.specs.Faults.{HasRisen};
 ghost use Rattle.io_edges.specs.Sources.{TakesAtMost};
-ghost use Rattle.old_trace.specs.Reading.{OfRead};
+ghost use Rattle.trace_file.specs.Reading.{OfRead};
 ghost use Rattle.page_commands.specs.Commands.{HasEnded, IsRunEnd, MayStandIn, NoFault, status_of};
 ghost use Rattle.page_commands.specs.inner.Commands.{IsGiven};
 ghost use Rattle.page_commands.specs.Runs.{BothGiven, HalfGiven, HalfTold, HasFault, HasJob, RanBy, Told};
@@ -17,6 +17,7 @@ use io_edges::giving::give_all;
 use io_edges::sinks::Sink;
 use io_edges::sources::Source;
 use job_grammar::jobs::Job;
+use run_crew::gate::Gate;
 use run_jobs::run::{Run, run_job};
 use run_replies::replies::print_out;
 use sgx_rules::entries::Entry;
@@ -26,7 +27,6 @@ use std::sync::Wait;
 use std::thread::Threads;
 use trace_pieces::pieces::give_trace;
 use trace_pieces::ungiven::Ungiven;
-use turn_gate::gate::Gate;
 
 /// Runs the job that `job` gives, over this store, which has told no calls yet. The text of its trace goes to `trace`, and then its replies
 /// go to `out`. Where the text is no job's, `out` gets its first faulty line and what is wrong there.

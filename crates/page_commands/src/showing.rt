@@ -4,15 +4,15 @@ ghost use Rattle.std.specs.Prelude.{◌≡◌, ◌+◌, ◌^◌, ◌<◌, IsErrO
 ghost use Rattle.io_edges.specs.Faults.{HasRisen};
 ghost use Rattle.io_edges.specs.Sinks.{GivesPart, followed_by};
 ghost use Rattle.io_edges.specs.Sources.{TakesAtMost};
-ghost use Rattle.old_trace.specs.Reading.{OfRead};
+ghost use Rattle.trace_file.specs.Reading.{OfRead};
 ghost use Rattle.page_commands.specs.Says.{Ends, ShowsOf, edition_by, shown};
 
 use crate::status::Status;
 use crate::traces::read_entries;
+use command_picture::giving::give_picture;
 use command_words::showing::Showing;
 use io_edges::sinks::Sink;
 use io_edges::sources::Source;
-use picture_command::giving::give_picture;
 use sgx_rules::entries::Entry;
 use std::alloc::Global;
 use trace_migrate::numbering::number_arrays;

@@ -4,19 +4,19 @@ ghost use Rattle.std.specs.Prelude.{◌≡◌, ◌+◌, ◌^◌, ◌⊎◌, IfOk
 ghost use Rattle.io_edges.specs.Faults.{HasRisen};
 ghost use Rattle.io_edges.specs.Sinks.{GivesPart, followed_by};
 ghost use Rattle.io_edges.specs.Sources.{TakesAtMost};
-ghost use Rattle.old_trace.specs.Reading.{OfRead};
+ghost use Rattle.trace_file.specs.Reading.{OfRead};
 ghost use Rattle.page_commands.specs.Runs.{HasJob};
 ghost use Rattle.page_commands.specs.Says.{Ends, Tells, TellsOf};
 
+use crate::judging::give_verdict;
 use crate::status::Status;
 use crate::traces::{Traced, read_traced};
-use audit_command::giving::give_verdict;
-use audit_command::verdicts::Verdict;
+use crate::verdicts::Verdict;
+use command_least::giving::give_least;
+use command_query::giving::give_answer;
 use command_words::telling::Telling;
 use io_edges::sinks::Sink;
 use io_edges::sources::Source;
-use least_command::giving::give_least;
-use query_command::giving::give_answer;
 use std::alloc::Global;
 use trace_pieces::ungiven::Ungiven;
 

@@ -4,7 +4,7 @@ ghost use Rattle.std.specs.Prelude.{◌≡◌, ◌+◌, ◌^◌, ◌⊎◌, Ok, 
 ghost use Rattle.io_edges.specs.Faults.{HasRisen};
 ghost use Rattle.io_edges.specs.Sources.{TakesAtMost};
 ghost use Rattle.job_text.specs.Reading.{read};
-ghost use Rattle.old_trace.specs.Reading.{OfRead, Reads, fault_line};
+ghost use Rattle.trace_file.specs.Reading.{OfRead, Reads, fault_line};
 ghost use Rattle.page_commands.specs.Runs.{HasJob};
 ghost use Rattle.page_commands.specs.Says.{Ends, OfBoth, OfTrace};
 
@@ -13,11 +13,11 @@ use crate::status::Status;
 use io_edges::sinks::Sink;
 use io_edges::sources::Source;
 use job_grammar::jobs::Job;
-use old_trace::faults::give_fault;
-use old_trace::reading::read_old;
-use old_trace::unread::Unread;
 use sgx_rules::entries::Entry;
 use std::alloc::Global;
+use trace_file::faults::give_fault;
+use trace_file::reading::read_old;
+use trace_file::unread::Unread;
 use trace_pieces::ungiven::Ungiven;
 use trace_text::edition::Edition;
 

@@ -1,6 +1,2 @@
-pub mod HonestBook
-pub mod BookLaws
-pub mod PlainLaws
-pub mod TurnLaws
-pub mod LoadTurns
-pub mod EndTurns
+pub mod CreatedLaws
+pub mod GrownLaws

@@ -1,4 +1,2 @@
-pub mod Honest
-pub mod Books
-pub mod Turns
-pub mod Loads
+pub use Rattle.run_course.specs.inner.Views
+pub mod Words

@@ -5,7 +5,7 @@ use Rattle.std.specs.List.{list_any}
 use Rattle.std.proofs.lemmas.List.Sorted.{IsPermutation-reverse, list_any-IsPermutation}
 use Rattle.sgx_rules.specs.declared.entries.Entry.{Entry}
 use Rattle.driver_rules.specs.Stops.{is_bus, is_spent, spends}
-use Rattle.run_book.specs.Lost.{AllCameBack}
+use Rattle.run_laws.specs.Lost.{AllCameBack}
 use Rattle.run_jobs.specs.inner.Ends.{tells_loss, tells_spent}
 
 -- ---- in either order

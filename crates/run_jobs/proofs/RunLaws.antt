@@ -6,13 +6,13 @@ use Rattle.io_edges.specs.declared.plans.PlanLine.{PlanLine}
 use Rattle.job_grammar.specs.Jobs.{JobView}
 use Rattle.backing_store.specs.Calls.{Call}
 use Rattle.driver_rules.specs.Scripts.{IsDone, IsEnded}
-use Rattle.honest_store.proofs.DoneLaws.{all_done}
-use Rattle.run_book.specs.Lost.{AllCameBack}
-use Rattle.run_history.specs.Given.{UnforgedRun}
-use Rattle.run_history.specs.Histories.{History}
-use Rattle.run_history.specs.inner.Histories.{GoesOn}
-use Rattle.run_history.specs.Stored.{PutsAreFlat}
-use Rattle.crew.specs.inner.Views.{BookView, Holds}
+use Rattle.run_laws.proofs.DoneLaws.{all_done}
+use Rattle.run_laws.specs.Lost.{AllCameBack}
+use Rattle.history_rules.specs.Given.{UnforgedRun}
+use Rattle.history_rules.specs.Histories.{History}
+use Rattle.history_rules.specs.inner.Histories.{GoesOn}
+use Rattle.history_rules.specs.Stored.{PutsAreFlat}
+use Rattle.run_crew.specs.inner.Views.{BookView, Holds}
 use Rattle.run_jobs.specs.Ends.{IsEndOf}
 use Rattle.run_jobs.specs.Runs.{WholeRun}
 use Rattle.run_jobs.specs.declared.ends.End.{End}

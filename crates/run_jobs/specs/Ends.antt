@@ -2,7 +2,7 @@
 use Rattle.std.specs.Prelude.{◌≡◌, true, false, List}
 use Rattle.sgx_rules.specs.declared.entries.Entry.{Entry}
 use Rattle.driver_rules.specs.Stops.{is_spent}
-use Rattle.run_book.specs.Lost.{AllCameBack}
+use Rattle.run_laws.specs.Lost.{AllCameBack}
 use Rattle.run_jobs.specs.declared.ends.End.{End}
 use Rattle.run_jobs.specs.declared.ends.End.TheVariants as ends
 

@@ -7,11 +7,11 @@ use Rattle.job_grammar.specs.Jobs.{JobView}
 use Rattle.backing_store.specs.Calls.{Call}
 use Rattle.driver_rules.specs.Ages.{KeptAgeRule, KickRule}
 use Rattle.driver_rules.specs.Scripts.{IsDone, Script}
-use Rattle.run_book.specs.Lost.{AllCameBack}
-use Rattle.run_history.specs.Given.{UnforgedRun}
-use Rattle.run_history.specs.Histories.{History}
-use Rattle.run_history.specs.Honest.{IsHonest}
-use Rattle.run_history.specs.Stored.{PutsAreFlat, StoreTrue}
+use Rattle.run_laws.specs.Lost.{AllCameBack}
+use Rattle.history_rules.specs.Given.{UnforgedRun}
+use Rattle.history_rules.specs.Histories.{History}
+use Rattle.history_rules.specs.Honest.{IsHonest}
+use Rattle.history_rules.specs.Stored.{PutsAreFlat, StoreTrue}
 use Rattle.driver_rules.specs.Spent.{SpentRule}
 use Rattle.run_jobs.specs.Ends.{IsEndOf}
 use Rattle.run_jobs.specs.declared.ends.End.{End}

@@ -3,7 +3,7 @@
 ghost use Rattle.backing_store.specs.inner.Store.{IsStore, StoreState, is_put};
 ghost use Rattle.backing_store.specs.inner.Told.{told_of};
 ghost use Rattle.job_grammar.specs.Jobs.{JobView};
-ghost use Rattle.run_book.specs.Lost.{AllCameBack};
+ghost use Rattle.run_laws.specs.Lost.{AllCameBack};
 ghost use Rattle.run_jobs.specs.Runs.{WholeRun};
 ghost use Rattle.run_jobs.specs.declared.ends.End.{End};
 ghost use Rattle.run_jobs.specs.declared.ends.End.TheVariants as ends;

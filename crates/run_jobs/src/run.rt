@@ -5,15 +5,15 @@ ghost use Rattle.std.specs.Prelude.{◌≡◌, [], IfOk, IfSome, is_some, revers
 
 use crate::ends::{End, end_of};
 use backing_store::backing::Backing;
-use crew::run::{MachineBook, Parts, run_workers};
 use epoch_words::words::Words;
 use job_grammar::jobs::Job;
+use run_crew::gate::Gate;
+use run_crew::run::{MachineBook, Parts, run_workers};
 use sgx_rules::entries::Entry;
 use sgx_types::names::Memory;
 use std::alloc::Global;
 use std::sync::Wait;
 use std::thread::Threads;
-use turn_gate::gate::Gate;
 
 /// A run that has ended.
 #[derive(Drop)]

@@ -32,35 +32,35 @@ use Rattle.seal_record.specs.Cipher.{cipher}
 use Rattle.seal_record.proofs.CipherLaws.{cipher_twice}
 use Rattle.backing_store.specs.Calls.{Call, Put}
 use Rattle.backing_store.specs.inner.Calls.{with_call}
-use Rattle.active_list.specs.inner.Places.{IsPlaced}
-use Rattle.paging_laws.specs.inner.Columns.{HasAllVersions, slot_of as slot_at_index}
-use Rattle.paging_laws.specs.inner.Histories.{BringsArrayIn}
-use Rattle.paging_laws.specs.inner.State.{State, place_at}
-use Rattle.paging_laws.specs.inner.Steps.{HasBytesOf, IsComing, IsReloaded, IsWrittenOut, commit_row, did_by, refused_by, slots_in}
-use Rattle.paging_laws.proofs.ColumnLaws.{content_is}
-use Rattle.paging_machine.specs.inner.Parts.{Parts, state_of}
+use Rattle.driver_list.specs.inner.Places.{IsPlaced}
+use Rattle.machine_laws.specs.inner.Columns.{HasAllVersions, slot_of as slot_at_index}
+use Rattle.machine_laws.specs.inner.Histories.{BringsArrayIn}
+use Rattle.machine_laws.specs.inner.State.{State, place_at}
+use Rattle.machine_laws.specs.inner.Steps.{HasBytesOf, IsComing, IsReloaded, IsWrittenOut, commit_row, did_by, refused_by, slots_in}
+use Rattle.machine_laws.proofs.ColumnLaws.{content_is}
+use Rattle.sgx_machine.specs.inner.Parts.{Parts, state_of}
 use Rattle.driver_rules.specs.Places.{Absent, Away, Here, Leaving, Loading, Place, place}
 use Rattle.driver_rules.specs.Stops.{is_bus}
 use Rattle.driver_rules.specs.Turns.{Loads, last_of}
 use Rattle.driver_laws.specs.inner.Sound.{is_absent, load_slot, stands_in}
 use Rattle.driver_tables.specs.declared.driver.Driver.{Driver}
 use Rattle.driver_tables.specs.inner.Tables.{place_in}
-use Rattle.driver_steps.specs.inner.Agrees.{Agrees}
-use Rattle.turn_tables.specs.declared.turns.Turns.{Turns}
-use Rattle.run_history.specs.Given.{gift}
-use Rattle.run_history.specs.Honest.{IsHonest, last_put}
-use Rattle.run_history.specs.Stored.{StoreCalls}
-use Rattle.run_history.proofs.HonestLaws.{load_at}
-use Rattle.fault_handler.specs.declared.answers.Loaded.{Loaded}
-use Rattle.fault_handler.specs.inner.Finishing.{CanFinish, FindsVersion, IsBack, IsFinished}
-use Rattle.fault_handler.proofs.HonestLaws.{honest_back, its_page, out as last_out_of, start_of, version as version_found}
-use Rattle.reclaim_pass.specs.declared.stages.Taken.{Taken}
-use Rattle.reclaim_pass.specs.inner.Viewed.{PassView, sealing_in}
-use Rattle.reclaim_worker.specs.inner.Stored.{IsStored, KeepsArrays, StoredSays}
-use Rattle.run_book.specs.inner.Books.{FindsVersion as FindsBy, IsHonestEntry, KeepsBook}
-use Rattle.run_book.specs.inner.Honest.{IsArrayPut, IsHonestBook, PutsArray}
-use Rattle.run_book.specs.inner.Loads.{entry_in}
-use Rattle.run_book.proofs.HonestBook.{last_array}
+use Rattle.driver_tables.specs.inner.Agrees.{Agrees}
+use Rattle.due_tables.specs.declared.turns.Turns.{Turns}
+use Rattle.history_rules.specs.Given.{gift}
+use Rattle.history_rules.specs.Honest.{IsHonest, last_put}
+use Rattle.history_rules.specs.Stored.{StoreCalls}
+use Rattle.history_rules.proofs.HonestLaws.{load_at}
+use Rattle.driver_faults.specs.declared.answers.Loaded.{Loaded}
+use Rattle.driver_faults.specs.inner.Finishing.{CanFinish, FindsVersion, IsBack, IsFinished}
+use Rattle.driver_faults.proofs.HonestLaws.{honest_back, its_page, out as last_out_of, start_of, version as version_found}
+use Rattle.driver_pass.specs.declared.stages.Taken.{Taken}
+use Rattle.driver_pass.specs.inner.Viewed.{PassView, sealing_in}
+use Rattle.driver_reclaim.specs.inner.Stored.{IsStored, KeepsArrays, StoredSays}
+use Rattle.run_laws.specs.inner.Books.{FindsVersion as FindsBy, IsHonestEntry, KeepsBook}
+use Rattle.run_laws.specs.inner.Honest.{IsArrayPut, IsHonestBook, PutsArray}
+use Rattle.run_laws.specs.inner.Loads.{entry_in}
+use Rattle.run_laws.proofs.HonestBook.{last_array}
 use Rattle.run_records.specs.inner.Honest.{StaysHonest}
 use Rattle.run_records.proofs.LoadRecords.{given, same_entry}
 use Rattle.run_records.proofs.QuietLaws.{IsQuiet, quiet_honest}

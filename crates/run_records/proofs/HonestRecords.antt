@@ -26,19 +26,19 @@ use Rattle.sgx_rules.specs.Table.{FrameSight, LoadSight, SlotSight, eldstart_row
 use Rattle.sgx_types.specs.Making.{Making}
 use Rattle.sgx_types.specs.Sealed.{Sealed}
 use Rattle.job_grammar.specs.Jobs.{JobView}
-use Rattle.turn_rules.specs.Script.{frame_at}
+use Rattle.script_rules.specs.Script.{frame_at}
 use Rattle.backing_store.specs.Calls.{Call, Failed, Given, Got, Nothing, Put, Room}
 use Rattle.backing_store.specs.declared.backing.StoreFault.{StoreFault}
 use Rattle.backing_store.specs.declared.backing.StoreFault.TheVariants as faults
-use Rattle.active_list.specs.inner.Places.{IsPlaced}
-use Rattle.active_list.specs.inner.States.{state_of as page_state}
-use Rattle.active_list.specs.declared.page_states.PageState.{PageState}
-use Rattle.active_list.specs.declared.page_states.PageState.TheVariants as states
-use Rattle.paging_laws.specs.inner.Columns.{HasAllVersions, slot_of as slot_at_index}
-use Rattle.paging_laws.specs.inner.State.{State, load_sight, row_of, sight, slot_sight, version_at}
-use Rattle.paging_laws.specs.inner.Steps.{IsDone, IsStep, did_by, refused_by}
-use Rattle.paging_laws.proofs.ColumnLaws.{content_is}
-use Rattle.paging_machine.specs.inner.Parts.{Parts, state_of}
+use Rattle.driver_list.specs.inner.Places.{IsPlaced}
+use Rattle.driver_list.specs.inner.States.{state_of as page_state}
+use Rattle.driver_list.specs.declared.page_states.PageState.{PageState}
+use Rattle.driver_list.specs.declared.page_states.PageState.TheVariants as states
+use Rattle.machine_laws.specs.inner.Columns.{HasAllVersions, slot_of as slot_at_index}
+use Rattle.machine_laws.specs.inner.State.{State, load_sight, row_of, sight, slot_sight, version_at}
+use Rattle.machine_laws.specs.inner.Steps.{IsDone, IsStep, did_by, refused_by}
+use Rattle.machine_laws.proofs.ColumnLaws.{content_is}
+use Rattle.sgx_machine.specs.inner.Parts.{Parts, state_of}
 use Rattle.driver_rules.specs.Places.{Away, place}
 use Rattle.driver_rules.specs.Stops.{is_bus}
 use Rattle.driver_rules.specs.Targets.{slot_here}
@@ -50,22 +50,22 @@ use Rattle.driver_tables.specs.declared.driver.Driver.{Driver}
 use Rattle.driver_tables.specs.inner.Tables.{place_in}
 use Rattle.driver_tables.specs.inner.Targets.{slot_here_in}
 use Rattle.driver_tables.proofs.TargetLaws.{array_of, slot_here_is}
-use Rattle.driver_steps.specs.inner.Agrees.{Agrees}
-use Rattle.driver_steps.specs.inner.Carried.{Carries}
-use Rattle.driver_calls.specs.inner.Comes.{bus_of}
-use Rattle.turn_tables.specs.declared.turns.Turns.{Turns}
-use Rattle.run_history.specs.Calls.{ComesByBus, IsFailed, IsNothing, before, is_lost}
-use Rattle.run_history.specs.Honest.{IsHonest, gift_of, last_put}
-use Rattle.run_history.specs.Stored.{StoreCalls}
-use Rattle.run_history.proofs.HonestLaws.{honest_before, last_sealed}
-use Rattle.fault_handler.specs.declared.answers.FaultAnswer.{FaultAnswer}
-use Rattle.fault_handler.specs.declared.answers.FaultAnswer.TheVariants as answers
-use Rattle.fault_handler.specs.inner.Due.{IsRight}
-use Rattle.fault_handler.specs.inner.Resolving.{IsFetch, IsGot, IsResolved}
-use Rattle.fault_handler.proofs.LoadRows.{IsFoundAt, slot_stands}
-use Rattle.run_book.specs.inner.Books.{AreTold, FindsVersion, IsHonestEntry, KeepsBook}
-use Rattle.run_book.specs.inner.Honest.{PutsArray}
-use Rattle.run_book.specs.inner.Loads.{OfAnswer}
+use Rattle.driver_tables.specs.inner.Agrees.{Agrees}
+use Rattle.driver_tables.specs.inner.Carried.{Carries}
+use Rattle.run_calls.specs.inner.Comes.{bus_of}
+use Rattle.due_tables.specs.declared.turns.Turns.{Turns}
+use Rattle.history_rules.specs.Calls.{ComesByBus, IsFailed, IsNothing, before, is_lost}
+use Rattle.history_rules.specs.Honest.{IsHonest, gift_of, last_put}
+use Rattle.history_rules.specs.Stored.{StoreCalls}
+use Rattle.history_rules.proofs.HonestLaws.{honest_before, last_sealed}
+use Rattle.driver_faults.specs.declared.answers.FaultAnswer.{FaultAnswer}
+use Rattle.driver_faults.specs.declared.answers.FaultAnswer.TheVariants as answers
+use Rattle.driver_faults.specs.inner.Due.{IsRight}
+use Rattle.driver_faults.specs.inner.Resolving.{IsFetch, IsGot, IsResolved}
+use Rattle.driver_faults.proofs.LoadRows.{IsFoundAt, slot_stands}
+use Rattle.run_laws.specs.inner.Books.{AreTold, FindsVersion, IsHonestEntry, KeepsBook}
+use Rattle.run_laws.specs.inner.Honest.{PutsArray}
+use Rattle.run_laws.specs.inner.Loads.{OfAnswer}
 use Rattle.run_records.specs.inner.Honest.{IsNeverHonest, IsRefusedStart, StaysHonest}
 use Rattle.run_records.proofs.LoadRecords.{fault_told}
 use Rattle.run_records.proofs.QuietLaws.{where_told}

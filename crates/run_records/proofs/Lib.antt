@@ -5,3 +5,7 @@ pub mod LoadRecords
 pub mod PassRecords
 pub mod HonestRecords
 pub mod HonestEnds
+pub mod StepBytes
+pub mod TurnBytes
+pub mod FaultBytes
+pub mod EndBytes

@@ -32,45 +32,45 @@ use Rattle.sgx_rules.proofs.Busy.{IsBareOf}
 use Rattle.seal_record.specs.Cipher.{tag}
 use Rattle.seal_record.specs.inner.Row.{eld_row, is_header, same_header}
 use Rattle.job_grammar.specs.Jobs.{JobView}
-use Rattle.turn_rules.specs.Script.{frame_at}
+use Rattle.script_rules.specs.Script.{frame_at}
 use Rattle.backing_store.specs.Calls.{Call}
 use Rattle.backing_store.specs.inner.Calls.{told_got}
 use Rattle.backing_store.specs.declared.backing.StoreFault.{StoreFault}
 use Rattle.backing_store.specs.declared.backing.StoreFault.TheVariants as faults
-use Rattle.active_list.specs.inner.Keeping.{record_kept}
-use Rattle.active_list.specs.inner.Places.{IsPlaced, total}
-use Rattle.active_list.specs.inner.States.{state_of as page_state}
-use Rattle.active_list.specs.declared.page_states.PageState.{PageState}
-use Rattle.active_list.specs.declared.page_states.PageState.TheVariants as states
-use Rattle.paging_laws.specs.inner.State.{State}
-use Rattle.paging_laws.specs.inner.Steps.{IsComing, IsReloaded, commit_row, did_by, refused_by}
-use Rattle.paging_laws.proofs.SlotLaws.{started_as}
-use Rattle.paging_machine.specs.inner.Parts.{Parts, state_of}
+use Rattle.driver_list.specs.inner.Keeping.{record_kept}
+use Rattle.driver_list.specs.inner.Places.{IsPlaced, total}
+use Rattle.driver_list.specs.inner.States.{state_of as page_state}
+use Rattle.driver_list.specs.declared.page_states.PageState.{PageState}
+use Rattle.driver_list.specs.declared.page_states.PageState.TheVariants as states
+use Rattle.machine_laws.specs.inner.State.{State}
+use Rattle.machine_laws.specs.inner.Steps.{IsComing, IsReloaded, commit_row, did_by, refused_by}
+use Rattle.machine_laws.proofs.SlotLaws.{started_as}
+use Rattle.sgx_machine.specs.inner.Parts.{Parts, state_of}
 use Rattle.driver_rules.specs.inner.Reclaims.{is_refused}
 use Rattle.driver_rules.specs.Turns.{Loads, last_of}
 use Rattle.driver_tables.specs.declared.driver.Driver.{Driver}
 use Rattle.driver_tables.specs.inner.Targets.{slot_here_in}
-use Rattle.driver_steps.specs.inner.Agrees.{Agrees}
-use Rattle.turn_tables.specs.declared.turns.Turns.{Turns}
-use Rattle.run_history.specs.Calls.{before}
-use Rattle.run_history.specs.Given.{gift}
-use Rattle.run_history.specs.Stored.{IsBackBy, IsUnfit}
-use Rattle.run_history.specs.Stored.{Tells as TellsRecord}
-use Rattle.driver_calls.specs.inner.Comes.{AnswerComes, Comes, EndComes, Tells, bus_of}
-use Rattle.driver_calls.proofs.FaultLaws.{end_tells, resolved_tells}
-use Rattle.fault_handler.specs.declared.answers.FaultAnswer.{FaultAnswer}
-use Rattle.fault_handler.specs.declared.answers.FaultAnswer.TheVariants as answers
-use Rattle.fault_handler.specs.declared.answers.Loaded.{Loaded}
-use Rattle.fault_handler.specs.declared.answers.Loaded.TheVariants as ends
-use Rattle.fault_handler.specs.inner.Finishing.{CanFinish, IsFinished}
-use Rattle.fault_handler.specs.inner.Resolving.{IsFetch, IsGot, IsResolved}
-use Rattle.fault_handler.proofs.EndLaws.{end_frame}
-use Rattle.run_book.specs.inner.Books.{AreTold, IsTold, KeepsBook}
-use Rattle.run_book.specs.inner.Loads.{OfAnswer, entry_in}
+use Rattle.driver_tables.specs.inner.Agrees.{Agrees}
+use Rattle.due_tables.specs.declared.turns.Turns.{Turns}
+use Rattle.history_rules.specs.Calls.{before}
+use Rattle.history_rules.specs.Given.{gift}
+use Rattle.history_rules.specs.Stored.{IsBackBy, IsUnfit}
+use Rattle.history_rules.specs.Stored.{Tells as TellsRecord}
+use Rattle.run_calls.specs.inner.Comes.{AnswerComes, Comes, EndComes, Tells, bus_of}
+use Rattle.run_calls.proofs.FaultLaws.{end_tells, resolved_tells}
+use Rattle.driver_faults.specs.declared.answers.FaultAnswer.{FaultAnswer}
+use Rattle.driver_faults.specs.declared.answers.FaultAnswer.TheVariants as answers
+use Rattle.driver_faults.specs.declared.answers.Loaded.{Loaded}
+use Rattle.driver_faults.specs.declared.answers.Loaded.TheVariants as ends
+use Rattle.driver_faults.specs.inner.Finishing.{CanFinish, IsFinished}
+use Rattle.driver_faults.specs.inner.Resolving.{IsFetch, IsGot, IsResolved}
+use Rattle.driver_faults.proofs.EndLaws.{end_frame}
+use Rattle.run_laws.specs.inner.Books.{AreTold, IsTold, KeepsBook}
+use Rattle.run_laws.specs.inner.Loads.{OfAnswer, entry_in}
 use Rattle.run_records.specs.inner.Builds.{is_building}
 use Rattle.run_records.specs.inner.Silent.{HasNoEntry, IsSilent, OfBus, OfSlot}
 use Rattle.run_records.proofs.FlatSteps.{flat_other}
-use Rattle.paging_laws.proofs.MoveEnds.{headers_agree}
+use Rattle.machine_laws.proofs.MoveEnds.{headers_agree}
 use Rattle.run_records.proofs.ToldLaws.{load_silent}
 
 -- ---- a fault step

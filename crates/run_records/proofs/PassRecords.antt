@@ -23,48 +23,48 @@ use Rattle.job_grammar.specs.Jobs.{JobView}
 use Rattle.seal_record.specs.Cipher.{cipher, sealed, tag}
 use Rattle.backing_store.specs.Calls.{Call, Put}
 use Rattle.backing_store.specs.inner.Calls.{with_call}
-use Rattle.active_list.specs.inner.Places.{total}
-use Rattle.paging_laws.specs.inner.Shape.{ShapeWithRules}
-use Rattle.paging_laws.specs.inner.State.{State}
-use Rattle.paging_laws.specs.inner.Steps.{IsStep, IsWrittenOut, header_in}
-use Rattle.paging_machine.specs.inner.Parts.{Parts, state_of}
+use Rattle.driver_list.specs.inner.Places.{total}
+use Rattle.machine_laws.specs.inner.Shape.{ShapeWithRules}
+use Rattle.machine_laws.specs.inner.State.{State}
+use Rattle.machine_laws.specs.inner.Steps.{IsStep, IsWrittenOut, header_in}
+use Rattle.sgx_machine.specs.inner.Parts.{Parts, state_of}
 use Rattle.driver_rules.specs.declared.waits.Why.TheVariants as waits
 use Rattle.driver_tables.specs.declared.driver.Driver.{Driver}
-use Rattle.turn_tables.specs.declared.turns.Turns.{Turns}
-use Rattle.run_history.specs.Calls.{before}
-use Rattle.run_history.specs.Given.{gift}
-use Rattle.run_history.specs.Stored.{IsSealedRecord}
-use Rattle.run_history.specs.Stored.{Tells as TellsRecord}
-use Rattle.driver_calls.specs.inner.Comes.{Comes, Tells, TurnComes}
-use Rattle.driver_calls.proofs.PassLaws.{stored_tells, turn_tells}
-use Rattle.reclaim_pass.specs.declared.stages.Aside.{Aside}
-use Rattle.reclaim_pass.specs.declared.stages.Aside.TheVariants as asides
-use Rattle.reclaim_pass.specs.declared.stages.Form.{Form}
-use Rattle.reclaim_pass.specs.declared.stages.Form.TheVariants as forms
-use Rattle.reclaim_pass.specs.declared.stages.Stage.{Stage}
-use Rattle.reclaim_pass.specs.declared.stages.Stage.TheVariants as stages
-use Rattle.reclaim_pass.specs.declared.stages.Taken.{Taken}
-use Rattle.reclaim_pass.specs.inner.Dues.{due_in}
-use Rattle.reclaim_pass.specs.inner.Keeping.{keepers_by}
-use Rattle.reclaim_pass.specs.inner.Viewed.{PassView, sealing_in, taken_at}
-use Rattle.reclaim_worker.specs.declared.turns.PassTurn.{PassTurn}
-use Rattle.reclaim_worker.specs.declared.turns.PassTurn.TheVariants as turns
-use Rattle.reclaim_worker.specs.inner.Answers.{by_reclaimer}
-use Rattle.reclaim_worker.specs.inner.Asked.{look_told, told_by}
-use Rattle.reclaim_worker.specs.inner.Going.{TurnGoes}
-use Rattle.reclaim_worker.specs.inner.Looked.{told_look}
-use Rattle.reclaim_worker.specs.inner.Ready.{CanStep, Ready}
-use Rattle.reclaim_worker.specs.inner.Rests.{IsWait}
-use Rattle.reclaim_worker.specs.inner.Stored.{IsStored, StoredSays}
-use Rattle.reclaim_worker.specs.inner.Turning.{AsideSays, DueSays, FormSays, IsBegun, IsMadeTurn, IsScanned, IsTryTurn, StageSays}
-use Rattle.reclaim_worker.specs.inner.Turning.{ThirdSays, turn_of, TurnSays, WithPage}
-use Rattle.run_book.specs.inner.Books.{AreTold, IsTold, KeepsBook}
-use Rattle.run_book.specs.inner.Turns.{OfEntry}
+use Rattle.due_tables.specs.declared.turns.Turns.{Turns}
+use Rattle.history_rules.specs.Calls.{before}
+use Rattle.history_rules.specs.Given.{gift}
+use Rattle.history_rules.specs.Stored.{IsSealedRecord}
+use Rattle.history_rules.specs.Stored.{Tells as TellsRecord}
+use Rattle.run_calls.specs.inner.Comes.{Comes, Tells, TurnComes}
+use Rattle.run_calls.proofs.PassLaws.{stored_tells, turn_tells}
+use Rattle.driver_pass.specs.declared.stages.Aside.{Aside}
+use Rattle.driver_pass.specs.declared.stages.Aside.TheVariants as asides
+use Rattle.driver_pass.specs.declared.stages.Form.{Form}
+use Rattle.driver_pass.specs.declared.stages.Form.TheVariants as forms
+use Rattle.driver_pass.specs.declared.stages.Stage.{Stage}
+use Rattle.driver_pass.specs.declared.stages.Stage.TheVariants as stages
+use Rattle.driver_pass.specs.declared.stages.Taken.{Taken}
+use Rattle.driver_pass.specs.inner.Dues.{due_in}
+use Rattle.driver_pass.specs.inner.Keeping.{keepers_by}
+use Rattle.driver_pass.specs.inner.Viewed.{PassView, sealing_in, taken_at}
+use Rattle.driver_reclaim.specs.declared.turns.PassTurn.{PassTurn}
+use Rattle.driver_reclaim.specs.declared.turns.PassTurn.TheVariants as turns
+use Rattle.driver_reclaim.specs.inner.Answers.{by_reclaimer}
+use Rattle.driver_reclaim.specs.inner.Asked.{look_told, told_by}
+use Rattle.driver_reclaim.specs.inner.Going.{TurnGoes}
+use Rattle.driver_reclaim.specs.inner.Looked.{told_look}
+use Rattle.driver_reclaim.specs.inner.Ready.{CanStep, Ready}
+use Rattle.driver_reclaim.specs.inner.Rests.{IsWait}
+use Rattle.driver_reclaim.specs.inner.Stored.{IsStored, StoredSays}
+use Rattle.driver_reclaim.specs.inner.Turning.{AsideSays, DueSays, FormSays, IsBegun, IsMadeTurn, IsScanned, IsTryTurn, StageSays}
+use Rattle.driver_reclaim.specs.inner.Turning.{ThirdSays, turn_of, TurnSays, WithPage}
+use Rattle.run_laws.specs.inner.Books.{AreTold, IsTold, KeepsBook}
+use Rattle.run_laws.specs.inner.Turns.{OfEntry}
 use Rattle.run_records.specs.inner.Builds.{is_building}
 use Rattle.run_records.specs.inner.Honest.{StaysHonest}
 use Rattle.run_records.specs.inner.Silent.{IsSilent, MakesNoEntry}
 use Rattle.run_records.proofs.FlatSteps.{flat_other}
-use Rattle.paging_laws.proofs.MoveEnds.{headers_agree}
+use Rattle.machine_laws.proofs.MoveEnds.{headers_agree}
 use Rattle.run_records.proofs.QuietLaws.{carried_honest, IsQuiet}
 use Rattle.run_records.proofs.ToldLaws.{step_is}
 

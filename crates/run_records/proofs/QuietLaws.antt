@@ -1,6 +1,6 @@
 -- Entries by which a run over an honest store stays honest, whatever they are.
 use Rattle.std.proofs.Common.{◌≡◌, ℕ, true, false, refl, ◌∙◌, ap, subst, sym, List, [], ◌∷◌, Option, Some, None}
-use Rattle.turn_rules.specs.Script.{action_of}
+use Rattle.script_rules.specs.Script.{action_of}
 use Rattle.sgx_rules.specs.declared.entries.Action.{Action}
 use Rattle.sgx_rules.specs.declared.entries.Action.TheVariants.{Ewb, EldStart}
 use Rattle.sgx_rules.specs.declared.entries.Answer.{Answer}
@@ -11,19 +11,19 @@ use Rattle.sgx_types.specs.declared.names.Cpu.{Cpu}
 use Rattle.sgx_types.specs.Making.{Making}
 use Rattle.backing_store.specs.Calls.{Call}
 use Rattle.driver_rules.specs.Stops.{is_bus}
-use Rattle.driver_steps.specs.inner.Carried.{Carries}
-use Rattle.paging_laws.specs.inner.Columns.{HasAllVersions}
-use Rattle.paging_laws.specs.inner.Notes.{IsNote}
-use Rattle.paging_laws.specs.inner.Shape.{ShapeWithRules}
-use Rattle.paging_laws.proofs.ColumnLaws.{content_is}
-use Rattle.paging_laws.proofs.NoteLaws.{noted_arrays}
+use Rattle.driver_tables.specs.inner.Carried.{Carries}
+use Rattle.machine_laws.specs.inner.Columns.{HasAllVersions}
+use Rattle.machine_laws.specs.inner.Notes.{IsNote}
+use Rattle.machine_laws.specs.inner.Shape.{ShapeWithRules}
+use Rattle.machine_laws.proofs.ColumnLaws.{content_is}
+use Rattle.machine_laws.proofs.NoteLaws.{noted_arrays}
 use Rattle.sgx_rules.specs.Frames.{Free, IsVa}
-use Rattle.paging_machine.specs.inner.Parts.{Parts, state_of}
-use Rattle.run_book.specs.inner.Books.{FindsVersion, IsHonestEntry}
-use Rattle.run_book.specs.inner.Honest.{IsHonestBook, PutsArray}
-use Rattle.run_history.specs.Honest.{IsHonest}
+use Rattle.sgx_machine.specs.inner.Parts.{Parts, state_of}
+use Rattle.run_laws.specs.inner.Books.{FindsVersion, IsHonestEntry}
+use Rattle.run_laws.specs.inner.Honest.{IsHonestBook, PutsArray}
+use Rattle.history_rules.specs.Honest.{IsHonest}
 use Rattle.run_records.specs.inner.Honest.{StaysHonest}
-use Rattle.table_notes.specs.inner.Plain.{is_plain}
+use Rattle.due_notes.specs.inner.Plain.{is_plain}
 
 -- it tells of no page that was lost, starts no load and ends no write-out
 pub record IsQuiet (ev : Event) : Type 0 where

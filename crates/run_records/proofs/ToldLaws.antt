@@ -15,17 +15,17 @@ use Rattle.sgx_rules.specs.declared.refusals.Refusal.{Refusal}
 use Rattle.sgx_types.specs.Sealed.{Sealed}
 use Rattle.sgx_rules.specs.Table.{first_of_row}
 use Rattle.job_grammar.specs.Jobs.{JobView}
-use Rattle.turn_rules.specs.Script.{action_of}
+use Rattle.script_rules.specs.Script.{action_of}
 use Rattle.backing_store.specs.Calls.{Call}
-use Rattle.paging_laws.specs.inner.State.{State, row_of}
-use Rattle.paging_laws.specs.inner.Steps.{IsDone, IsStep, answer_of, did_by, refused_by}
+use Rattle.machine_laws.specs.inner.State.{State, row_of}
+use Rattle.machine_laws.specs.inner.Steps.{IsDone, IsStep, answer_of, did_by, refused_by}
 use Rattle.driver_tables.specs.declared.driver.Driver.{Driver}
-use Rattle.run_history.specs.Calls.{ComesWith, before}
-use Rattle.run_history.specs.Given.{gift}
-use Rattle.run_history.specs.Stored.{Tells}
-use Rattle.book_laws.specs.inner.Stores.{StoreMoves}
-use Rattle.run_book.specs.inner.Books.{AreTold}
-use Rattle.table_notes.specs.inner.Plain.{is_plain}
+use Rattle.history_rules.specs.Calls.{ComesWith, before}
+use Rattle.history_rules.specs.Given.{gift}
+use Rattle.history_rules.specs.Stored.{Tells}
+use Rattle.run_calls.specs.inner.Stores.{StoreMoves}
+use Rattle.run_laws.specs.inner.Books.{AreTold}
+use Rattle.due_notes.specs.inner.Plain.{is_plain}
 use Rattle.run_records.specs.inner.Silent.{IsSilent}
 
 -- ---- entries that come with no call

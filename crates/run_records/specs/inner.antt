@@ -1,3 +1,4 @@
 pub mod Builds
 pub mod Honest
 pub mod Silent
+pub mod Records

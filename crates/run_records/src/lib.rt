@@ -1,6 +1,6 @@
-// What each entry of a run tells of the record of its call, whatever was forged: an entry of the builder, of a processor or of the
-// reclaimer comes with its call, and what it says of a record is so. Flat memory has each enclave and page as the entries made it. Over an
-// honest store each page comes back, a version array page with the versions with which it went out.
+// What each entry of a run tells of the record of its call, whatever was forged, and that each page comes back over an honest store; and,
+// where no record was forged, that each entry carries on the machine's standing with all the rules that bytes decide.
 #![tactic(auto)]
 
-pub mod laws;
+pub mod bytes;
+pub mod records;

@@ -7,7 +7,7 @@ use Rattle.std.proofs.lemmas.List.{append-nil, append_assoc, take_all}
 use Rattle.std.proofs.lemmas.List.Concat.{flat_map-append}
 use Rattle.sgx_rules.specs.declared.entries.Entry.{Entry}
 use Rattle.job_grammar.specs.Jobs.{JobView}
-use Rattle.turn_rules.specs.Script.{numbers_from}
+use Rattle.script_rules.specs.Script.{numbers_from}
 use Rattle.text_words.specs.Words.{Words, line_text}
 use Rattle.run_replies.specs.inner.Gathered.{IsReplies, line_at, lines_of}
 use Rattle.run_replies.specs.OutText.{cpu_lines, enclave_lines, out_of}

@@ -12,7 +12,7 @@ use Rattle.sgx_rules.specs.declared.entries.Cause.TheVariants as causes
 use Rattle.sgx_rules.specs.declared.refusals.Refusal.{Refusal}
 use Rattle.sgx_rules.specs.declared.refusals.Refusal.TheVariants as why
 use Rattle.job_grammar.specs.Jobs.{JobView}
-use Rattle.turn_rules.specs.Script.{is_reply_of, numbers_from}
+use Rattle.script_rules.specs.Script.{is_reply_of, numbers_from}
 use Rattle.text_words.specs.Words.{Words, enclave_word, line_text}
 use Rattle.trace_text.specs.Names.{fault_word}
 use Rattle.trace_text.specs.TraceText.{refusal_name}

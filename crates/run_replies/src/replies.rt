@@ -3,13 +3,14 @@
 ghost use Rattle.std.specs.Prelude.{ℕ, ◌≡◌, ◌<◌, true, List, [], ◌∷◌, ◌++◌, length, reverse, flat_map, OnOk, IfOk};
 ghost use Rattle.sgx_rules.specs.declared.entries.Entry.{Entry};
 ghost use Rattle.sgx_rules.specs.Processors.{is_by};
-ghost use Rattle.turn_rules.specs.Script.{interrupted_after, numbers_from};
+ghost use Rattle.script_rules.specs.Script.{interrupted_after, numbers_from};
 ghost use Rattle.text_words.specs.inner.Room.{HasRoom};
 ghost use Rattle.text_words.specs.Words.{Words, line_text};
 ghost use Rattle.run_replies.specs.inner.Gathered.{AreEndings, AreReplies, IsReplies, ended_by, ending_lines, line_at, lines_of};
 ghost use Rattle.run_replies.specs.OutText.{done_reply, init_line, out_of, refused_reply, reply_words};
 
 use job_grammar::jobs::Job;
+use script_rules::replies::is_reply;
 use sgx_rules::entries::{Action, Answer, Cause, Entry, Event};
 use sgx_rules::refusals::Refusal;
 use sgx_types::names::{Actor, Memory};
@@ -17,7 +18,6 @@ use std::alloc::Global;
 use text_words::words::Word::{Decimal, Enclave, Name};
 use text_words::words::{push_line, write_line};
 use trace_text::names::{fault_name, refusal_name};
-use turn_rules::replies::is_reply;
 
 // The line of a reply has so many bytes at most.
 const REPLY_ROOM: usize = 128;

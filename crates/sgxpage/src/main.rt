@@ -4,10 +4,10 @@ use backing_store::planned_store::PlannedStore;
 use command_words::command::{Command, command_of};
 use io_edges::late_file::LateFile;
 use io_edges::std_edges::{StdSink, StdSource};
-use old_trace::old_file::OldFile;
 use page_commands::command::sgxpage;
 use page_commands::complaints::complain;
 use page_commands::status::Status;
+use run_crew::gate::OpenGate;
 use std::env;
 use std::fs::File;
 use std::io::{self, ErrorKind};
@@ -15,7 +15,7 @@ use std::os::fd::AsRawFd;
 use std::process::ExitCode;
 use std::sync::Wait;
 use std::thread::Threads;
-use turn_gate::gate::OpenGate;
+use trace_file::old_file::OldFile;
 
 fn main(rt: HostRuntime) -> ExitCode {
     let status = match fill_streams(&rt) {

@@ -4,7 +4,7 @@ use Rattle.std.proofs.Common.{rules, if◌then◌else◌}
 use Rattle.std.specs.List.{AllByRecursion}
 use Rattle.sgx_rules.specs.declared.refusals.Refusal.{Refusal}
 use Rattle.trace_text.specs.Fields.{AllFit, refusal_fields}
-use Rattle.trace_words.specs.inner.Names.{bare_of, bare_word, bares}
+use Rattle.trace_lines.specs.inner.Names.{bare_of, bare_word, bares}
 
 abbrev FitsBare : Refusal → Type 0
 FitsBare refusal = AllFit (refusal_fields refusal)

@@ -28,8 +28,8 @@ use Rattle.trace_text.specs.Fields.{name, number, address, enclave, page, digest
 use Rattle.trace_text.specs.TraceText.{actor_word, spelling}
 use Rattle.trace_text.specs.Readable.{IsReadable}
 use Rattle.trace_text.proofs.FieldLaws.{words_append}
-use Rattle.trace_words.proofs.WordReads.{access-is_word, actor-is_word, cause-is_word, enclave-is_word, fault-is_word, kind-is_word}
-use Rattle.trace_words.proofs.WordReads.{look-is_word, page-are_words, perm-is_word, stop-is_word}
+use Rattle.trace_lines.proofs.WordReads.{access-is_word, actor-is_word, cause-is_word, enclave-is_word, fault-is_word, kind-is_word}
+use Rattle.trace_lines.proofs.WordReads.{look-is_word, page-are_words, perm-is_word, stop-is_word}
 use Rattle.trace_lines.specs.inner.Reading.{entry_of, words_in}
 use Rattle.trace_lines.proofs.FitLaws.{fit_behind, fit_front}
 use Rattle.trace_lines.proofs.ReadLaws.{entry-read}

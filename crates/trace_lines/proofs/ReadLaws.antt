@@ -24,11 +24,11 @@ use Rattle.trace_text.specs.Fields.{page_words, refusal_fields, words_of}
 use Rattle.trace_text.specs.TraceText.{actor_word}
 use Rattle.trace_text.specs.Readable.{IsKnown, IsReadable, IsTold}
 use Rattle.trace_text.proofs.FieldLaws.{words_append}
-use Rattle.trace_words.specs.inner.Names.{bare_of, row_of}
-use Rattle.trace_words.proofs.WordReads.{access-read, actor-read, address-read, byte-read, cause-read, cpu-read, dash-read, enclave-read}
-use Rattle.trace_words.proofs.WordReads.{IsPageRead, expect-read, fault-read, frame-read, kind-read, look-read, number-read}
-use Rattle.trace_words.proofs.WordReads.{page-read, perm-read, short-read, small-read, stop-read, tag-read}
-use Rattle.trace_words.specs.inner.Reading.{enclave_in, page_number_in}
+use Rattle.trace_lines.specs.inner.Names.{bare_of, row_of}
+use Rattle.trace_lines.proofs.WordReads.{access-read, actor-read, address-read, byte-read, cause-read, cpu-read, dash-read, enclave-read}
+use Rattle.trace_lines.proofs.WordReads.{IsPageRead, expect-read, fault-read, frame-read, kind-read, look-read, number-read}
+use Rattle.trace_lines.proofs.WordReads.{page-read, perm-read, short-read, small-read, stop-read, tag-read}
+use Rattle.trace_lines.specs.inner.WordReading.{enclave_in, page_number_in}
 use Rattle.trace_lines.specs.inner.Reading.{action_of, answer_in, bus_of, done_of, entry_of, event_of, fielded_of, first, init_in}
 use Rattle.trace_lines.specs.inner.Reading.{kick_of, knows, operands_in, refusal_of, refused_of}
 use Rattle.trace_lines.proofs.FitLaws.{fit_behind, fit_front}

@@ -4,9 +4,9 @@ ghost use Rattle.std.specs.Prelude.{◌≡◌, drop};
 ghost use Rattle.trace_lines.specs.inner.Reading.{first, init_in, is_none, left, page_in, slot_in, texts};
 ghost use Rattle.trace_text.specs.Fields.{AllFit, init_fields};
 
+use crate::words::{enclave, frame, number, page_number, short, small};
 use sgx_types::lawful::PageInit;
 use sgx_types::names::{Page, SlotAt};
-use trace_words::words::{enclave, frame, number, page_number, short, small};
 
 /// The words of a line that are still to be read.
 #[derive(Drop)]

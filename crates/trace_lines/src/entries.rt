@@ -7,14 +7,14 @@ ghost use Rattle.trace_text.specs.Fields.{AllFit, event_fields};
 ghost use Rattle.trace_text.specs.Readable.{IsKnown, IsReadable, IsTold, may_make};
 
 use crate::cursor::{Cursor, page};
+use crate::names::{look, stop};
 use crate::operands::action;
 use crate::outcomes::{answer, refusal};
+use crate::words::{actor, cpu};
 use sgx_rules::entries::{BusWhy, Entry, Event};
 use sgx_types::names::{Actor, Memory};
 use std::alloc::{AllocError, Global};
 use trace_text::edition::Edition;
-use trace_words::names::{look, stop};
-use trace_words::words::{actor, cpu};
 
 #[tactic(auto, using(crate::proofs::FitLaws::fit_both), unfolding(crate::specs::inner::Reading::refused_of))]
 fn refused(words: &mut Cursor) -> Option<Event>

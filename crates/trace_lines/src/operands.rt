@@ -5,9 +5,9 @@ ghost use Rattle.trace_lines.specs.inner.Reading.{Took, action_of, left, operand
 ghost use Rattle.trace_text.specs.Fields.{AllFit, action_fields};
 
 use crate::cursor::{Cursor, init, page, slot};
+use crate::names::{Row, access, cause, instruction, kind, perm};
+use crate::words::{byte, enclave, expect, frame, number, small};
 use sgx_rules::entries::Action;
-use trace_words::names::{Row, access, cause, instruction, kind, perm};
-use trace_words::words::{byte, enclave, expect, frame, number, small};
 
 /// What stands behind an instruction's name.
 #[tactic(auto, unfolding(crate::specs::inner::Reading::operands_in))]

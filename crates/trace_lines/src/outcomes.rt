@@ -5,11 +5,11 @@ ghost use Rattle.trace_lines.specs.inner.Reading.{Took, answer_in, fielded_of, l
 ghost use Rattle.trace_text.specs.Fields.{AllFit, answer_fields, answer_form, epa_form, form_of, refusal_fields};
 
 use crate::cursor::{Cursor, page};
+use crate::names::{bare, fault};
+use crate::words::{number, small, tag};
 use sgx_rules::entries::{Action, Answer};
 use sgx_rules::refusals::Refusal;
 use trace_text::edition::Edition;
-use trace_words::names::{bare, fault};
-use trace_words::words::{number, small, tag};
 
 /// What a done instruction answered, in the form that it answers in.
 #[tactic(auto, unfolding(crate::specs::inner::Reading::answer_in))]

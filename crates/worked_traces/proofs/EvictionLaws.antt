@@ -5,7 +5,7 @@ use Rattle.sgx_types.specs.Counts.{any_below, count_below, least_below}
 use Rattle.sgx_rules.specs.Rules.{Along, EvictRule, RefusalRule}
 use Rattle.sgx_rules.specs.Starts.{Start}
 use Rattle.sgx_types.specs.declared.names.Actor.TheVariants.{Reclaimer}
-use Rattle.turn_rules.specs.Machines.{machine_of}
+use Rattle.script_rules.specs.Machines.{machine_of}
 use Rattle.worked_traces.specs.inner.Evictions.{came_back, enter_by_reclaimer, first_slot, sevens}
 use Rattle.worked_traces.specs.inner.Traces.{first_job}
 use Rattle.worked_traces.proofs.TraceLaws.{first_trace_table}

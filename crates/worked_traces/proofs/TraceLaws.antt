@@ -13,7 +13,7 @@ use Rattle.sgx_types.proofs.Pages.{same_pages}
 use Rattle.sgx_rules.specs.Frames.{Content, Put, content, held_after, is_sealing, made_before, put_by, stands}
 use Rattle.sgx_rules.specs.Processors.{BareTranslation}
 use Rattle.sgx_rules.specs.Rules.{Along, AtEachPlace, FlatRule, NoPageTwice, NoneStale, IsCurrent, RefusalRule}
-use Rattle.turn_rules.specs.Machines.{machine_of}
+use Rattle.script_rules.specs.Machines.{machine_of}
 use Rattle.worked_traces.specs.inner.Traces.{first_trace, first_build, fill, enter, frame_beyond, frame_twice, page_twice}
 use Rattle.worked_traces.specs.inner.Traces.{adds_exchanged}
 use Rattle.worked_traces.specs.inner.Traces.{epa_by_reclaimer, first_job, no_fill, fill_from_other_frame, other_cssa, other_value}

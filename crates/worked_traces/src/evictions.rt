@@ -4,7 +4,7 @@ ghost use Rattle.std.specs.Prelude.{◌≡◌, ◌∷◌};
 ghost use Rattle.sgx_rules.specs.Frames.{IsLoading, Free, content};
 ghost use Rattle.sgx_rules.specs.Fresh.{FreshRule};
 ghost use Rattle.sgx_rules.specs.Rules.{Along, EvictRule, FitsRule, FlatRule, RefusalRule};
-ghost use Rattle.turn_rules.specs.Machines.{machine_of};
+ghost use Rattle.script_rules.specs.Machines.{machine_of};
 ghost use Rattle.worked_traces.specs.inner.Evictions.{came_back, enter_by_reclaimer, gone_out, no_track, other_page_in};
 ghost use Rattle.worked_traces.specs.inner.Evictions.{other_version_in};
 ghost use Rattle.worked_traces.specs.inner.Evictions.{other_version_out, second_start, sevens, start_in};

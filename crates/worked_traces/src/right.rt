@@ -2,7 +2,7 @@
 
 ghost use Rattle.sgx_rules.specs.Rules.{Along, Fits, FlatRule, RefusalRule, Stale};
 ghost use Rattle.sgx_rules.specs.inner.Rules.{KeepsRules};
-ghost use Rattle.turn_rules.specs.Machines.{machine_of};
+ghost use Rattle.script_rules.specs.Machines.{machine_of};
 ghost use Rattle.driver_rules.specs.Scripts.{Script};
 ghost use Rattle.worked_traces.specs.inner.Traces.{first_job, first_trace};
 

@@ -2,7 +2,7 @@
 
 ghost use Rattle.sgx_rules.specs.Rules.{Along, AtEachPlace, FitsRule, FlatRule, NoPageTwice, RefusalRule};
 ghost use Rattle.sgx_rules.specs.inner.Rules.{KeepsRules};
-ghost use Rattle.turn_rules.specs.Machines.{machine_of};
+ghost use Rattle.script_rules.specs.Machines.{machine_of};
 ghost use Rattle.driver_rules.specs.Scripts.{ScriptRule};
 ghost use Rattle.worked_traces.specs.inner.Traces.{adds_exchanged, epa_by_reclaimer, first_job, frame_beyond, frame_twice};
 ghost use Rattle.worked_traces.specs.inner.Traces.{page_twice};

@@ -2,7 +2,7 @@
 
 ghost use Rattle.sgx_rules.specs.Rules.{Along, AtEachPlace, Fits, FitsRule, FlatRule, NoneStale, RefusalRule, StaleRule};
 ghost use Rattle.sgx_rules.specs.inner.Rules.{KeepsRules};
-ghost use Rattle.turn_rules.specs.Machines.{machine_of};
+ghost use Rattle.script_rules.specs.Machines.{machine_of};
 ghost use Rattle.driver_rules.specs.Scripts.{IsEnded, Script, ScriptRule};
 ghost use Rattle.worked_traces.specs.inner.Traces.{enter_before_init, fill_from_other_frame, first_job, load_by_builder};
 ghost use Rattle.worked_traces.specs.inner.Traces.{load_by_other_cpu};

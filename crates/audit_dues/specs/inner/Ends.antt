@@ -3,15 +3,15 @@ use Rattle.std.specs.Prelude.{ℕ, zero, suc, ◌==◌, ◌&&◌, ◌||◌, Bool
 use Rattle.cached_translations.specs.declared.processor.Mode.{Mode}
 use Rattle.cached_translations.specs.declared.processor.Mode.TheVariants.{Inside, Outside}
 use Rattle.job_grammar.specs.Jobs.{JobView}
-use Rattle.turn_rules.specs.declared.steps.BuildStep.{BuildStep}
-use Rattle.turn_rules.specs.Script.{script_of}
-use Rattle.paging_machine.specs.inner.Parts.{Parts, cpu_at}
-use Rattle.turn_tables.specs.declared.cpu_turns.CpuTurn.{CpuTurn}
-use Rattle.turn_tables.specs.declared.cpu_turns.Last.{Last}
-use Rattle.turn_tables.specs.declared.cpu_turns.Last.TheVariants as ways
-use Rattle.turn_tables.specs.declared.turns.Turns.{Turns}
-use Rattle.turn_tables.specs.inner.Asked.{next_step}
-use Rattle.turn_tables.specs.inner.CpuTurns.{turn_at}
+use Rattle.script_rules.specs.declared.steps.BuildStep.{BuildStep}
+use Rattle.script_rules.specs.Script.{script_of}
+use Rattle.sgx_machine.specs.inner.Parts.{Parts, cpu_at}
+use Rattle.due_tables.specs.declared.cpu_turns.CpuTurn.{CpuTurn}
+use Rattle.due_tables.specs.declared.cpu_turns.Last.{Last}
+use Rattle.due_tables.specs.declared.cpu_turns.Last.TheVariants as ways
+use Rattle.due_tables.specs.declared.turns.Turns.{Turns}
+use Rattle.due_tables.specs.inner.Asked.{next_step}
+use Rattle.due_tables.specs.inner.CpuTurns.{turn_at}
 
 abbrev pub was_ended : Last → Bool
 was_ended ways.WasEnded = true

@@ -7,22 +7,22 @@ use Rattle.sgx_types.specs.declared.names.Page.{Page}
 use Rattle.sgx_types.specs.declared.names.SlotAt.{SlotAt}
 use Rattle.sgx_types.specs.declared.names.VaSlot.{VaSlot}
 use Rattle.sgx_types.specs.Pages.{is_own_page, secs_page, va_page}
-use Rattle.turn_rules.specs.Script.{action_of}
-use Rattle.active_list.specs.declared.page_states.PageState.{PageState}
-use Rattle.active_list.specs.declared.page_states.PageState.TheVariants as states
-use Rattle.active_list.specs.inner.Places.{IsPlaced}
-use Rattle.active_list.specs.inner.States.{state_of as page_state}
+use Rattle.script_rules.specs.Script.{action_of}
+use Rattle.driver_list.specs.declared.page_states.PageState.{PageState}
+use Rattle.driver_list.specs.declared.page_states.PageState.TheVariants as states
+use Rattle.driver_list.specs.inner.Places.{IsPlaced}
+use Rattle.driver_list.specs.inner.States.{state_of as page_state}
 use Rattle.driver_rules.specs.Dues.{Asks, Fetch, WaitsFor, load_by}
 use Rattle.driver_rules.specs.inner.Decided.{is_action, is_fetch, is_stop}
 use Rattle.driver_tables.specs.declared.driver.Driver.{Driver}
 use Rattle.driver_tables.specs.inner.Targets.{slot_here_in, target_in}
-use Rattle.turn_tables.specs.declared.dues.BuilderDue.{BuilderDue}
-use Rattle.turn_tables.specs.declared.dues.BuilderDue.TheVariants as builders
-use Rattle.turn_tables.specs.declared.dues.CpuDue.{CpuDue}
-use Rattle.turn_tables.specs.declared.dues.CpuDue.TheVariants.{Ends, Finished, Makes, Needs, Reports, Stopped, Waits}
-use Rattle.turn_tables.specs.declared.turns.Turns.{Turns}
-use Rattle.turn_tables.specs.inner.Due.{made_by}
-use Rattle.turn_tables.specs.inner.TcsTurns.{has_place, rows}
+use Rattle.due_tables.specs.declared.dues.BuilderDue.{BuilderDue}
+use Rattle.due_tables.specs.declared.dues.BuilderDue.TheVariants as builders
+use Rattle.due_tables.specs.declared.dues.CpuDue.{CpuDue}
+use Rattle.due_tables.specs.declared.dues.CpuDue.TheVariants.{Ends, Finished, Makes, Needs, Reports, Stopped, Waits}
+use Rattle.due_tables.specs.declared.turns.Turns.{Turns}
+use Rattle.due_tables.specs.inner.Due.{made_by}
+use Rattle.due_tables.specs.inner.TcsTurns.{has_place, rows}
 
 -- ---- a page that is needed
 

@@ -19,11 +19,11 @@ use Rattle.seal_record.specs.Records.{Made}
 use Rattle.seal_record.specs.declared.unseal.UnsealedWork.{UnsealedWork}
 use Rattle.seal_record.specs.Sealing.{made_with}
 use Rattle.job_grammar.specs.Jobs.{JobView}
-use Rattle.paging_laws.specs.inner.Histories.{BringsBack, StandsWithAllRules}
-use Rattle.paging_laws.specs.inner.State.{State}
-use Rattle.run_history.specs.declared.rules.Rule.{Rule}
-use Rattle.run_history.specs.inner.Histories.{is_machines}
-use Rattle.machine_history.specs.Histories.{FailsAmong}
+use Rattle.machine_laws.specs.inner.Histories.{BringsBack, StandsWithAllRules}
+use Rattle.machine_laws.specs.inner.State.{State}
+use Rattle.history_rules.specs.declared.rules.Rule.{Rule}
+use Rattle.history_rules.specs.inner.Histories.{is_machines}
+use Rattle.history_machine.specs.Histories.{FailsAmong}
 use Rattle.audit_machine.specs.declared.leaving.Out.{Out}
 use Rattle.audit_machine.specs.declared.leaving.Out.TheVariants as outs
 

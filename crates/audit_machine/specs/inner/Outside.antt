@@ -3,10 +3,10 @@ use Rattle.std.specs.Prelude.{if◌then◌else◌, Option, None, Some}
 use Rattle.sgx_rules.specs.declared.entries.Event.{Event}
 use Rattle.sgx_rules.specs.declared.entries.Event.TheVariants.{Did, Refused}
 use Rattle.sgx_rules.specs.declared.refusals.Refusal.{Refusal}
-use Rattle.run_history.specs.declared.rules.Rule.{Rule}
-use Rattle.run_history.specs.declared.rules.Rule.TheVariants as rules
-use Rattle.audit_rules.specs.inner.Forms.{has_form}
-use Rattle.audit_rules.specs.inner.Same.{same_refusal}
+use Rattle.history_rules.specs.declared.rules.Rule.{Rule}
+use Rattle.history_rules.specs.declared.rules.Rule.TheVariants as rules
+use Rattle.audit_machine.specs.inner.Forms.{has_form}
+use Rattle.audit_machine.specs.inner.Same.{same_refusal}
 
 -- where no case of its row holds
 abbrev pub rule_of_done : Event → Rule

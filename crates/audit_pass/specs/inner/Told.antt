@@ -11,23 +11,23 @@ use Rattle.sgx_types.specs.declared.names.Frame.{Frame}
 use Rattle.sgx_types.specs.declared.names.Page.{Page}
 use Rattle.sgx_types.specs.Pages.{is_own_page, same_page}
 use Rattle.sgx_rules.specs.declared.refusals.Refusal.TheVariants as why
-use Rattle.active_list.specs.inner.Holds.{is_held}
-use Rattle.active_list.specs.inner.Listing.{head_of, is_young}
-use Rattle.paging_laws.specs.inner.State.{State}
-use Rattle.paging_machine.specs.inner.Parts.{Parts}
+use Rattle.driver_list.specs.inner.Holds.{is_held}
+use Rattle.driver_list.specs.inner.Listing.{head_of, is_young}
+use Rattle.machine_laws.specs.inner.State.{State}
+use Rattle.sgx_machine.specs.inner.Parts.{Parts}
 use Rattle.driver_rules.specs.inner.Decided.{is_end, is_last_try, is_look_ahead, is_track_of, is_try}
 use Rattle.driver_rules.specs.Dues.{is_look}
 use Rattle.driver_tables.specs.declared.driver.Driver.{Driver}
-use Rattle.reclaim_pass.specs.declared.stages.Aside.{Aside}
-use Rattle.reclaim_pass.specs.declared.stages.Aside.TheVariants as asides
-use Rattle.reclaim_pass.specs.declared.stages.Form.{Form}
-use Rattle.reclaim_pass.specs.declared.stages.Form.TheVariants as forms
-use Rattle.reclaim_pass.specs.declared.stages.Stage.{Stage}
-use Rattle.reclaim_pass.specs.declared.stages.Stage.TheVariants as stages
-use Rattle.reclaim_pass.specs.declared.stages.Taken.{Taken}
-use Rattle.reclaim_pass.specs.inner.Keeping.{first_of, keepers_by}
-use Rattle.reclaim_pass.specs.inner.Dues.{due_in}
-use Rattle.reclaim_pass.specs.inner.Viewed.{PassView}
+use Rattle.driver_pass.specs.declared.stages.Aside.{Aside}
+use Rattle.driver_pass.specs.declared.stages.Aside.TheVariants as asides
+use Rattle.driver_pass.specs.declared.stages.Form.{Form}
+use Rattle.driver_pass.specs.declared.stages.Form.TheVariants as forms
+use Rattle.driver_pass.specs.declared.stages.Stage.{Stage}
+use Rattle.driver_pass.specs.declared.stages.Stage.TheVariants as stages
+use Rattle.driver_pass.specs.declared.stages.Taken.{Taken}
+use Rattle.driver_pass.specs.inner.Keeping.{first_of, keepers_by}
+use Rattle.driver_pass.specs.inner.Dues.{due_in}
+use Rattle.driver_pass.specs.inner.Viewed.{PassView}
 
 -- ---- Age
 

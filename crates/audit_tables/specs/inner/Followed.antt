@@ -10,19 +10,19 @@ use Rattle.sgx_rules.specs.Starts.{open_start}
 use Rattle.sgx_rules.specs.inner.Starts.{bare_start}
 use Rattle.cached_translations.specs.declared.processor.Mode.{Mode}
 use Rattle.job_grammar.specs.Jobs.{JobView}
-use Rattle.turn_rules.specs.Script.{action_of}
-use Rattle.paging_laws.specs.inner.Steps.{IsStep}
-use Rattle.paging_machine.specs.declared.starts.Start as starts
-use Rattle.paging_machine.specs.inner.Parts.{Parts, start_of, state_of}
+use Rattle.script_rules.specs.Script.{action_of}
+use Rattle.machine_laws.specs.inner.Steps.{IsStep}
+use Rattle.sgx_machine.specs.declared.starts.Start as starts
+use Rattle.sgx_machine.specs.inner.Parts.{Parts, start_of, state_of}
 use Rattle.driver_laws.specs.inner.Agrees.{auditors}
 use Rattle.driver_tables.specs.declared.driver.Driver.{Driver}
 use Rattle.driver_tables.specs.inner.Tables.{ShowsTables}
-use Rattle.run_history.specs.inner.Histories.{GoesOn}
-use Rattle.turn_tables.specs.declared.turns.Turns.{Turns}
-use Rattle.turn_tables.specs.inner.Holding.{mode_of}
-use Rattle.table_notes.specs.inner.Arrays.{KeepsArrays}
-use Rattle.table_notes.specs.inner.Plain.{is_plain}
-use Rattle.audit_laws.specs.inner.Shown.{ShowsTrace}
+use Rattle.history_rules.specs.inner.Histories.{GoesOn}
+use Rattle.due_tables.specs.declared.turns.Turns.{Turns}
+use Rattle.due_tables.specs.inner.Holding.{mode_of}
+use Rattle.due_notes.specs.inner.Arrays.{KeepsArrays}
+use Rattle.due_notes.specs.inner.Plain.{is_plain}
+use Rattle.audit_tables.specs.inner.Shown.{ShowsTrace}
 
 -- the frame of the start that an event ends
 abbrev pub frame_ended : Event → Option Frame

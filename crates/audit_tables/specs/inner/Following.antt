@@ -15,16 +15,16 @@ use Rattle.sgx_types.specs.declared.names.Page.{Page}
 use Rattle.sgx_types.specs.declared.names.VaSlot.{VaSlot}
 use Rattle.sgx_types.specs.Pages.{is_own_page}
 use Rattle.sgx_types.specs.Sealed.{Sealed}
-use Rattle.active_list.specs.declared.page_states.PageState.TheVariants as states
-use Rattle.active_list.specs.inner.Listing.{head_of}
-use Rattle.active_list.specs.inner.Places.{IsPlaced}
-use Rattle.active_list.specs.inner.Ring.{is_listed}
-use Rattle.active_list.specs.inner.States.{state_of, with_state}
-use Rattle.slot_keeper.specs.inner.Keeper.{Gives, Keeper, Takes, is_ours, is_out}
-use Rattle.paging_machine.specs.declared.starts.Start.{Start}
+use Rattle.driver_list.specs.declared.page_states.PageState.TheVariants as states
+use Rattle.driver_list.specs.inner.Listing.{head_of}
+use Rattle.driver_list.specs.inner.Places.{IsPlaced}
+use Rattle.driver_list.specs.inner.Ring.{is_listed}
+use Rattle.driver_list.specs.inner.States.{state_of, with_state}
+use Rattle.driver_slots.specs.inner.Keeper.{Gives, Keeper, Takes, is_ours, is_out}
+use Rattle.sgx_machine.specs.declared.starts.Start.{Start}
 use Rattle.driver_tables.specs.declared.driver.Driver.{Driver}
 use Rattle.driver_tables.specs.inner.Moves.{IsLoaded, IsLooked, IsLookedAside, slot_away, with_load}
-use Rattle.table_notes.specs.inner.Plain.{is_plain}
+use Rattle.due_notes.specs.inner.Plain.{is_plain}
 
 -- an instruction that moves no page out or back, done or refused
 abbrev pub is_plain_event : Event → Bool

@@ -12,7 +12,7 @@ use Rattle.sgx_types.specs.Pages.{same_page, va_page}
 use Rattle.sgx_rules.specs.Frames.{vas_made}
 use Rattle.sgx_rules.specs.inner.Slots.{IsIdle}
 use Rattle.sgx_rules.specs.Slots.{version_in}
-use Rattle.slot_keeper.specs.inner.Keeper.{is_added, is_ours, is_out, Keeper}
+use Rattle.driver_slots.specs.inner.Keeper.{is_added, is_ours, is_out, Keeper}
 use Rattle.job_grammar.specs.Jobs.{JobView, va_pages}
 use Rattle.driver_rules.specs.Places.{active, is_here, is_young, place}
 use Rattle.driver_rules.specs.inner.Slotted.{fixed_count}

@@ -9,15 +9,15 @@ use Rattle.sgx_rules.specs.declared.entries.Answer.TheVariants.{Moved}
 use Rattle.sgx_types.specs.declared.names.Page.{Page}
 use Rattle.sgx_rules.specs.Frames.{added, Content, content, page_there, vas_made}
 use Rattle.sgx_types.specs.Pages.{is_own_page, page_at}
-use Rattle.slot_keeper.specs.inner.Keeper.{count_out, Keeper}
+use Rattle.driver_slots.specs.inner.Keeper.{count_out, Keeper}
 use Rattle.job_grammar.specs.Jobs.{JobView}
-use Rattle.turn_rules.specs.declared.steps.BuildStep.{BuildStep}
-use Rattle.turn_rules.specs.Script.{build_of, built}
+use Rattle.script_rules.specs.declared.steps.BuildStep.{BuildStep}
+use Rattle.script_rules.specs.Script.{build_of, built}
 use Rattle.driver_rules.specs.inner.Slotted.{occupied}
 use Rattle.driver_laws.specs.inner.Keeps.{is_va_step}
 use Rattle.driver_laws.specs.inner.Sound.{slot_of, times}
 use Rattle.sgx_rules.specs.declared.refusals.Refusal.TheVariants as why
-use Rattle.turn_rules.specs.declared.steps.BuildStep.TheVariants as builds
+use Rattle.script_rules.specs.declared.steps.BuildStep.TheVariants as builds
 
 abbrev pub with_added : Event → List Page → List Page
 with_added (Did (Add enclave number f kind perm init) answer) before = page_at enclave number ∷ before

@@ -3,7 +3,7 @@ use Rattle.std.specs.Prelude.{List}
 use Rattle.sgx_rules.specs.declared.entries.Entry.{Entry}
 use Rattle.sgx_rules.specs.Rules.{Along, FitsRule}
 use Rattle.sgx_types.specs.Making.{Making}
-use Rattle.page_history.specs.inner.Once.{KeepsMoves}
+use Rattle.machine_copies.specs.inner.Once.{KeepsMoves}
 use Rattle.job_grammar.specs.Jobs.{JobView}
 use Rattle.driver_rules.specs.Ages.{AgeRule, KickRule}
 use Rattle.driver_rules.specs.Scripts.{ScriptRule}

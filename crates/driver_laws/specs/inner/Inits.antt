@@ -7,7 +7,7 @@ use Rattle.sgx_rules.specs.declared.entries.Event.TheVariants.{Did}
 use Rattle.sgx_rules.specs.inner.Enclaves.{created}
 use Rattle.sgx_rules.specs.Flat.{enclave_sight_of}
 use Rattle.sgx_rules.specs.Table.{is_ready}
-use Rattle.turn_rules.specs.Script.{is_initialised}
+use Rattle.script_rules.specs.Script.{is_initialised}
 
 -- an enclave that was initialised was created before
 abbrev pub InitsAreReady : List Entry → Type 0

@@ -10,14 +10,14 @@ use Rattle.sgx_rules.specs.Frames.{content, vas_made}
 use Rattle.sgx_types.specs.Pages.{is_va_page}
 use Rattle.sgx_rules.specs.Starts.{slot_found}
 use Rattle.sgx_rules.specs.Slots.{open_slot}
-use Rattle.slot_keeper.specs.inner.Keeper.{Adds, count_out, Gives, HasSame, is_ours, is_out, Keeper, Takes}
+use Rattle.driver_slots.specs.inner.Keeper.{Adds, count_out, Gives, HasSame, is_ours, is_out, Keeper, Takes}
 use Rattle.job_grammar.specs.Jobs.{JobView, va_pages}
-use Rattle.turn_rules.specs.declared.steps.BuildStep.{BuildStep}
-use Rattle.turn_rules.specs.Script.{build_of, built}
+use Rattle.script_rules.specs.declared.steps.BuildStep.{BuildStep}
+use Rattle.script_rules.specs.Script.{build_of, built}
 use Rattle.driver_laws.specs.inner.Agrees.{has_pages, Keeping}
 use Rattle.sgx_rules.specs.declared.entries.Look.TheVariants as looks
 use Rattle.sgx_rules.specs.declared.refusals.Refusal.TheVariants as why
-use Rattle.turn_rules.specs.declared.steps.BuildStep.TheVariants as builds
+use Rattle.script_rules.specs.declared.steps.BuildStep.TheVariants as builds
 
 -- the same slots are out, of the same pages
 pub record IsSameOut (old new : Keeper) : Type 0 where

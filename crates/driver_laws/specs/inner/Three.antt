@@ -8,7 +8,7 @@ use Rattle.sgx_rules.specs.Frames.{vas_made}
 use Rattle.sgx_rules.specs.Processors.{Stay, stay}
 use Rattle.job_grammar.specs.declared.jobs.Op.{Op}
 use Rattle.job_grammar.specs.Jobs.{JobView, lines_at, tcs_line}
-use Rattle.turn_rules.specs.Script.{is_interrupted, saved, script_of}
+use Rattle.script_rules.specs.Script.{is_interrupted, saved, script_of}
 use Rattle.driver_rules.specs.Holds.{holds, is_among}
 use Rattle.driver_rules.specs.Needs.{access_page, Interruption, interruption, last_save, listed, needs_of, next_op}
 use Rattle.job_grammar.specs.declared.jobs.Op.TheVariants as ops

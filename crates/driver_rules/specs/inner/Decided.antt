@@ -13,7 +13,7 @@ use Rattle.sgx_types.specs.declared.names.Page.{Page}
 use Rattle.sgx_types.specs.Pages.{same_page}
 use Rattle.sgx_rules.specs.Processors.{Stay, stay}
 use Rattle.job_grammar.specs.Jobs.{JobView}
-use Rattle.turn_rules.specs.Script.{action_of, build_of, built, replied, script_of}
+use Rattle.script_rules.specs.Script.{action_of, build_of, built, replied, script_of}
 use Rattle.driver_rules.specs.Ages.{Ahead, ahead, EndsNext, GoesOn, head_of, Looks, TriesNext}
 use Rattle.driver_rules.specs.Dues.{Asks, Due, Ends, Fetch, Fetches, is_look, KicksAll, load_by, LooksAt, Makes, Reports, TriesOut}
 use Rattle.driver_rules.specs.Dues.{WaitsFor}

@@ -4,7 +4,7 @@ use Rattle.std.specs.List.{All}
 use Rattle.job_grammar.specs.declared.jobs.EnclaveJob.{EnclaveJob}
 use Rattle.job_grammar.specs.declared.jobs.PageLine.{PageLine}
 use Rattle.job_grammar.specs.Jobs.{EnclaveView, JobView, first_page, page_count, va_pages}
-use Rattle.active_list.specs.inner.Places.{PageCounts}
+use Rattle.driver_list.specs.inner.Places.{PageCounts}
 
 -- one past the highest page number that a line names
 abbrev pub line_end : PageLine → ℕ

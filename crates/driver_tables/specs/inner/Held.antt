@@ -3,7 +3,7 @@ use Rattle.std.specs.Prelude.{ℕ, ◌≡◌, ◌<◌, ◌≤◌, false, List, l
 use Rattle.sgx_rules.specs.declared.entries.Entry.{Entry}
 use Rattle.sgx_types.specs.declared.names.Page.{Page}
 use Rattle.job_grammar.specs.Jobs.{JobView}
-use Rattle.active_list.specs.inner.Holds.{holds_page, own_of}
+use Rattle.driver_list.specs.inner.Holds.{holds_page, own_of}
 use Rattle.driver_rules.specs.Holds.{builder_holds, holds, is_among}
 use Rattle.driver_rules.specs.Needs.{listed}
 

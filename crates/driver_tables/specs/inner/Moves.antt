@@ -8,12 +8,12 @@ use Rattle.sgx_types.specs.Pages.{va_page}
 use Rattle.sgx_types.specs.Sealed.{Sealed}
 use Rattle.sgx_rules.specs.declared.entries.Look.{Look}
 use Rattle.sgx_rules.specs.declared.entries.Look.TheVariants as looks
-use Rattle.active_list.specs.inner.Active.{Removes, pushed, turned}
-use Rattle.active_list.specs.inner.Keeping.{keeping}
-use Rattle.active_list.specs.inner.States.{state_of, with_state}
-use Rattle.active_list.specs.declared.page_states.PageState.{PageState}
-use Rattle.active_list.specs.declared.page_states.PageState.TheVariants.{Away, Here, Leaving, Loading, Lost}
-use Rattle.slot_keeper.specs.inner.Keeper.{Adds, Gives}
+use Rattle.driver_list.specs.inner.Active.{Removes, pushed, turned}
+use Rattle.driver_list.specs.inner.Keeping.{keeping}
+use Rattle.driver_list.specs.inner.States.{state_of, with_state}
+use Rattle.driver_list.specs.declared.page_states.PageState.{PageState}
+use Rattle.driver_list.specs.declared.page_states.PageState.TheVariants.{Away, Here, Leaving, Loading, Lost}
+use Rattle.driver_slots.specs.inner.Keeper.{Adds, Gives}
 use Rattle.driver_laws.specs.inner.Keeps.{GivesIf}
 use Rattle.driver_tables.specs.declared.driver.Driver.{Driver}
 

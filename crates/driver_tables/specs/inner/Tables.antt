@@ -3,14 +3,14 @@ use Rattle.std.specs.Prelude.{ℕ, ◌≡◌, ◌≤◌, false, List, None, leng
 use Rattle.sgx_rules.specs.declared.entries.Entry.{Entry}
 use Rattle.sgx_types.specs.declared.names.Page.{Page}
 use Rattle.job_grammar.specs.Jobs.{JobView, va_pages}
-use Rattle.active_list.specs.declared.ring.Listed as ring
-use Rattle.active_list.specs.declared.page_states.PageState.{PageState}
-use Rattle.active_list.specs.declared.page_states.PageState.TheVariants as states
-use Rattle.active_list.specs.inner.Active.{new_active}
-use Rattle.active_list.specs.inner.Keeping.{kept_at, page_kept}
-use Rattle.active_list.specs.inner.Places.{IsPlaced, total}
-use Rattle.active_list.specs.inner.States.{all_absent, state_of}
-use Rattle.slot_keeper.specs.inner.Keeper.{new_keeper}
+use Rattle.driver_list.specs.declared.ring.Listed as ring
+use Rattle.driver_list.specs.declared.page_states.PageState.{PageState}
+use Rattle.driver_list.specs.declared.page_states.PageState.TheVariants as states
+use Rattle.driver_list.specs.inner.Active.{new_active}
+use Rattle.driver_list.specs.inner.Keeping.{kept_at, page_kept}
+use Rattle.driver_list.specs.inner.Places.{IsPlaced, total}
+use Rattle.driver_list.specs.inner.States.{all_absent, state_of}
+use Rattle.driver_slots.specs.inner.Keeper.{new_keeper}
 use Rattle.driver_rules.specs.Places.{Absent, Away, Here, Leaving, Loading, Place, place}
 use Rattle.driver_rules.specs.Turns.{last_of}
 use Rattle.driver_laws.specs.inner.Agrees.{Keeping, Listed, ShowsSlots, listed_by, loaded_by}

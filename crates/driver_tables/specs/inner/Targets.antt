@@ -4,9 +4,9 @@ use Rattle.sgx_types.specs.declared.names.Page.{Page}
 use Rattle.sgx_types.specs.declared.names.SlotAt.{SlotAt}
 use Rattle.sgx_types.specs.declared.names.VaSlot.{VaSlot}
 use Rattle.sgx_types.specs.Pages.{is_own_page, is_va_page, secs_page, va_page}
-use Rattle.active_list.specs.declared.page_states.PageState.{PageState}
-use Rattle.active_list.specs.declared.page_states.PageState.TheVariants.{Here}
-use Rattle.active_list.specs.inner.States.{StateTable, state_of}
+use Rattle.driver_list.specs.declared.page_states.PageState.{PageState}
+use Rattle.driver_list.specs.declared.page_states.PageState.TheVariants.{Here}
+use Rattle.driver_list.specs.inner.States.{StateTable, state_of}
 use Rattle.driver_tables.specs.declared.driver.Driver.{Driver}
 
 abbrev pub is_here_state : PageState → Bool

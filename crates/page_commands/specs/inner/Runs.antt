@@ -2,7 +2,7 @@
 use Rattle.std.specs.Prelude.{ℕ, ◌≡◌, List, Option, Err}
 use Rattle.job_text.specs.declared.refusals.Fault.{Fault}
 use Rattle.job_text.specs.Reading.{read}
-use Rattle.old_trace.specs.Reading.{OfRead}
+use Rattle.trace_file.specs.Reading.{OfRead}
 use Rattle.page_commands.specs.declared.jobs.Unread.{Unread}
 use Rattle.page_commands.specs.declared.jobs.Unread.TheVariants.{Bad}
 

@@ -3,11 +3,11 @@ use Rattle.std.specs.Prelude.{List, Option, IfSome}
 use Rattle.sgx_rules.specs.declared.entries.Entry.{Entry}
 use Rattle.sgx_types.specs.Making.{Making}
 use Rattle.backing_store.specs.Calls.{Call}
-use Rattle.fault_handler.specs.declared.answers.FaultAnswer.{FaultAnswer}
-use Rattle.fault_handler.specs.declared.answers.FaultAnswer.TheVariants as answers
-use Rattle.paging_machine.specs.inner.Parts.{Parts}
-use Rattle.run_book.specs.inner.Books.{IsHonestEntry}
-use Rattle.run_history.specs.Honest.{IsHonest}
+use Rattle.driver_faults.specs.declared.answers.FaultAnswer.{FaultAnswer}
+use Rattle.driver_faults.specs.declared.answers.FaultAnswer.TheVariants as answers
+use Rattle.sgx_machine.specs.inner.Parts.{Parts}
+use Rattle.run_laws.specs.inner.Books.{IsHonestEntry}
+use Rattle.history_rules.specs.Honest.{IsHonest}
 
 -- where the store tells its calls, and they are those of an honest one, the book goes on to be honest with the entry
 abbrev pub StaysHonest : Making → List Entry → Parts → Entry → Parts → Option (List Call) → Type 0

@@ -6,14 +6,14 @@ use Rattle.sgx_types.specs.declared.names.Cpu.{Cpu}
 use Rattle.sgx_types.specs.declared.names.Page.{Page}
 use Rattle.sgx_types.specs.Sealed.{Sealed}
 use Rattle.backing_store.specs.Calls.{Call}
-use Rattle.run_history.specs.Stored.{Tells}
-use Rattle.driver_calls.specs.inner.Comes.{bus_of}
-use Rattle.fault_handler.specs.declared.answers.FaultAnswer.{FaultAnswer}
-use Rattle.fault_handler.specs.declared.answers.FaultAnswer.TheVariants as answers
-use Rattle.fault_handler.specs.declared.answers.Loaded.{Loaded}
-use Rattle.fault_handler.specs.declared.answers.Loaded.TheVariants as ends
-use Rattle.reclaim_worker.specs.declared.turns.PassTurn.{PassTurn}
-use Rattle.reclaim_worker.specs.declared.turns.PassTurn.TheVariants as turns
+use Rattle.history_rules.specs.Stored.{Tells}
+use Rattle.run_calls.specs.inner.Comes.{bus_of}
+use Rattle.driver_faults.specs.declared.answers.FaultAnswer.{FaultAnswer}
+use Rattle.driver_faults.specs.declared.answers.FaultAnswer.TheVariants as answers
+use Rattle.driver_faults.specs.declared.answers.Loaded.{Loaded}
+use Rattle.driver_faults.specs.declared.answers.Loaded.TheVariants as ends
+use Rattle.driver_reclaim.specs.declared.turns.PassTurn.{PassTurn}
+use Rattle.driver_reclaim.specs.declared.turns.PassTurn.TheVariants as turns
 use Rattle.run_records.specs.inner.Builds.{is_building}
 
 -- it tells nothing of a record, and builds no enclave

@@ -2,7 +2,7 @@
 use Rattle.std.specs.Prelude.{ℕ, ◌≡◌, ◌==◌, ◌<◌, if◌then◌else◌, Bool, List, [], ◌∷◌, Option, Some, None, codes, flat_map, length}
 use Rattle.std.specs.Prelude.{slice_index_or}
 use Rattle.sgx_rules.specs.declared.entries.Entry.{Entry}
-use Rattle.turn_rules.specs.Script.{is_interrupted}
+use Rattle.script_rules.specs.Script.{is_interrupted}
 use Rattle.text_words.specs.Words.{Words, enclave_word, line_text}
 use Rattle.run_replies.specs.OutText.{cpu_lines, enclave_lines}
 use Rattle.run_replies.specs.declared.replies.Ending.{Ending}

@@ -25,11 +25,11 @@ use Rattle.trace_text.specs.declared.edition.Edition.{Edition}
 use Rattle.trace_text.specs.declared.edition.Edition.TheVariants as editions
 use Rattle.trace_text.specs.Fields.{Form, plain, cssa, value, hash, version, moved, pf, va, form_of}
 use Rattle.trace_text.specs.Readable.{may_make}
-use Rattle.trace_words.specs.inner.Reading.{actor_of, byte_in, cpu_of, enclave_in, expect_in, frame_in, number_in, page_number_in}
-use Rattle.trace_words.specs.inner.Reading.{short_in, small_in, tag_in}
-use Rattle.trace_words.specs.declared.names.Row.{Row}
-use Rattle.trace_words.specs.declared.names.Row.TheVariants as rows
-use Rattle.trace_words.specs.inner.Names.{access_in, bare_of, cause_in, fault_in, kind_in, look_in, perm_in, row_of, stop_in}
+use Rattle.trace_lines.specs.inner.WordReading.{actor_of, byte_in, cpu_of, enclave_in, expect_in, frame_in, number_in, page_number_in}
+use Rattle.trace_lines.specs.inner.WordReading.{short_in, small_in, tag_in}
+use Rattle.trace_lines.specs.declared.names.Row.{Row}
+use Rattle.trace_lines.specs.declared.names.Row.TheVariants as rows
+use Rattle.trace_lines.specs.inner.Names.{access_in, bare_of, cause_in, fault_in, kind_in, look_in, perm_in, row_of, stop_in}
 use Rattle.trace_lines.specs.declared.cursor.Cursor.{Cursor}
 
 -- words where they stand in a line

@@ -1,7 +1,7 @@
 use Rattle.std.proofs.Common.{◌<◌, ◌≤◌, length, sym, ap, ◌∙◌, arith}
 use Rattle.std.proofs.lemmas.List.{length-map}
 use Rattle.driver_rules.specs.Turns.{cpu_due}
-use Rattle.turn_tables.specs.inner.Due.{building_in, due_in}
+use Rattle.due_tables.specs.inner.Due.{building_in, due_in}
 use Rattle.audit_dues.proofs.NextLaws.{builder_keeps, built_is, can_fetch, cpu_keeps, next_is, none_keeps}
 use Rattle.audit_dues.proofs.script.keeps_script.Goals as goal
 

@@ -1,6 +1,6 @@
 use Rattle.std.proofs.Common.{◌∙◌, Some, ap, inl, inr, refl, sym}
 use Rattle.command_words.specs.declared.command.Command.TheVariants as commands
-use Rattle.gate_command.specs.GateText.{gate_text}
+use Rattle.page_commands.specs.GateText.{gate_text}
 use Rattle.job_make.specs.MadeJob.{made_job}
 use Rattle.job_print.specs.JobText.{job_text}
 use Rattle.page_commands.specs.declared.help.TheConstants.{HELP}

@@ -3,7 +3,7 @@ use Rattle.std.proofs.Common.{List, subst, ◌∙◌}
 use Rattle.io_edges.specs.Sinks.{GivesPart}
 use Rattle.job_grammar.specs.Jobs.{JobView}
 use Rattle.job_make.specs.MadeJob.{made_job}
-use Rattle.run_summary.specs.Summary.{summary_of}
+use Rattle.page_commands.specs.Summary.{summary_of}
 use Rattle.sgx_rules.specs.declared.entries.Entry.{Entry}
 use Rattle.page_commands.proofs.making.demo_command.Goals as goal
 

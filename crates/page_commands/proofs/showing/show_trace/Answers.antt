@@ -1,6 +1,6 @@
 use Rattle.std.proofs.Common.{ℕ, List, Err, Ok, ap, arith, length, refl, reverse, subst}
 use Rattle.io_edges.specs.Sinks.{GivesPart}
-use Rattle.old_trace.specs.Reading.{OfRead, Reads}
+use Rattle.trace_file.specs.Reading.{OfRead, Reads}
 use Rattle.trace_migrate.proofs.TextLaws.{text_long}
 use Rattle.trace_text.specs.declared.edition.Edition.{Edition}
 use Rattle.page_commands.specs.declared.status.Status.TheVariants as statuses

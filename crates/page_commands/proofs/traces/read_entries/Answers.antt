@@ -1,5 +1,5 @@
 use Rattle.std.proofs.Common.{Err, refl, rules}
-use Rattle.old_trace.specs.Reading.{OfRead, Reads}
+use Rattle.trace_file.specs.Reading.{OfRead, Reads}
 use Rattle.page_commands.specs.Says.{OfTrace}
 use Rattle.page_commands.proofs.EndLaws.{ends_map, no_trace, some_read}
 use Rattle.page_commands.proofs.traces.read_entries.Goals as goal

@@ -1,5 +1,5 @@
 use Rattle.std.proofs.Common.{◌∙◌}
-use Rattle.honest_store.proofs.PlannedLaws.{honest_without_lines}
+use Rattle.run_laws.proofs.PlannedLaws.{honest_without_lines}
 use Rattle.run_jobs.proofs.RunLaws.{no_bus}
 use Rattle.run_jobs.proofs.laws.planned_runs_without_lines_lose_nothing.Goals as goal
 

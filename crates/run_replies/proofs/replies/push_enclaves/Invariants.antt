@@ -1,6 +1,6 @@
 use Rattle.std.proofs.Common.{◌≡◌, ◌++◌}
 use Rattle.std.specs.List.{flat_map}
-use Rattle.turn_rules.specs.Script.{numbers_from}
+use Rattle.script_rules.specs.Script.{numbers_from}
 use Rattle.text_words.specs.Words.{line_text}
 use Rattle.run_replies.specs.inner.Gathered.{line_at}
 use Rattle.run_replies.proofs.replies.push_enclaves.Given as goal

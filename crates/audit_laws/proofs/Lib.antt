@@ -1,2 +1,0 @@
-pub mod AgreeLaws
-pub mod EndLaws

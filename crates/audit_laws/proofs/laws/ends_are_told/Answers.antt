@@ -1,5 +1,0 @@
-use Rattle.audit_laws.proofs.EndLaws.{ends_told}
-use Rattle.audit_laws.proofs.laws.ends_are_told.Goals as goal
-
-pub returns : goal.returns
-returns c = ends_told

@@ -1,5 +1,0 @@
-use Rattle.audit_laws.proofs.AgreeLaws.{tells_by_rules}
-use Rattle.audit_laws.proofs.laws.lawful_traces_tell.Goals as goal
-
-pub returns : goal.returns
-returns c = tells_by_rules

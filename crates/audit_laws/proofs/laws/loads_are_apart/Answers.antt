@@ -1,5 +1,0 @@
-use Rattle.audit_laws.proofs.AgreeLaws.{loads_apart}
-use Rattle.audit_laws.proofs.laws.loads_are_apart.Goals as goal
-
-pub returns : goal.returns
-returns c = loads_apart

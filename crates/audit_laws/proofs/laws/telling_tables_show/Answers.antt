@@ -1,5 +1,0 @@
-use Rattle.audit_laws.proofs.AgreeLaws.{tells_shown}
-use Rattle.audit_laws.proofs.laws.telling_tables_show.Goals as goal
-
-pub returns : goal.returns
-returns c = tells_shown

@@ -1,0 +1,16 @@
+use Rattle.std.proofs.Common.{◌≤◌, ◌++◌, List, take, vec_capacity}
+use Rattle.std.specs.List.{flat_map}
+use Rattle.trace_pieces.specs.inner.Held.{IsHeld}
+use Rattle.command_picture.specs.declared.pieces.TheConstants.{PIECE}
+use Rattle.picture_text.specs.declared.events.Lane.{Lane}
+use Rattle.picture_text.specs.PictureText.{lane_text}
+use Rattle.picture_text.specs.inner.Following.{AreNumbered}
+use Rattle.command_picture.proofs.pieces.give_lanes.Given as goal
+
+abbrev pub invariant-loop-lane : goal.invariant-loop-lane
+invariant-loop-lane g l = record {
+  held : (lanes : List Lane) → AreNumbered l.known lanes → IsHeld (g.K.Sink.given l.initial.sink) (g.K.Sink.given l.sink) l.piece.items
+      (l.initial.piece.items ++ flat_map (lane_text lanes) (take l.lane-index l.order));
+  capacity : PIECE ≤ vec_capacity l.piece;
+  not_fallen : g.K.Sink.faults l.initial.sink ≤ g.K.Sink.faults l.sink;
+}

@@ -1,6 +1,0 @@
-use Rattle.std.proofs.Common.{take}
-use Rattle.crew.specs.inner.Tallies.{IsTally}
-use Rattle.crew.proofs.tally.count.Given as goal
-
-abbrev pub invariant-loop-entry : goal.invariant-loop-entry
-invariant-loop-entry l = IsTally (take l.entry-index l.entries) l.cpus l.tally

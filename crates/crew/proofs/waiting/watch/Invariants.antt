@@ -1,6 +1,0 @@
-use Rattle.std.proofs.Common.{◌≡◌}
-use Rattle.crew.proofs.waiting.watch.Given as goal
-
--- the pass stays one of these words
-abbrev pub invariant-loop : goal.invariant-loop
-invariant-loop l = l.pass.words ≡ l.words

@@ -1,3 +1,0 @@
-pub use Rattle.rounds.specs.inner.Views
-pub mod Actors
-pub mod Tallies

@@ -1,3 +1,0 @@
-pub mod TableLaws
-pub mod FaultLaws
-pub mod PassLaws

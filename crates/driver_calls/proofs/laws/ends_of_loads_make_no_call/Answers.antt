@@ -1,5 +1,0 @@
-use Rattle.driver_calls.proofs.FaultLaws.{end_tells}
-use Rattle.driver_calls.proofs.laws.ends_of_loads_make_no_call.Goals as goal
-
-pub returns : goal.returns
-returns c calls d d' m s t cpu page loaded can sized is = end_tells calls d d' m s t cpu page loaded can sized is

@@ -1,5 +1,0 @@
-use Rattle.driver_calls.proofs.PassLaws.{turn_tells}
-use Rattle.driver_calls.proofs.laws.turns_of_a_pass_tell_their_calls.Goals as goal
-
-pub returns : goal.returns
-returns c = turn_tells

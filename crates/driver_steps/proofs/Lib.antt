@@ -1,4 +1,0 @@
-pub mod PartLaws
-pub mod AgreesLaws
-pub mod SightLaws
-pub mod TellsLaws

@@ -1,5 +1,0 @@
-use Rattle.driver_steps.proofs.AgreesLaws.{agrees_more}
-use Rattle.driver_steps.proofs.laws.agrees_goes_on.Goals as goal
-
-pub returns : goal.returns
-returns c made j past d d' m m' e a n = agrees_more made j past d d' m m' e a n

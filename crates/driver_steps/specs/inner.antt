@@ -1,4 +1,0 @@
-pub mod Carried
-pub mod Agrees
-pub mod Tells
-pub mod Asked

@@ -1,5 +1,0 @@
-use Rattle.driver_traces.proofs.FaultLaws.{first_broken}
-use Rattle.driver_traces.proofs.laws.the_test_of_a_fault_tells_the_rule_that_is_named.Goals as goal
-
-pub returns : goal.returns
-returns c = first_broken

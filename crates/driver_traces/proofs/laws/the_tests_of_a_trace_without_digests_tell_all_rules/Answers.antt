@@ -1,5 +1,0 @@
-use Rattle.driver_traces.proofs.FaultLaws.{fails_at_last, whole_history}
-use Rattle.driver_traces.proofs.laws.the_tests_of_a_trace_without_digests_tell_all_rules.Goals as goal
-
-pub returns : goal.returns
-returns c = record { history = whole_history; fails = fails_at_last }

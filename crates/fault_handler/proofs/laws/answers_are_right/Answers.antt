@@ -1,5 +1,0 @@
-use Rattle.fault_handler.proofs.DueLaws.{resolved_is_right}
-use Rattle.fault_handler.proofs.laws.answers_are_right.Goals as goal
-
-pub returns : goal.returns
-returns c made j past d d' m m' cpu page told told' answer = resolved_is_right made j past d d' m m' cpu page told told' answer

@@ -1,5 +1,0 @@
-use Rattle.fault_handler.proofs.HonestLaws.{honest_back}
-use Rattle.fault_handler.proofs.laws.honest_loads_are_back.Goals as goal
-
-pub returns : goal.returns
-returns c made j past calls d d' m t cpu page loaded can = honest_back made j past calls d d' m t cpu page loaded can

@@ -1,2 +1,0 @@
-pub mod PlannedLaws
-pub mod DoneLaws

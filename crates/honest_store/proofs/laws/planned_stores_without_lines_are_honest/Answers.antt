@@ -1,5 +1,0 @@
-use Rattle.honest_store.proofs.PlannedLaws.{honest_without_lines}
-use Rattle.honest_store.proofs.laws.planned_stores_without_lines_are_honest.Goals as goal
-
-pub returns : goal.returns
-returns c = honest_without_lines

@@ -1,2 +1,0 @@
-pub mod CreatedLaws
-pub mod GrownLaws

@@ -1,2 +1,0 @@
-pub use Rattle.run_turns.specs.inner.Views
-pub mod Words

@@ -1,5 +1,0 @@
-use Rattle.paging_laws.proofs.RunLaws.{every_run}
-use Rattle.paging_laws.proofs.laws.every_run_is_shaped.Goals as goal
-
-pub returns : goal.returns
-returns c = every_run

@@ -1,5 +1,0 @@
-use Rattle.std.proofs.Common.{◌≡◌, None, replicate}
-use Rattle.paging_machine.proofs.making.no_measures.Given as goal
-
-abbrev pub invariant-loop : goal.invariant-loop
-invariant-loop l = l.measures.items ≡ replicate l.counter None

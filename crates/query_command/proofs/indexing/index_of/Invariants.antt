@@ -1,6 +1,0 @@
-use Rattle.std.proofs.Common.{reverse, take}
-use Rattle.trace_query.specs.Index.{Stands}
-use Rattle.query_command.proofs.indexing.index_of.Given as goal
-
-abbrev pub invariant-loop-entry : goal.invariant-loop-entry
-invariant-loop-entry l = Stands l.index (reverse (take l.entry-index l.entries))

@@ -1,8 +1,0 @@
--- Which turns wait.
-use Rattle.reclaim_worker.specs.declared.turns.PassTurn.{PassTurn}
-use Rattle.reclaim_worker.specs.declared.turns.PassTurn.TheVariants as turns
-
--- a turn that waits
-abbrev pub IsWait : PassTurn → Type 0
-IsWait (turns.Again why) = Unit {0}
-IsWait _ = ⊥

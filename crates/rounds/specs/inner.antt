@@ -1,2 +1,0 @@
-pub use Rattle.machine_book.specs.inner.Views
-pub mod Rests

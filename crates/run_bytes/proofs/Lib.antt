@@ -1,4 +1,0 @@
-pub mod StepBytes
-pub mod TurnBytes
-pub mod FaultBytes
-pub mod EndBytes

@@ -1,0 +1,4 @@
+pub mod TableLaws
+pub mod FaultLaws
+pub mod PassLaws
+pub mod StoreLaws

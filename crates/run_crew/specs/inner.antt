@@ -1,0 +1,3 @@
+pub use Rattle.run_rounds.specs.inner.Views
+pub mod Actors
+pub mod Tallies

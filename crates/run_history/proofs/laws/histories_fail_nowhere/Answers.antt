@@ -1,5 +1,0 @@
-use Rattle.run_history.proofs.HistoryLaws.{goes_on, keeps_rule, no_history, shorter}
-use Rattle.run_history.proofs.laws.histories_fail_nowhere.Goals as goal
-
-pub returns : goal.returns
-returns c = record { keeps = keeps_rule; fails = no_history; goes_on = goes_on; shorter = shorter }

@@ -1,0 +1,15 @@
+pub mod HonestBook
+pub mod BookLaws
+pub mod PlainLaws
+pub mod TurnLaws
+pub mod LoadTurns
+pub mod EndTurns
+pub mod BitLaws
+pub mod MakeLaws
+pub mod StayLaws
+pub mod EntryLaws
+pub mod KickLaws
+pub mod TcsLaws
+pub mod FreshLaws
+pub mod PlannedLaws
+pub mod DoneLaws

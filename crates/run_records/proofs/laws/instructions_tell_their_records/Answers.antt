@@ -1,5 +1,0 @@
-use Rattle.run_records.proofs.ToldLaws.{plain_told}
-use Rattle.run_records.proofs.laws.instructions_tell_their_records.Goals as goal
-
-pub returns : goal.returns
-returns c = plain_told

@@ -1,5 +1,0 @@
-use Rattle.run_records.proofs.QuietLaws.{kick_honest}
-use Rattle.run_records.proofs.laws.kicks_stay_honest.Goals as goal
-
-pub returns : goal.returns
-returns c = kick_honest

@@ -1,5 +1,0 @@
-use Rattle.run_records.proofs.QuietLaws.{first_honest}
-use Rattle.run_records.proofs.laws.runs_begin_honest.Goals as goal
-
-pub returns : goal.returns
-returns c = first_honest

@@ -1,5 +1,0 @@
-use Rattle.run_records.proofs.PassRecords.{turn_flat}
-use Rattle.run_records.proofs.laws.turns_of_a_pass_keep_enclaves_flat.Goals as goal
-
-pub returns : goal.returns
-returns c = turn_flat

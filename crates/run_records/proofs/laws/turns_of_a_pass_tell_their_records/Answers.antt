@@ -1,5 +1,0 @@
-use Rattle.run_records.proofs.PassRecords.{turn_told}
-use Rattle.run_records.proofs.laws.turns_of_a_pass_tell_their_records.Goals as goal
-
-pub returns : goal.returns
-returns c = turn_told

@@ -1,5 +1,0 @@
-use Rattle.run_records.proofs.HonestEnds.{stored_honest}
-use Rattle.run_records.proofs.laws.write_outs_stay_honest.Goals as goal
-
-pub returns : goal.returns
-returns c = stored_honest

@@ -1,0 +1,2 @@
+pub use Rattle.run_book.specs.inner.Views
+pub mod Rests

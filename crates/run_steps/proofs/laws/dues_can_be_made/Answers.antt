@@ -1,8 +1,0 @@
-use Rattle.run_steps.proofs.MakeLaws.{builder_makes, cpu_makes}
-use Rattle.run_steps.proofs.laws.dues_can_be_made.Goals as goal
-
-pub returns-clause-builder : goal.returns-clause-builder
-returns-clause-builder c = builder_makes
-
-pub returns-clause-cpu : goal.returns-clause-cpu
-returns-clause-cpu c = cpu_makes

@@ -1,8 +1,0 @@
-use Rattle.std.proofs.Common.{◌≡◌, true}
-use Rattle.driver_rules.specs.inner.Reclaims.{are_finished}
-use Rattle.run_turns.specs.inner.Courses.{past_of}
-use Rattle.run_turns.proofs.course.Course.all_finished.Given as goal
-
--- the processors so far have nothing left
-abbrev pub invariant-loop-number : goal.invariant-loop-number
-invariant-loop-number l = are_finished l.self.job (past_of l.self) l.number ≡ true

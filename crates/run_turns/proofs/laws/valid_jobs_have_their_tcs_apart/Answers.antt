@@ -1,5 +1,0 @@
-use Rattle.run_steps.proofs.TcsLaws.{tcs_apart}
-use Rattle.run_turns.proofs.laws.valid_jobs_have_their_tcs_apart.Goals as goal
-
-pub returns : goal.returns
-returns c = tcs_apart

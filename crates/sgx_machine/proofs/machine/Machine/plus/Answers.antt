@@ -1,0 +1,46 @@
+use Rattle.std.proofs.Common.{◌≡◌, ◌<◌, ◌∙◌, true, sym, ap, length}
+use Rattle.sgx_machine.specs.inner.Whole.{parts_of}
+use Rattle.sgx_machine.specs.inner.Parts.{state_of, cpu_at}
+use Rattle.machine_laws.specs.inner.State.{with_acc}
+use Rattle.sgx_machine.proofs.ProcessorBridge.{cpu_there}
+use Rattle.sgx_machine.proofs.AccessBridge.{inside_only, acc_leaves}
+use Rattle.sgx_machine.proofs.WholeMachines.{whole, done_step}
+use Rattle.sgx_rules.specs.Flat.{sum_of}
+use Rattle.sgx_types.specs.declared.names.Actor.TheVariants as actors
+use Rattle.sgx_rules.specs.declared.entries.Action.TheVariants.{Plus}
+use Rattle.sgx_rules.specs.declared.entries.Answer.TheVariants.{Value}
+use Rattle.cached_translations.specs.declared.processor.Processor.{Processor}
+use Rattle.machine_laws.specs.inner.Steps.{did_by}
+use Rattle.cached_translations.specs.inner.Modes.{is_inside}
+use Rattle.sgx_machine.proofs.machine.Machine.plus.Goals as goal
+
+pub invariant_of-self : goal.invariant_of-self
+invariant_of-self c =
+    let m = c.self.inside in
+    let d = parts_of m in
+    let h = c.self.invariant in
+    let p = c.args.cpu.0 in
+    let v = c.index_mut-processor.result.now in
+    let low : p < length d.cpus = rw (← c.self.view_is) at c.requires in
+    let there : v ≡ cpu_at d p = cpu_there d p v low (rw c.from.ensures at c.index_mut-processor.ensures.value) in
+    let sum : sum_of v.acc c.args.value ≡ sum_of ((state_of d).acc p) c.args.value =
+    ap (λ (q : Processor). sum_of q.acc c.args.value) there in
+    rw c.from.ensures (whole _ (with_acc (state_of d) p (sum_of ((state_of d).acc p) c.args.value))
+    (acc_leaves m h p (sum_of ((state_of d).acc p) c.args.value) v _ low there (ap (λ n. record v { acc = n }) sum)))
+
+pub returns-clause-step : goal.returns-clause-step
+returns-clause-step c =
+    let m = c.self.inside in
+    let d = parts_of m in
+    let h = c.self.invariant in
+    let p = c.args.cpu.0 in
+    let v = c.index_mut-processor.result.now in
+    let low : p < length d.cpus = rw (← c.self.view_is) at c.requires in
+    let there : v ≡ cpu_at d p = cpu_there d p v low (rw c.from.ensures at c.index_mut-processor.ensures.value) in
+    let sum : sum_of v.acc c.args.value ≡ sum_of ((state_of d).acc p) c.args.value =
+    ap (λ (q : Processor). sum_of q.acc c.args.value) there in
+    let left = acc_leaves m h p (sum_of ((state_of d).acc p) c.args.value) v _ low there (ap (λ n. record v { acc = n }) sum) in
+    let inside : is_inside (cpu_at d p).mode ≡ true =
+    rw (c.mode.ensures, ← c.self.view_is) at (sym (c.if-not-is_inside.ensures {u = tt})) in
+    rw (c.from.ensures, ← c.self.view_is) (done_step _ _ _ (inside_only (cpu_at d p).mode inside)
+    (c.done.ensures ∙ ap (λ n. did_by (actors.Cpu c.args.cpu) (Plus c.args.value) (Value n)) sum, left.state))

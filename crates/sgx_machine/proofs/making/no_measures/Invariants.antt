@@ -1,0 +1,5 @@
+use Rattle.std.proofs.Common.{◌≡◌, None, replicate}
+use Rattle.sgx_machine.proofs.making.no_measures.Given as goal
+
+abbrev pub invariant-loop : goal.invariant-loop
+invariant-loop l = l.measures.items ≡ replicate l.counter None

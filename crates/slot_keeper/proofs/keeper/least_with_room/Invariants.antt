@@ -1,5 +1,0 @@
-use Rattle.slot_keeper.specs.inner.Least.{IsLeastBelow}
-use Rattle.slot_keeper.proofs.keeper.least_with_room.Given as goal
-
-abbrev pub invariant-loop-place : goal.invariant-loop-place
-invariant-loop-place l = IsLeastBelow l.arrays l.least l.place

@@ -1,6 +1,0 @@
-use Rattle.std.proofs.Common.{◌≡◌, ◌<◌, ◌==◌, ℕ, false, get_or}
-use Rattle.slot_keeper.specs.inner.Keeper.{ArrayView}
-use Rattle.slot_keeper.proofs.keeper.place_of.Given as goal
-
-abbrev pub invariant-loop-place : goal.invariant-loop-place
-invariant-loop-place l = (k : ℕ) (d : ArrayView) → k < l.place → ((get_or l.arrays k d).va == l.va) ≡ false

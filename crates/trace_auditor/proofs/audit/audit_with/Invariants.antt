@@ -1,7 +1,0 @@
-use Rattle.std.proofs.Common.{reverse, take}
-use Rattle.trace_auditor.specs.inner.Audits.{KeepsAudit}
-use Rattle.trace_auditor.proofs.audit.audit_with.Given as goal
-
--- all stands for the entries so far, which keep each rule
-abbrev pub invariant-loop-place : goal.invariant-loop-place
-invariant-loop-place l = KeepsAudit l.job (reverse (take l.place l.entries)) l.auditing

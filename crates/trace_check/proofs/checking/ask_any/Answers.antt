@@ -1,8 +1,0 @@
-use Rattle.std.proofs.Common.{sym, subst}
-use Rattle.trace_check.specs.inner.Tests.{IsActor}
-use Rattle.trace_check.proofs.PlaceLaws.{any_actor}
-use Rattle.trace_check.proofs.checking.ask_any.Goals as goal
-
-pub ask-requires-clause-actor : goal.ask-requires-clause-actor
-ask-requires-clause-actor c =
-    subst (λ n. IsActor n c.args.entry.now.actor) (sym c.requires.cpus) (any_actor c.args.entry.now.actor)

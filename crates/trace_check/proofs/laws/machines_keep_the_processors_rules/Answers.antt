@@ -1,5 +1,0 @@
-use Rattle.trace_check.proofs.PlaceLaws.{keeps_all}
-use Rattle.trace_check.proofs.laws.machines_keep_the_processors_rules.Goals as goal
-
-pub returns : goal.returns
-returns c = keeps_all

@@ -1,5 +1,0 @@
-use Rattle.turn_tables.proofs.FirstLaws.{agrees_shown}
-use Rattle.turn_tables.proofs.laws.agreeing_tables_show.Goals as goal
-
-pub returns : goal.returns
-returns c = agrees_shown

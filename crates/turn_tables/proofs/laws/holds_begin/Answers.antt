@@ -1,5 +1,0 @@
-use Rattle.turn_tables.proofs.FirstLaws.{holds_first}
-use Rattle.turn_tables.proofs.laws.holds_begin.Goals as goal
-
-pub returns : goal.returns
-returns c = holds_first
