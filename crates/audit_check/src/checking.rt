@@ -8,6 +8,7 @@ ghost use Rattle.audit_check.specs.inner.Named.{NamesOne};
 
 use crate::asking::ask;
 use crate::verdict::Verdict;
+use crate::watch::Watch;
 use audit_machine::old_records::OldRecords;
 use history_rules::rules::Rule;
 use job_grammar::jobs::Job;
@@ -22,7 +23,12 @@ use std::alloc::Global;
 ///
 /// Of the job only the EPC's size, the key and the first epoch and version count. Processors are 0 to 15, whatever the job has. Linear in
 /// the entries, with the SHA-256 of each page that goes out, and of each enclave's measurement.
-pub fn check(alloc: Global, job: &Job, entries: &[Entry]) -> Result<Verdict, Memory>
+pub fn check(
+    alloc: Global,
+    job: &Job,
+    entries: &[Entry],
+    watch: &impl Watch,
+) -> Result<Verdict, Memory>
     ensures verdict { IfOk result (Checks job.now (reverse entries.now)) }
     ensures named { IfOk result NamesOne }
 {
@@ -36,7 +42,7 @@ pub fn check(alloc: Global, job: &Job, entries: &[Entry]) -> Result<Verdict, Mem
         job.start_epoch(),
         job.start_version(),
     )?;
-    check_with(&mut machine, &mut records, alloc, job, entries)
+    check_with(&mut machine, &mut records, alloc, job, entries, watch)
 }
 
 // Checks the trace with a machine and records that stand for an empty one.
@@ -46,6 +52,7 @@ fn check_with(
     alloc: Global,
     job: &Job,
     entries: &[Entry],
+    watch: &impl Watch,
 ) -> Result<Verdict, Memory>
     requires cpus { length machine.old.cpus ≡ 16 }
     requires checked { Checked job.now 16 [] machine.old (records_of records.old) }
@@ -54,6 +61,7 @@ fn check_with(
 {
     let count = count(entries);
     for place in 0..count {
+        watch.judging(place);
         if let Some(rule) = ask_any(alloc, machine, records, &entries[place])? {
             return Ok(Verdict::No { place, rule });
         }

@@ -6,3 +6,4 @@ pub mod asking;
 pub mod checking;
 pub mod laws;
 pub mod verdict;
+pub mod watch;

@@ -23,6 +23,7 @@ use crate::running::run_command;
 use crate::showing::show_trace;
 use crate::status::Status;
 use crate::telling::tell_of_both;
+use audit_check::watch::Watch;
 use backing_store::backing::Backing;
 use command_words::command::{Command, command_of};
 use io_edges::sinks::Sink;
@@ -61,7 +62,8 @@ use std::thread::Threads;
 ///
 /// `help` and `--help` give the text on the commands to `out`.
 ///
-/// Other words are no command, and then nothing is read or written. `gate`, which is another, is told of each turn of a run. A run whose
+/// Other words are no command, and then nothing is read or written. `gate`, which is another, is told of each turn of a run, and of each entry that is
+/// judged. A run whose
 /// store fails for ever may not return.
 pub fn sgxpage<
     R: Threads + Wait + Sync,
@@ -70,7 +72,7 @@ pub fn sgxpage<
     K: Sink,
     L: Sink,
     B: Backing + Send,
-    G: Gate + Sync,
+    G: Gate + Watch + Sync,
 >(
     rt: &R,
     alloc: Global,
@@ -97,7 +99,7 @@ pub fn sgxpage<
         HasRisen (K.faults out.old) (K.faults out.new) ⊎ HasRisen (L.faults trace.old) (L.faults trace.new) }
     ensures memory { result.status ≡ Status.Memory → (out.new ≡ out.old) × (trace.new ≡ trace.old) }
 
-    // Of the bytes that it reads each command says what is its to say, and runs no job.
+    // Each other command than `run` and `demo` gives what it says of the bytes that it reads. It runs no job.
     ensures says { IfSome (command_in (map string_bytes words.now)) (λ command. RunsNone command →
         OfRead (J.left job.old) (λ bytes. (MayReadOld command bytes ⊎ (old.new ≡ old.old)) × OfRead (O.left old.old) (λ old_bytes.
         Ends (Says command bytes old_bytes) result.status (K.given out.old) (K.given out.new)))
@@ -153,7 +155,7 @@ pub fn sgxpage<
         Some(Command::Demo { number, size }) => demo_command(
             rt, alloc, number, size, out, store, gate,
         ),
-        Some(Command::Tell { telling }) => unrun(tell_of_both(alloc, telling, job, old, out)),
+        Some(Command::Tell { telling }) => unrun(tell_of_both(alloc, telling, job, old, out, gate)),
         Some(Command::Show { showing }) => unrun(show_trace(alloc, showing, old, out)),
         Some(Command::Gate { rounds }) => unrun(rounds_command(rt, alloc, rounds, out)),
         Some(Command::Help) => unrun(help_command(out)),

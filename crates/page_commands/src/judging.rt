@@ -10,6 +10,7 @@ ghost use Rattle.page_commands.specs.JudgedBy.{JudgesBy};
 use crate::verdicts::print_verdict;
 use audit_check::checking::check;
 use audit_check::verdict::Verdict;
+use audit_check::watch::Watch;
 use audit_trace::audit::audit;
 use command_words::rules::Rules;
 use io_edges::giving::give_all;
@@ -23,11 +24,12 @@ use trace_tally::tally::push_tally;
 
 /// Judges a trace of a job by these rules, and gives the line on the verdict, which is answered too, and by the processor's rules the lines
 /// of the trace's tally. The entries stand oldest first.
-pub fn give_verdict<K: Sink>(
+pub fn give_verdict<K: Sink, W: Watch>(
     alloc: Global,
     rules: Rules,
     job: &Job,
     entries: &[Entry],
+    watch: &W,
     out: &mut K,
 ) -> Result<Verdict, Ungiven>
     ensures judged { IfOk result (JudgesBy rules job.now (reverse entries.now)) }
@@ -38,18 +40,24 @@ pub fn give_verdict<K: Sink>(
     ensures memory { IsErrOf result Ungiven.Memory → out.new ≡ out.old }
     ensures cause { HasCause (K.faults out.old) (K.faults out.new) (IsErrOf result Ungiven.Failed) }
 {
-    let verdict = judge(alloc, rules, job, entries)?;
+    let verdict = judge(alloc, rules, job, entries, watch)?;
     let text = print_judged(alloc, rules, entries, verdict)?;
     give_all(out, &text)?;
     Ok(verdict)
 }
 
-fn judge(alloc: Global, rules: Rules, job: &Job, entries: &[Entry]) -> Result<Verdict, Memory>
+fn judge(
+    alloc: Global,
+    rules: Rules,
+    job: &Job,
+    entries: &[Entry],
+    watch: &impl Watch,
+) -> Result<Verdict, Memory>
     ensures { IfOk result (JudgesBy rules job.now (reverse entries.now)) }
 {
     match rules {
-        Rules::All => audit(alloc, job, entries),
-        Rules::Processors => check(alloc, job, entries),
+        Rules::All => audit(alloc, job, entries, watch),
+        Rules::Processors => check(alloc, job, entries, watch),
     }
 }
 

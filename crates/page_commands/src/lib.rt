@@ -12,6 +12,7 @@ pub mod help;
 mod jobs;
 pub mod judging;
 mod making;
+pub mod progress;
 mod running;
 mod showing;
 pub mod status;

@@ -12,6 +12,7 @@ use crate::judging::give_verdict;
 use crate::status::Status;
 use crate::traces::{Traced, read_traced};
 use crate::verdicts::Verdict;
+use audit_check::watch::Watch;
 use command_least::giving::give_least;
 use command_query::giving::give_answer;
 use command_words::telling::Telling;
@@ -22,12 +23,13 @@ use trace_pieces::ungiven::Ungiven;
 
 /// Reads a job and then an old trace, whoever made it, and gives the text that is asked for. Where either text is none, `out` gets the
 /// line on that.
-pub(crate) fn tell_of_both<J: Source, O: Source, K: Sink>(
+pub(crate) fn tell_of_both<J: Source, O: Source, K: Sink, W: Watch>(
     alloc: Global,
     telling: Telling,
     job: &mut J,
     old: &mut O,
     out: &mut K,
+    watch: &W,
 ) -> Status
     ensures reads_job { TakesAtMost (2 ^ 24 + 1) (J.left job.old) (J.left job.new) }
     ensures reads_old { TakesAtMost (2 ^ 30 + 1) (O.left old.old) (O.left old.new) }
@@ -43,17 +45,18 @@ pub(crate) fn tell_of_both<J: Source, O: Source, K: Sink>(
         Ok(traced) => traced,
         Err(status) => return status,
     };
-    match give(alloc, telling, &traced, out) {
+    match give(alloc, telling, &traced, watch, out) {
         Ok(status) => status,
         Err(Ungiven::Failed) => Status::WriteFault,
         Err(Ungiven::Memory) => Status::Memory,
     }
 }
 
-fn give<K: Sink>(
+fn give<K: Sink, W: Watch>(
     alloc: Global,
     telling: Telling,
     traced: &Traced,
+    watch: &W,
     out: &mut K,
 ) -> Result<Status, Ungiven>
     ensures gave { IfOk result (λ status. (text : List ℕ) × Tells telling traced.now.job (reverse traced.now.entries.items) status text
@@ -73,6 +76,7 @@ fn give<K: Sink>(
             rules,
             &traced.job,
             &traced.entries,
+            watch,
             out,
         )? {
             Verdict::Yes => Ok(Status::Done),

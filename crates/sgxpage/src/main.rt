@@ -6,8 +6,8 @@ use io_edges::late_file::LateFile;
 use io_edges::std_edges::{StdSink, StdSource};
 use page_commands::command::sgxpage;
 use page_commands::complaints::complain;
+use page_commands::progress::Progress;
 use page_commands::status::Status;
-use run_crew::gate::OpenGate;
 use std::env;
 use std::fs::File;
 use std::io::{self, ErrorKind};
@@ -57,7 +57,7 @@ fn carry_out<R: Threads + Wait + Sync>(rt: &HostRuntime, waits: &R) -> Status {
         &mut StdSink::new(io::writer(rt)),
         &mut trace,
         PlannedStore::new(),
-        &OpenGate,
+        &Progress::new(rt),
     );
     let failed = if old.faults() > 0 || trace.faults() > 0 {
         Some(path)

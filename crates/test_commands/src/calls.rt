@@ -3,6 +3,7 @@
 ghost use Rattle.std.specs.Prelude.{◌≡◌, ◌≤◌, [], IfSome};
 
 use crate::same::are_same;
+use audit_check::watch::Watch;
 use backing_store::backing::Backing;
 use backing_store::calls::{GetAnswer, StoreCall};
 use backing_store::planned_store::PlannedStore;
@@ -11,8 +12,8 @@ use io_edges::mem_source::MemSource;
 use page_commands::command::sgxpage;
 use page_commands::ended::Ended;
 use page_commands::status::Status;
-use run_crew::gate::{Gate, OpenGate};
-use sgx_types::names::Memory;
+use run_crew::gate::Gate;
+use sgx_types::names::{Actor, Memory};
 use std::alloc::{Alloc, Global};
 use std::process::Abort;
 use std::sync::Wait;
@@ -21,6 +22,20 @@ use std::thread::Threads;
 
 /// The words of a command that runs a job.
 pub const RUN: &[&str] = &["run", "t"];
+
+/// A gate that does nothing, and looks at no entry.
+#[derive(Drop)]
+struct Still;
+
+impl Gate for Still {
+    fn before_turn(&self, _who: Actor) {}
+
+    fn after_turn(&self, _who: Actor) {}
+}
+
+impl Watch for Still {
+    fn judging(&self, _place: usize) {}
+}
 
 /// What a call gave: the texts, how many bytes it left of the job and of the old trace, and how often these, the output and the
 /// trace failed, and the store.
@@ -66,7 +81,7 @@ impl Edges {
     }
 
     /// Calls the program by these edges, over this store and this gate.
-    pub fn call<R: Threads + Wait + Sync, B: Backing + Send, G: Gate + Sync>(
+    pub fn call<R: Threads + Wait + Sync, B: Backing + Send, G: Gate + Watch + Sync>(
         &mut self,
         rt: &R,
         alloc: Global,
@@ -148,7 +163,7 @@ pub fn given_with<R: Threads + Wait + Sync>(
 
 // Calls the program by these edges, over a store that does what the job plans: how that ends, and how many calls of the store failed.
 fn ending<R: Threads + Wait + Sync>(rt: &R, alloc: Global, edges: &mut Edges) -> (Status, u64) {
-    let ended = edges.call(rt, alloc, PlannedStore::new(), &OpenGate);
+    let ended = edges.call(rt, alloc, PlannedStore::new(), &Still);
     (ended.status, store_faults(&ended.store))
 }
 

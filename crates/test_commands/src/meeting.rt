@@ -2,6 +2,7 @@
 
 ghost use Rattle.std.specs.Prelude.{◌<◌};
 
+use audit_check::watch::Watch;
 use run_crew::gate::Gate;
 use sgx_types::names::{Actor, Cpu};
 use std::sync::atomic::{AtomicU64, Ordering};
@@ -62,4 +63,8 @@ impl Gate for Meeting {
     fn after_turn(&self, _who: Actor) {
         self.inside.fetch_sub(1, Ordering::SeqCst);
     }
+}
+
+impl Watch for Meeting {
+    fn judging(&self, _place: usize) {}
 }

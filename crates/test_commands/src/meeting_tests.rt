@@ -7,6 +7,7 @@ use crate::meeting::Meeting;
 use crate::run_tests::push_many_adds;
 use crate::same::are_same;
 use crate::seen_store::SeenStore;
+use audit_check::watch::Watch;
 use backing_store::backing::Backing;
 use backing_store::planned_store::PlannedStore;
 use page_commands::status::Status;
@@ -19,7 +20,7 @@ use std::test::Fail;
 use std::thread::Threads;
 
 // Runs a job by the whole program, over this store and this gate.
-fn status_of<R: Threads + Wait + Sync, B: Backing + Send, G: Gate + Sync>(
+fn status_of<R: Threads + Wait + Sync, B: Backing + Send, G: Gate + Watch + Sync>(
     rt: &R,
     alloc: Global,
     job: &[u8],

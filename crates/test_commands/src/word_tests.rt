@@ -3,8 +3,12 @@
 use crate::calls::given_by;
 use crate::run_tests::JOB;
 use crate::same::are_same;
+use audit_check::watch::Watch;
 use page_commands::complaints::complain;
+use page_commands::progress::Progress;
 use page_commands::status::Status;
+use run_crew::gate::Gate;
+use sgx_types::names::Actor;
 use std::alloc::{Alloc, Global};
 use std::cell::Cell;
 use std::fmt::Display;
@@ -213,5 +217,30 @@ fn an_ending_has_its_number_and_its_line(rt: HostRuntime) -> Result<(), Fail> {
         let told = told(rt.alloc(), *status, *failed)?;
         are_same(&rt, (status.code(), told.as_deref()), (*code, *line));
     }
+    Ok(())
+}
+
+// A long command tells at each 2^18th turn or entry, and else nothing.
+#[test]
+fn a_long_command_tells_how_far_it_is(rt: HostRuntime) -> Result<(), Fail> {
+    let terminal = Terminal {
+        alloc: rt.alloc(),
+        line: Cell::new(None),
+    };
+    let progress = Progress::new(&terminal);
+    for _ in 0..262_143u32 {
+        progress.after_turn(Actor::Builder);
+    }
+    are_same(&rt, terminal.line.take().as_deref(), None);
+    progress.after_turn(Actor::Reclaimer);
+    let turns = terminal.line.take();
+    are_same(&rt, turns.as_deref(), Some("sgxpage: 262144 turns"));
+    for place in [0, 262_143, 262_145] {
+        progress.judging(place);
+    }
+    are_same(&rt, terminal.line.take().as_deref(), None);
+    progress.judging(524_288);
+    let entries = terminal.line.take();
+    are_same(&rt, entries.as_deref(), Some("sgxpage: 524288 entries"));
     Ok(())
 }

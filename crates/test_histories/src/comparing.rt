@@ -4,6 +4,7 @@ use crate::verdicts::goes_with;
 use crate::wrong::{Wrong, verdict_in};
 use audit_check::checking::check;
 use audit_check::verdict::Verdict;
+use audit_check::watch::Unwatched;
 use audit_trace::audit::audit;
 use job_grammar::jobs::Job;
 use job_text::reader::read_job;
@@ -59,13 +60,18 @@ fn compare_with(
         return Ok(None);
     };
     let report = Report {
-        right: audit(alloc, job, &right)?,
+        right: audit(alloc, job, &right, &Unwatched)?,
         all: 0,
         others: Vec::new(alloc),
     };
     let mut report = Box::new(alloc, report)?;
     let told = report.right;
-    report.compare(alloc, "as it is", told, check(alloc, job, &right)?)?;
+    report.compare(
+        alloc,
+        "as it is",
+        told,
+        check(alloc, job, &right, &Unwatched)?,
+    )?;
     let is_read = report.add_all(alloc, job, &right, wrong)?;
     Ok(if is_read { Some(report) } else { None })
 }
@@ -99,8 +105,8 @@ impl Report {
         let entries = wrong.entries(alloc, right)?;
         let Wrong { what, told, .. } = wrong;
         self.all = self.all.saturating_add(1);
-        self.compare(alloc, &what, told, check(alloc, job, &entries)?)?;
-        let found = audit(alloc, job, &entries)?;
+        self.compare(alloc, &what, told, check(alloc, job, &entries, &Unwatched)?)?;
+        let found = audit(alloc, job, &entries, &Unwatched)?;
         if found != told {
             self.others.push(Other { what, found, told })?;
         }
@@ -158,7 +164,7 @@ pub fn checked(
     let mut tally = Vec::new(alloc);
     push_tally(alloc, &entries, &mut tally)?;
     Ok(Some(Finding {
-        found: check(alloc, &job, &entries)?,
+        found: check(alloc, &job, &entries, &Unwatched)?,
         told,
         is_tallied: tally.as_slice() == lines.as_bytes(),
     }))
