@@ -1,7 +1,7 @@
 //! Accesses to an enclave's memory from outside, which reach nothing of it.
 
 ghost use Rattle.std.specs.Prelude.{◌≡◌, IfOk};
-ghost use Rattle.sgx_rules.specs.Table.{first_of_row, outload_row, outstore_row};
+ghost use Rattle.sgx_rules.specs.Table.{first_of_row, outside_row};
 ghost use Rattle.sgx_rules.specs.inner.Table.{refusal_in};
 ghost use Rattle.sgx_rules.specs.Flat.{all_ones};
 ghost use Rattle.cached_translations.specs.inner.Modes.{is_inside};
@@ -14,7 +14,7 @@ use sgx_rules::refusals::Refusal;
 ///
 /// Refused as WrongMode inside.
 pub fn outside_load(cpu: &Processor) -> Result<u64, Refusal>
-    ensures row { refusal_in result ≡ first_of_row (outload_row (is_inside cpu.now.mode)) }
+    ensures row { refusal_in result ≡ first_of_row (outside_row (is_inside cpu.now.mode)) }
     ensures answer { IfOk result (λ word. word ≡ all_ones) }
 {
     if cpu.mode.is_inside() {
@@ -27,7 +27,7 @@ pub fn outside_load(cpu: &Processor) -> Result<u64, Refusal>
 ///
 /// Refused as WrongMode inside.
 pub fn outside_store(cpu: &Processor) -> Result<(), Refusal>
-    ensures { refusal_in result ≡ first_of_row (outstore_row (is_inside cpu.now.mode)) }
+    ensures { refusal_in result ≡ first_of_row (outside_row (is_inside cpu.now.mode)) }
 {
     if cpu.mode.is_inside() {
         return Err(Refusal::WrongMode);

@@ -1,7 +1,7 @@
 //! EEXIT and the asynchronous exit: a processor leaves its enclave.
 
 ghost use Rattle.std.specs.Prelude.{◌≡◌, ◌<◌, true, false, length, Contains, IsSome, OnOk, OnErr};
-ghost use Rattle.sgx_rules.specs.Table.{first_of_row, exit_row};
+ghost use Rattle.sgx_rules.specs.Table.{first_of_row, inside_row};
 ghost use Rattle.sgx_rules.specs.inner.Table.{refusal_in};
 ghost use Rattle.secs_state.specs.inner.Secs.{added_at, with_busy};
 ghost use Rattle.cached_translations.specs.inner.Modes.{is_inside};
@@ -26,7 +26,7 @@ pub fn eexit(secs: &mut Secs, track: &mut Track, cpu: &mut Processor) -> Result<
     requires enclave { IsItsEnclave cpu.old.mode secs.old }
     requires tcs { HasItsTcs cpu.old.mode secs.old }
     requires counted { CountsIt cpu.old.mode track.old }
-    ensures row { refusal_in result ≡ first_of_row (exit_row (is_inside cpu.old.mode)) }
+    ensures row { refusal_in result ≡ first_of_row (inside_row (is_inside cpu.old.mode)) }
     ensures secs { OnOk result (secs.new ≡ with_tcs_left secs.old cpu.old.mode) }
     ensures track { OnOk result (track.new ≡ with_left track.old cpu.old.mode) }
     ensures cpu { OnOk result (cpu.new ≡ outside cpu.old) }

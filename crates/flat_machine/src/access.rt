@@ -2,8 +2,8 @@
 
 ghost use Rattle.std.specs.Prelude.{◌≡◌, ◌<◌, ◌==◌, ◌&&◌, ◌^◌, ◌/◌, ◌%◌, ◌+◌, is_some, Some};
 ghost use Rattle.sgx_rules.specs.declared.entries.Answer.TheVariants as answers;
-ghost use Rattle.sgx_rules.specs.Table.{first_of_row, access_row, load_row, store_row, xadd_row, set_row, plus_row, pf_row};
-ghost use Rattle.sgx_rules.specs.Table.{outload_row, outstore_row, allows, is_lawful_access, fault_of};
+ghost use Rattle.sgx_rules.specs.Table.{first_of_row, access_row, load_row, store_row, xadd_row, inside_row, pf_row};
+ghost use Rattle.sgx_rules.specs.Table.{outside_row, allows, is_lawful_access, fault_of};
 ghost use Rattle.sgx_rules.specs.declared.entries.AccessOp.TheVariants as accesses;
 ghost use Rattle.sgx_rules.specs.Flat.{flat_translation, added_at_offset, word_seen, stored, sum_of, all_ones, with_acc};
 ghost use Rattle.flat_machine.specs.inner.Parts.{memory_of, kind_of};
@@ -72,8 +72,8 @@ impl Flat {
     /// A processor inside sets its accumulator.
     pub(crate) fn set(&mut self, cpu: Cpu, value: u64) -> FlatReply
         requires { cpu.0 < PROCESSORS }
-        ensures reply { result ≡ replied (first_of_row (set_row (is_some ((memory_of self.old).cpus cpu.0).inside))) answers.Plain }
-        ensures memory { memory_of self.new ≡ taken (first_of_row (set_row (is_some ((memory_of self.old).cpus cpu.0).inside)))
+        ensures reply { result ≡ replied (first_of_row (inside_row (is_some ((memory_of self.old).cpus cpu.0).inside))) answers.Plain }
+        ensures memory { memory_of self.new ≡ taken (first_of_row (inside_row (is_some ((memory_of self.old).cpus cpu.0).inside)))
             (with_acc (memory_of self.old) cpu.0 value) (memory_of self.old) }
     {
         if !self.is_inside(cpu) {
@@ -86,9 +86,9 @@ impl Flat {
     /// A processor inside adds to its accumulator, mod 2^64.
     pub(crate) fn plus(&mut self, cpu: Cpu, value: u64) -> FlatReply
         requires { cpu.0 < PROCESSORS }
-        ensures reply { result ≡ replied (first_of_row (plus_row (is_some ((memory_of self.old).cpus cpu.0).inside)))
+        ensures reply { result ≡ replied (first_of_row (inside_row (is_some ((memory_of self.old).cpus cpu.0).inside)))
             (answers.Value (sum_of ((memory_of self.old).cpus cpu.0).acc value)) }
-        ensures memory { memory_of self.new ≡ taken (first_of_row (plus_row (is_some ((memory_of self.old).cpus cpu.0).inside)))
+        ensures memory { memory_of self.new ≡ taken (first_of_row (inside_row (is_some ((memory_of self.old).cpus cpu.0).inside)))
             (with_acc (memory_of self.old) cpu.0 (sum_of ((memory_of self.old).cpus cpu.0).acc value)) (memory_of self.old) }
     {
         if !self.is_inside(cpu) {
@@ -122,7 +122,7 @@ impl Flat {
     /// From outside, an enclave's memory reads as all ones.
     pub(crate) fn out_load(&self, cpu: Cpu) -> FlatReply
         requires { cpu.0 < PROCESSORS }
-        ensures { result ≡ replied (first_of_row (outload_row (is_some ((memory_of self.now).cpus cpu.0).inside)))
+        ensures { result ≡ replied (first_of_row (outside_row (is_some ((memory_of self.now).cpus cpu.0).inside)))
             (answers.Value all_ones) }
     {
         if self.is_inside(cpu) {
@@ -134,7 +134,7 @@ impl Flat {
     /// From outside, nothing is kept in an enclave's memory.
     pub(crate) fn out_store(&self, cpu: Cpu) -> FlatReply
         requires { cpu.0 < PROCESSORS }
-        ensures { result ≡ replied (first_of_row (outstore_row (is_some ((memory_of self.now).cpus cpu.0).inside))) answers.Plain }
+        ensures { result ≡ replied (first_of_row (outside_row (is_some ((memory_of self.now).cpus cpu.0).inside))) answers.Plain }
     {
         if self.is_inside(cpu) {
             return FlatReply::Refused(Refusal::WrongMode);

@@ -3,7 +3,7 @@
 ghost use Rattle.std.specs.Prelude.{◌≡◌, ◌<◌, ◌+◌, ◌-◌, ◌==◌, ◌^◌, ◌%◌, ◌/◌, true, is_some, Some};
 ghost use Rattle.sgx_rules.specs.declared.entries.Answer.TheVariants as answers;
 ghost use Rattle.sgx_types.specs.Pages.{page_at};
-ghost use Rattle.sgx_rules.specs.Table.{first_of_row, when, entry_row, ssa_row, exit_row, aex_row};
+ghost use Rattle.sgx_rules.specs.Table.{first_of_row, when, entry_row, ssa_row, inside_row};
 ghost use Rattle.sgx_rules.specs.Flat.{flat_frame, flat_enter_sight, flat_enter_row, flat_resume_row, fields_in};
 ghost use Rattle.sgx_rules.specs.Flat.{with_words, with_cssa, entered, left, saved, resumed, resumed_word};
 ghost use Rattle.flat_machine.specs.inner.Parts.{memory_of, fields_of, seat};
@@ -69,8 +69,8 @@ impl Flat {
     /// A processor leaves its enclave (EEXIT).
     pub(crate) fn exit(&mut self, cpu: Cpu) -> FlatReply
         requires { cpu.0 < PROCESSORS }
-        ensures reply { result ≡ replied (first_of_row (exit_row (is_some ((memory_of self.old).cpus cpu.0).inside))) answers.Plain }
-        ensures memory { memory_of self.new ≡ taken (first_of_row (exit_row (is_some ((memory_of self.old).cpus cpu.0).inside)))
+        ensures reply { result ≡ replied (first_of_row (inside_row (is_some ((memory_of self.old).cpus cpu.0).inside))) answers.Plain }
+        ensures memory { memory_of self.new ≡ taken (first_of_row (inside_row (is_some ((memory_of self.old).cpus cpu.0).inside)))
             (left (memory_of self.old) cpu.0) (memory_of self.old) }
     {
         let Mode::Inside { enclave, tcs } = self.mode(cpu) else {
@@ -83,8 +83,8 @@ impl Flat {
     /// A processor is taken out of its enclave, and its state is saved there (asynchronous exit).
     pub(crate) fn aex(&mut self, cpu: Cpu) -> FlatReply
         requires { cpu.0 < PROCESSORS }
-        ensures reply { result ≡ replied (first_of_row (aex_row (is_some ((memory_of self.old).cpus cpu.0).inside))) answers.Plain }
-        ensures memory { memory_of self.new ≡ taken (first_of_row (aex_row (is_some ((memory_of self.old).cpus cpu.0).inside)))
+        ensures reply { result ≡ replied (first_of_row (inside_row (is_some ((memory_of self.old).cpus cpu.0).inside))) answers.Plain }
+        ensures memory { memory_of self.new ≡ taken (first_of_row (inside_row (is_some ((memory_of self.old).cpus cpu.0).inside)))
             (left (saved (memory_of self.old) ((memory_of self.old).cpus cpu.0).acc ((memory_of self.old).cpus cpu.0).inside) cpu.0)
             (memory_of self.old) }
     {

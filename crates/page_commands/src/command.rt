@@ -62,9 +62,8 @@ use std::thread::Threads;
 ///
 /// `help` and `--help` give the text on the commands to `out`.
 ///
-/// Other words are no command, and then nothing is read or written. `gate`, which is another, is told of each turn of a run, and of each entry that is
-/// judged. A run whose
-/// store fails for ever may not return.
+/// Other words are no command, and then nothing is read or written. The argument `gate` is told of each turn of a run, and of each entry
+/// that is judged. A run whose store fails for ever may not return.
 pub fn sgxpage<
     R: Threads + Wait + Sync,
     J: Source,

@@ -20,7 +20,7 @@ use Rattle.sgx_types.specs.Making.{Making}
 use Rattle.sgx_rules.specs.inner.Rules.{LoadsAwayRule}
 use Rattle.sgx_rules.specs.Processors.{Stay, stay}
 use Rattle.sgx_rules.specs.Sights.{seat_of}
-use Rattle.sgx_rules.specs.Table.{aex_row, enter_row, exit_row, first_of_row, init_row, is_made, resume_row, SecsSight}
+use Rattle.sgx_rules.specs.Table.{inside_row, enter_row, first_of_row, init_row, is_made, resume_row, SecsSight}
 use Rattle.sgx_rules.proofs.Rows.{none_holds}
 use Rattle.sgx_types.proofs.Truths.{not_false}
 use Rattle.job_grammar.specs.Jobs.{JobView}
@@ -100,9 +100,9 @@ stay_tells s past (actors.Cpu p) (Resume enclave tcs tf sf) answer columns row =
     let none = none_holds (resume_row enclave tcs (enter_sight s p.0 (seat_of enclave tcs tf.0 sf.0))) row in
     (outside (stay past p.0) (inside_now columns p.0 ∙ none.0), made_now columns enclave none.1.1.0)
 stay_tells s past (actors.Cpu p) Exit answer columns row =
-    inside_now columns p.0 ∙ not_false (is_some (s.inside p.0)) (none_holds (exit_row (is_some (s.inside p.0))) row).0
+    inside_now columns p.0 ∙ not_false (is_some (s.inside p.0)) (none_holds (inside_row (is_some (s.inside p.0))) row).0
 stay_tells s past (actors.Cpu p) (Aex cause) answer columns row =
-    inside_now columns p.0 ∙ not_false (is_some (s.inside p.0)) (none_holds (aex_row (is_some (s.inside p.0))) row).0
+    inside_now columns p.0 ∙ not_false (is_some (s.inside p.0)) (none_holds (inside_row (is_some (s.inside p.0))) row).0
 stay_tells s past (actors.Cpu p) action answer columns row = tt
 stay_tells s past actors.Builder action answer columns row = tt
 stay_tells s past actors.Reclaimer action answer columns row = tt

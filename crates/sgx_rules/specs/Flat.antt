@@ -27,9 +27,9 @@ use Rattle.sgx_types.specs.Layouts.{bytes_of}
 use Rattle.sgx_types.specs.Sealed.{header_of}
 use Rattle.sgx_rules.specs.Table.{Case, allowed, first_of_row, FrameSight, EnclaveSight, SecsSight, EnterSight, TcsSight}
 use Rattle.sgx_rules.specs.Table.{fault_of, create_row}
-use Rattle.sgx_rules.specs.Table.{add_row, extend_row, init_row, enter_row, resume_row, exit_row, aex_row, load_row, store_row}
+use Rattle.sgx_rules.specs.Table.{add_row, extend_row, init_row, enter_row, resume_row, inside_row, load_row, store_row}
 use Rattle.sgx_rules.specs.Table.{xadd_row}
-use Rattle.sgx_rules.specs.Table.{set_row, plus_row, pf_row, outload_row, outstore_row}
+use Rattle.sgx_rules.specs.Table.{pf_row, outside_row}
 
 -- ---- the memory
 
@@ -233,16 +233,16 @@ is_visible _ = false
 abbrev pub flat_cpu_row : FlatMemory → ℕ → Action → List Case
 flat_cpu_row m p (Enter enclave tcs tf sf) = flat_enter_row m p enclave tcs
 flat_cpu_row m p (Resume enclave tcs tf sf) = flat_resume_row m p enclave tcs
-flat_cpu_row m p Exit = exit_row (is_some (m.cpus p).inside)
-flat_cpu_row m p (Aex cause) = aex_row (is_some (m.cpus p).inside)
+flat_cpu_row m p Exit = inside_row (is_some (m.cpus p).inside)
+flat_cpu_row m p (Aex cause) = inside_row (is_some (m.cpus p).inside)
 flat_cpu_row m p (Load off) = load_row off (is_some (m.cpus p).inside) (flat_translation m (m.cpus p).inside off)
 flat_cpu_row m p (Store off value) = store_row off (is_some (m.cpus p).inside) (flat_translation m (m.cpus p).inside off)
 flat_cpu_row m p (Xadd off value) = xadd_row off (is_some (m.cpus p).inside) (flat_translation m (m.cpus p).inside off)
-flat_cpu_row m p (Set value) = set_row (is_some (m.cpus p).inside)
-flat_cpu_row m p (Plus value) = plus_row (is_some (m.cpus p).inside)
+flat_cpu_row m p (Set value) = inside_row (is_some (m.cpus p).inside)
+flat_cpu_row m p (Plus value) = inside_row (is_some (m.cpus p).inside)
 flat_cpu_row m p (Pf op off) = pf_row op off (is_some (m.cpus p).inside) (added_at_offset m (m.cpus p).inside off)
-flat_cpu_row m p (OutLoad enclave off) = outload_row (is_some (m.cpus p).inside)
-flat_cpu_row m p (OutStore enclave off value) = outstore_row (is_some (m.cpus p).inside)
+flat_cpu_row m p (OutLoad enclave off) = outside_row (is_some (m.cpus p).inside)
+flat_cpu_row m p (OutStore enclave off value) = outside_row (is_some (m.cpus p).inside)
 flat_cpu_row m p _ = allowed
 
 -- the row of another instruction

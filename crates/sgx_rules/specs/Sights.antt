@@ -27,9 +27,9 @@ use Rattle.sgx_rules.specs.Slots.{is_busy_at, is_va_in_use, next_version, versio
 use Rattle.sgx_rules.specs.Table.{Case, allowed, FrameSight, EnterSight, TrackSight, SlotSight, DrainSight, is_ready, epa_row}
 use Rattle.sgx_rules.specs.Table.{create_row}
 use Rattle.sgx_rules.specs.Table.{LoadSight, SecsSight, UseSight, is_made}
-use Rattle.sgx_rules.specs.Table.{add_row, extend_row, init_row, enter_row, resume_row, exit_row, aex_row, fill_row, load_row}
+use Rattle.sgx_rules.specs.Table.{add_row, extend_row, init_row, enter_row, resume_row, inside_row, fill_row, load_row}
 use Rattle.sgx_rules.specs.Table.{store_row}
-use Rattle.sgx_rules.specs.Table.{xadd_row, set_row, plus_row, pf_row, outload_row, outstore_row, block_row, track_row}
+use Rattle.sgx_rules.specs.Table.{xadd_row, pf_row, outside_row, block_row, track_row}
 use Rattle.sgx_rules.specs.Table.{ewbstart_row}
 use Rattle.sgx_rules.specs.Table.{eldstart_row}
 use Rattle.sgx_rules.specs.Flat.{FlatMemory, FlatPage, flat, added_as, enclave_sight, fields_in, settled}
@@ -183,17 +183,17 @@ row_at k past actor (Enter enclave tcs tf sf) =
     enter_row enclave tcs (enter_sight_at k.frames past (stay_of past actor) (seat_of enclave tcs tf.0 sf.0))
 row_at k past actor (Resume enclave tcs tf sf) =
     resume_row enclave tcs (enter_sight_at k.frames past (stay_of past actor) (seat_of enclave tcs tf.0 sf.0))
-row_at k past actor Exit = exit_row (is_some (stay_of past actor))
-row_at k past actor (Aex cause) = aex_row (is_some (stay_of past actor))
+row_at k past actor Exit = inside_row (is_some (stay_of past actor))
+row_at k past actor (Aex cause) = inside_row (is_some (stay_of past actor))
 row_at k past actor (Fill number f) = fill_row number (enclave_of_stay (stay_of past actor)) (sight_at k.frames past f.0)
 row_at k past actor (Load off) = load_row off (is_some (stay_of past actor)) (translation_by past actor (off / 4096))
 row_at k past actor (Store off value) = store_row off (is_some (stay_of past actor)) (translation_by past actor (off / 4096))
 row_at k past actor (Xadd off value) = xadd_row off (is_some (stay_of past actor)) (translation_by past actor (off / 4096))
-row_at k past actor (Set value) = set_row (is_some (stay_of past actor))
-row_at k past actor (Plus value) = plus_row (is_some (stay_of past actor))
+row_at k past actor (Set value) = inside_row (is_some (stay_of past actor))
+row_at k past actor (Plus value) = inside_row (is_some (stay_of past actor))
 row_at k past actor (Pf op off) = pf_row op off (is_some (stay_of past actor)) (added_at past (stay_of past actor) (off / 4096))
-row_at k past actor (OutLoad enclave off) = outload_row (is_some (stay_of past actor))
-row_at k past actor (OutStore enclave off value) = outstore_row (is_some (stay_of past actor))
+row_at k past actor (OutLoad enclave off) = outside_row (is_some (stay_of past actor))
+row_at k past actor (OutStore enclave off value) = outside_row (is_some (stay_of past actor))
 row_at k past actor (Block f) = block_row (sight_at k.frames past f.0)
 row_at k past actor (Track enclave) = track_row (track_sight_at k.frames k.first_epoch past enclave)
 row_at k past actor (EwbStart f slot) =

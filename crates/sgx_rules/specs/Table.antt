@@ -215,23 +215,17 @@ enter_row enclave tcs s = entry_row enclave tcs s (when (s.fields.cssa == s.fiel
 abbrev pub resume_row : ℕ → ℕ → EnterSight → List Case
 resume_row enclave tcs s = entry_row enclave tcs s (when (s.fields.cssa == 0) why.NoSaved) (s.fields.ossa + s.fields.cssa - 1)
 
--- what a processor does inside an enclave alone
+-- `exit`, `aex`, `set` and `plus`: what a processor does inside an enclave alone
 abbrev pub inside_row : Bool → List Case
 inside_row is_inside =
     when (not is_inside) why.WrongMode
     otherwise allowed
 
--- what a processor does outside alone
+-- `outload` and `outstore`: what it does outside alone
 abbrev pub outside_row : Bool → List Case
 outside_row is_inside =
     when is_inside why.WrongMode
     otherwise allowed
-
-abbrev pub exit_row : Bool → List Case
-exit_row is_inside = inside_row is_inside
-
-abbrev pub aex_row : Bool → List Case
-aex_row is_inside = inside_row is_inside
 
 -- ---- translations and accesses
 
@@ -266,13 +260,6 @@ store_row off is_inside translation = access_row off is_inside translation (allo
 abbrev pub xadd_row : ℕ → Bool → Option Perm → List Case
 xadd_row off is_inside translation = access_row off is_inside translation (allows_update translation)
 
--- the accumulator is used inside alone
-abbrev pub set_row : Bool → List Case
-set_row is_inside = inside_row is_inside
-
-abbrev pub plus_row : Bool → List Case
-plus_row is_inside = inside_row is_inside
-
 abbrev pub allows : Perm → AccessOp → Bool
 allows perm accesses.Load = perm.r
 allows perm accesses.Store = perm.w
@@ -304,12 +291,6 @@ pf_row op off is_inside added =
     otherwise when (not (off % 8 == 0)) why.BadRange
     otherwise when (is_lawful_access added op) why.NoFault
     otherwise allowed
-
-abbrev pub outload_row : Bool → List Case
-outload_row is_inside = outside_row is_inside
-
-abbrev pub outstore_row : Bool → List Case
-outstore_row is_inside = outside_row is_inside
 
 -- ---- block, track, write-out and reload
 

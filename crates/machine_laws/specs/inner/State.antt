@@ -24,9 +24,9 @@ use Rattle.sgx_rules.specs.Processors.{Seat}
 use Rattle.sgx_rules.specs.Table.{Case, allowed, FrameSight, EnterSight, TrackSight, SlotSight, DrainSight, LoadSight, SecsSight}
 use Rattle.sgx_rules.specs.Table.{UseSight}
 use Rattle.sgx_rules.specs.Table.{is_made, is_own, is_ready, is_va, epa_row, create_row}
-use Rattle.sgx_rules.specs.Table.{add_row, extend_row, init_row, enter_row, resume_row, exit_row, aex_row, fill_row, load_row}
+use Rattle.sgx_rules.specs.Table.{add_row, extend_row, init_row, enter_row, resume_row, inside_row, fill_row, load_row}
 use Rattle.sgx_rules.specs.Table.{store_row}
-use Rattle.sgx_rules.specs.Table.{xadd_row, set_row, plus_row, pf_row, outload_row, outstore_row, block_row, track_row}
+use Rattle.sgx_rules.specs.Table.{xadd_row, pf_row, outside_row, block_row, track_row}
 use Rattle.sgx_rules.specs.Table.{ewbstart_row}
 use Rattle.sgx_rules.specs.Table.{eldstart_row}
 use Rattle.epcm_entry.specs.inner.Words.{words_of, zero_words}
@@ -229,17 +229,17 @@ is_version_spent s = s.next_version == 2 ^ 64
 abbrev pub cpu_row_of : State → ℕ → Action → List Case
 cpu_row_of s p (Enter enclave tcs tf sf) = enter_row enclave tcs (enter_sight s p (seat_of enclave tcs tf.0 sf.0))
 cpu_row_of s p (Resume enclave tcs tf sf) = resume_row enclave tcs (enter_sight s p (seat_of enclave tcs tf.0 sf.0))
-cpu_row_of s p Exit = exit_row (is_some (s.inside p))
-cpu_row_of s p (Aex cause) = aex_row (is_some (s.inside p))
+cpu_row_of s p Exit = inside_row (is_some (s.inside p))
+cpu_row_of s p (Aex cause) = inside_row (is_some (s.inside p))
 cpu_row_of s p (Fill number f) = fill_row number (seat_enclave (s.inside p)) (sight s f.0)
 cpu_row_of s p (Load off) = load_row off (is_some (s.inside p)) (translation s p (s.inside p) (off / 4096))
 cpu_row_of s p (Store off value) = store_row off (is_some (s.inside p)) (translation s p (s.inside p) (off / 4096))
 cpu_row_of s p (Xadd off value) = xadd_row off (is_some (s.inside p)) (translation s p (s.inside p) (off / 4096))
-cpu_row_of s p (Set value) = set_row (is_some (s.inside p))
-cpu_row_of s p (Plus value) = plus_row (is_some (s.inside p))
+cpu_row_of s p (Set value) = inside_row (is_some (s.inside p))
+cpu_row_of s p (Plus value) = inside_row (is_some (s.inside p))
 cpu_row_of s p (Pf op off) = pf_row op off (is_some (s.inside p)) (added_inside s (s.inside p) (off / 4096))
-cpu_row_of s p (OutLoad enclave off) = outload_row (is_some (s.inside p))
-cpu_row_of s p (OutStore enclave off value) = outstore_row (is_some (s.inside p))
+cpu_row_of s p (OutLoad enclave off) = outside_row (is_some (s.inside p))
+cpu_row_of s p (OutStore enclave off value) = outside_row (is_some (s.inside p))
 cpu_row_of s p _ = allowed
 
 -- the state as it is with nobody inside an enclave
