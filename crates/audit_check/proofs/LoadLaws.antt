@@ -190,7 +190,8 @@ module _ (m : Parts) (kept : Records) (e : Entry) (can : CanCheck m kept) (f : F
           by_answer (Moved moved version' tag) is says =
               let same : moved ≡ page = same_pages moved page says in
               let told : Moved moved version' tag ≡ Moved page version' tag = ap (λ g. Moved g version' tag) same in
-              subst (λ x. FailsAmong is_machines j past (Some x) rules.Fresh) (sym (is ∙ ap (λ a. record { actor = e.actor; event = Did (Eld f) a }) told))
+              subst (λ x. FailsAmong is_machines j past (Some x) rules.Fresh)
+              (sym (is ∙ ap (λ a. record { actor = e.actor; event = Did (Eld f) a }) told))
               (fresh_fails j past (record { actor = e.actor; event = Did (Eld f) (Moved page version' tag) }) (
                 refl,
                 record {
@@ -225,7 +226,8 @@ module _ (m : Parts) (kept : Records) (e : Entry) (can : CanCheck m kept) (f : F
             let stands = told k past (made_by j.key past) can.checked.stands own_work in
             committed m kept e can (Eld f) t after own refl (own_records k (state_of t) (e ∷ past) (made_by j.key past) stands)
             (subst (KeepsRecords j.key (e ∷ past)) (sym gone)
-            (record_back k (state_of m) (state_of t) past (made_by j.key past) e f begun.start page kept stands done begun.opened begun.loads
+            (record_back k (state_of m) (state_of t) past (made_by j.key past)
+            e f begun.start page kept stands done begun.opened begun.loads
             can.checked.records))
         back t after gone (Some rule) told = told j can.cpus past (made_by j.key past) can.checked.stands own_work
 

@@ -25,9 +25,9 @@ use sgx_types::names::{Actor, Frame, Memory, Page};
 use std::alloc::Global;
 
 /// Asks a machine for an entry of a trace, and keeps or drops the record of the page that it moves. None where the entry keeps each of the
-/// processor's rules; then machine and records stand for the longer list. Else the rule that it breaks first; nothing is said of machine and
-/// records then. Constant time, but for the SHA-256 of a page that goes out and of an enclave's measurement. Memory is refused too where a
-/// trace makes more version array pages than there are numbers for, 2^32.
+/// processor's rules; then machine and records stand for the longer list. Else the rule that it breaks first; nothing is said of machine
+/// and records then. Constant time, but for the SHA-256 of a page that goes out and of an enclave's measurement. Memory is refused too
+/// where a trace makes more version array pages than there are numbers for, 2^32.
 pub fn ask(
     alloc: Global,
     machine: &mut Machine,

@@ -44,7 +44,8 @@ use Rattle.script_rules.specs.Script.{action_of}
 use Rattle.machine_laws.specs.inner.Histories.{BringsBack, BringsIn, StandsWithAllRules}
 use Rattle.machine_laws.specs.inner.Notes.{IsDone}
 use Rattle.machine_laws.specs.inner.State.{State}
-use Rattle.machine_laws.specs.inner.Steps.{CanBring, CanEnd, IsComing, IsComingHeader, IsReloaded, commit_row, did_by, header_in, refused_by}
+use Rattle.machine_laws.specs.inner.Steps.{CanBring, CanEnd, IsComing, IsComingHeader, IsReloaded, commit_row, did_by, header_in}
+use Rattle.machine_laws.specs.inner.Steps.{refused_by}
 use Rattle.machine_laws.proofs.ColumnLaws.{content_is, start_is}
 use Rattle.machine_laws.proofs.MoveEnds.{coming_header, ends_refused}
 use Rattle.machine_laws.proofs.ReloadLaws.{keeps_moves, row_allows}
@@ -265,7 +266,8 @@ reason_fits s actor f own reason waits fit j cpus past records h =
     sym coming.opened ∙ start_is h.shaped.shape.columns f.0 ∙ ap bare_start told.ends.opened in
     let page : told.page ≡ coming.page = same_Some _ _ (sym told.ends.loads
     ∙ ap (λ (x : BareStart). x.loads) (sym (same_Some coming.start (without_place told.ends.start) started)) ∙ coming.loads) in
-    fits past told.page own reason (ap (header_at past) page ∙ coming_header s past f.0 h.standing.stands coming ∙ ap Some (sym waits.1)) fit
+    fits past told.page own reason (ap (header_at past) page ∙ coming_header s past f.0 h.standing.stands coming
+    ∙ ap Some (sym waits.1)) fit
     told.unfit)
 
 -- a record with another header's number is refused, and the machine may be asked for the end of the load with it
@@ -307,7 +309,8 @@ module _ (s : State) (f : Frame) (own : Header) (other : Sealed) (waits : IsComi
             let started : Some step.coming.start ≡ bare_start (Some ended.ends.start) =
             sym step.coming.opened ∙ start_is h.shaped.shape.columns f.0 ∙ ap bare_start ended.ends.opened in
             let page : ended.page ≡ step.coming.page = same_Some _ _ (sym ended.ends.loads
-            ∙ ap (λ (x : BareStart). x.loads) (sym (same_Some step.coming.start (without_place ended.ends.start) started)) ∙ step.coming.loads) in
+            ∙ ap (λ (x : BareStart). x.loads) (sym (same_Some step.coming.start (without_place ended.ends.start) started))
+            ∙ step.coming.loads) in
             let headed : header_at past ended.page ≡ Some own =
             ap (header_at past) page ∙ coming_header s past f.0 h.standing.stands step.coming ∙ ap Some (sym (own-header-is step.coming)) in
             other_refusal past actor f found reason k t records

@@ -108,7 +108,8 @@ module _ (j : JobView) (past : List Entry) (actor : Actor) (f : Frame) where
             → FailsAmong is_machines j past (Some (out (answers.Moved g w tag))) rules.Sealed
 
     at-page : (version : ℕ) (tag : List ℕ) → (answers.Moved g version tag ≡ answers.Moved g v t → ⊥)
-        → FailsAmong is_machines j past (Some (out (answers.Moved g version tag))) (rule_out (answers.Moved g version tag) (answers.Moved g v t))
+        → FailsAmong is_machines j past (Some (out (answers.Moved g version tag)))
+        (rule_out (answers.Moved g version tag) (answers.Moved g v t))
     at-page version tag other = rw (same_page-refl g) (by_test (tested (version == v)))
       where
         by_test : ((version == v) ≡ true) ⊎ ((version == v) ≡ false)
@@ -118,19 +119,22 @@ module _ (j : JobView) (past : List Entry) (actor : Actor) (f : Frame) where
             rw differs (of-version version tag (λ e. false≢true (sym differs ∙ eq-eqb version v e)))
 
     moved-out : (page : Page) (version : ℕ) (tag : List ℕ) → (answers.Moved page version tag ≡ answers.Moved g v t → ⊥)
-        → FailsAmong is_machines j past (Some (out (answers.Moved page version tag))) (rule_out (answers.Moved page version tag) (answers.Moved g v t))
+        → FailsAmong is_machines j past (Some (out (answers.Moved page version tag)))
+        (rule_out (answers.Moved page version tag) (answers.Moved g v t))
     moved-out page version tag other = by_test (tested (same_page page g))
       where
         Says_of : Page → Type 0
         Says_of p = (answers.Moved p version tag ≡ answers.Moved g v t → ⊥)
-            → FailsAmong is_machines j past (Some (out (answers.Moved p version tag))) (rule_out (answers.Moved p version tag) (answers.Moved g v t))
+            → FailsAmong is_machines j past (Some (out (answers.Moved p version tag)))
+            (rule_out (answers.Moved p version tag) (answers.Moved g v t))
 
         by_test : (same_page page g ≡ true) ⊎ (same_page page g ≡ false)
             → FailsAmong is_machines j past (Some (out (answers.Moved page version tag)))
             (rule_out (answers.Moved page version tag) (answers.Moved g v t))
         by_test (inl same) = subst Says_of (sym (same_pages page g same)) (at-page version tag) other
         by_test (inr differs) =
-            rw differs (of-page page version tag (λ e. false≢true (sym differs ∙ subst (λ x. same_page page x ≡ true) e (same_page-refl page))))
+            rw differs (of-page page version tag (λ e. false≢true
+            (sym differs ∙ subst (λ x. same_page page x ≡ true) e (same_page-refl page))))
 
     -- an end that names nothing
     bare-out : (answer : Answer) → (EndsOut past f.0 answer → ⊥)

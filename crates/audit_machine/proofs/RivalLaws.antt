@@ -119,7 +119,8 @@ module _ (j : JobView) (past : List Entry) (actor : Actor) where
 
   -- ---- where both refuse
 
-  init-both : (enclave : ℕ) (expect : Option (List ℕ)) (refusal found : Refusal) → KeepsMachines j past (refused (Init enclave expect) found) → (refusal ≡ found → ⊥)
+  init-both : (enclave : ℕ) (expect : Option (List ℕ)) (refusal found : Refusal)
+      → KeepsMachines j past (refused (Init enclave expect) found) → (refusal ≡ found → ⊥)
       → FailsAmong is_machines j past (Some (refused (Init enclave expect) refusal)) (rule_of_reasons (Init enclave expect) refusal found)
   init-both enclave expect (why.BadMeasure given) (why.BadMeasure made) keeps other =
       init-refused enclave expect given _ keeps (keeps.each rules.Refusal refl) (λ h.

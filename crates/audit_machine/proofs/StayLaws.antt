@@ -191,7 +191,8 @@ module _ (key : List ℕ) (past : List Entry) (actor : Actor) (f : Frame) (page 
 pub record_back : (k : Making) (s t : State) (past : List Entry) (records : List Made) (e : Entry) (f : Frame) (start : Start) (page : Page)
     (kept : Records) → StandsWithAllRules k t (e ∷ past) records → IsDoneBack e.event f → open_start past f.0 ≡ Some start
     → start.loads ≡ Some page → KeepsRecords k.key past kept → KeepsRecords k.key (e ∷ past) (without_record kept page)
-record_back k s t past records e f start page kept stands done opened loads keeps = by_event e.event done (own_rules k t (e ∷ past) records stands).refusal.0
+record_back k s t past records e f start page kept stands done opened loads keeps = by_event e.event done
+    (own_rules k t (e ∷ past) records stands).refusal.0
   where
     by_back : (answer : Answer) → IsBack past f.0 answer
         → KeepsRecords k.key (record { actor = e.actor; event = Did (Eld f) answer } ∷ past) (without_record kept page)

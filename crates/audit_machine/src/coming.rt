@@ -39,8 +39,8 @@ pub fn bring(machine: &mut Machine, entry: &Entry, frame: Frame, work: UnsealedW
     Some(first_broken(entry, &made))
 }
 
-/// Asks a machine for an `eld` that was refused for this reason. Which record was given the entry does not tell, so the machine is given one
-/// that it refuses too. None where the reason can be right: the two tags that it tells differ, or the header that it tells is not the
+/// Asks a machine for an `eld` that was refused for this reason. Which record was given the entry does not tell, so the machine is given
+/// one that it refuses too. None where the reason can be right: the two tags that it tells differ, or the header that it tells is not the
 /// page's; then the frame is free, and the slot keeps its version. Else Refusal is broken.
 ///
 /// Refused memory leaves the machine as it was.

@@ -14,8 +14,8 @@ use sgx_machine::machine::Machine;
 use sgx_rules::entries::{Action, Entry, Event};
 use sgx_rules::refusals::Refusal;
 
-/// Judges an entry whose instruction is a processor's, where its actor is none: a driver, or a processor past the 16th. No machine makes it:
-/// its row is looked at as who is inside no enclave sees it. None where it tells that the instruction was refused as the row says: it
+/// Judges an entry whose instruction is a processor's, where its actor is none: a driver, or a processor past the 16th. No machine makes
+/// it: its row is looked at as who is inside no enclave sees it. None where it tells that the instruction was refused as the row says: it
 /// keeps each of the processor's rules, and nothing changes. Else the rule that it breaks first: Refusal where it tells otherwise than the
 /// row, and else Flat, since flat memory takes such an instruction from processors alone.
 pub fn ask_outside(machine: &Machine, entry: &Entry, action: &Action) -> Option<Rule>

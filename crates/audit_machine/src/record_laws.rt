@@ -29,8 +29,8 @@ pub fn nothing_is_out_at_first()
     ensures { (key : List ℕ) → KeepsRecords key [] no_records }
 {}
 
-/// Where a record is kept for a page that a frame waits for, of the version that the start found, it is the one that the end of the load asks
-/// for. Where none of that version is kept, the page did not go out last with what stands in the slot, whatever is told of it.
+/// Where a record is kept for a page that a frame waits for, of the version that the start found, it is the one that the end of the load
+/// asks for. Where none of that version is kept, the page did not go out last with what stands in the slot, whatever is told of it.
 pub fn kept_records_are_own()
     ensures own { (k : Making) (s : State) (past : List Entry) (records : List Made) (kept : Records)
         → StandsWithAllRules k s past records → KeepsRecords k.key past kept → (n : ℕ) (start : Start) (page : Page) (rec : Sealed)
@@ -53,7 +53,8 @@ pub fn records_stay_kept()
         (page : Page) (version : ℕ) (tag : List ℕ) (kept : Records) → HasLeft s e f work t
         → e.event ≡ events.Did action (answers.Moved page version tag) → StandsWithAllRules k s past (made_by k.key past)
         → KeepsRecords k.key past kept → KeepsRecords k.key (e ∷ past) (with_record kept page (kept_of work)) }
-    ensures back { (k : Making) (s t : State) (past : List Entry) (records : List Made) (e : Entry) (f : Frame) (start : Start) (page : Page)
+    ensures back { (k : Making) (s t : State) (past : List Entry) (records : List Made) (e : Entry) (f : Frame) (start : Start)
+        (page : Page)
         (kept : Records) → StandsWithAllRules k t (e ∷ past) records → IsDoneBack e.event f → open_start past f.0 ≡ Some start
         → start.loads ≡ Some page → KeepsRecords k.key past kept → KeepsRecords k.key (e ∷ past) (without_record kept page) }
     ensures stays { (key : List ℕ) (past : List Entry) (e : Entry) (kept : Records) → is_done_ewb e.event ≡ false

@@ -13,8 +13,8 @@ use history_rules::rules::Rule;
 use sgx_rules::entries::{Action, Answer, Entry, Event};
 use sgx_rules::refusals::Refusal;
 
-/// The first of the processor's rules that an entry breaks, where the machine made another entry of the same instruction there: of the rules
-/// that the entry and this one differ in, the first in the order in which rules are named.
+/// The first of the processor's rules that an entry breaks, where the machine made another entry of the same instruction there: of the
+/// rules that the entry and this one differ in, the first in the order in which rules are named.
 pub fn first_broken(entry: &Entry, made: &Entry) -> Rule
     ensures { (j : JobView) (past : List Entry) → AreRivals entry.now made.now → KeepsMachines j past made.now
         → FailsAmong is_machines j past (Some entry.now) result }

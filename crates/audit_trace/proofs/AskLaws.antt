@@ -88,7 +88,8 @@ not-built d event action of next own = absurd of
 
 -- ---- the reclaimer makes none of them
 
-no-try : (past : List Entry) (g : Page) (action : Action) (answer : Answer) → is_of_cpus action ≡ true → IsInTries past g (Did action answer)
+no-try : (past : List Entry) (g : Page) (action : Action) (answer : Answer) → is_of_cpus action ≡ true
+    → IsInTries past g (Did action answer)
     → ⊥
 no-try past g (EwbStart f slot) answer own h = cc
 no-try past g (Ewb f) answer own h = cc
@@ -166,7 +167,8 @@ and-false : (b : Bool) → (b && false) ≡ false
 and-false true = refl
 and-false false = refl
 
-module _ (j : JobView) (past : List Entry) (e : Entry) (script : ScriptRule j past e) (age : AgeRule j past e) (m t : Parts) (kept : Records)
+module _ (j : JobView) (past : List Entry) (e : Entry) (script : ScriptRule j past e) (age : AgeRule j past e) (m t : Parts)
+    (kept : Records)
     (among : IsAmong (length m.cpus) e.actor) (asked : asks.IsTaken j (length j.scripts) past m e t kept)
     (cpus : length t.cpus ≡ length m.cpus) where
   -- who made it is a processor of the machine where only those may

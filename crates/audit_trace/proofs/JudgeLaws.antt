@@ -137,7 +137,8 @@ module _ (j : JobView) (a : Auditing) (e : Entry) (at : IsAuditing j a) where
       pub broken_judged : (new : Auditing) → is_some broken ≡ true → IsJudged j past e new broken
       broken_judged new some = by_answer broken some answered
         where
-          by_answer : (o : Option Rule) → is_some o ≡ true → IsAnswered j (length j.scripts) past a.machine e t kept o → IsJudged j past e new o
+          by_answer : (o : Option Rule) → is_some o ≡ true → IsAnswered j (length j.scripts) past a.machine e t kept o
+              → IsJudged j past e new o
           by_answer None some said = absurd (false≢true some)
           by_answer (Some rule) some said = first_of_all j past e rule script said
 
@@ -209,7 +210,8 @@ module _ (j : JobView) (a : Auditing) (e : Entry) (at : IsAuditing j a) where
           goes : GoesOn j (e ∷ past)
           goes = goes_on_more j (state_of t) past e (made_by j.key (e ∷ past)) at.keeps.trace.goes_on script asked.checked.stands age kick
 
-          module _ (v : PassView) (pairs : List (Page × Kept)) (same : records_of pairs ≡ kept) (cpus : length t.cpus ≡ length a.machine.cpus)
+          module _ (v : PassView) (pairs : List (Page × Kept)) (same : records_of pairs ≡ kept)
+              (cpus : length t.cpus ≡ length a.machine.cpus)
               (before : Mode) (start : Option starts.Start) (stood : before ≡ mode_of a.machine e.actor)
               (ends : (f : Frame) → frame_ended e.event ≡ Some f → start_of start ≡ (state_of a.machine).start f.0)
               (begins : (f : Frame) → frame_begun e.event ≡ Some f → start_of start ≡ (state_of t).start f.0)
@@ -234,7 +236,8 @@ module _ (j : JobView) (a : Auditing) (e : Entry) (at : IsAuditing j a) where
 
             -- whatever all stands for behind it, it does for this trace
             pub judged : (last : Auditing)
-                → ((can : CanFollow j (record a { pass = v; machine = t; records = pairs }) before start e) → KeepsAudit j (e ∷ can.past) last)
+                → ((can : CanFollow j (record a { pass = v; machine = t; records = pairs }) before start e)
+                → KeepsAudit j (e ∷ can.past) last)
                 → KeepsAudit j (e ∷ past) last
             unfolding can_follow
             judged last told = told can_follow

@@ -9,8 +9,8 @@ ghost use Rattle.history_rules.specs.Histories.{FailsHere, History};
 ghost use Rattle.history_rules.specs.inner.Histories.{is_machines};
 ghost use Rattle.history_machine.specs.Histories.{FailsAmong, FailsFirstAmong, MachineHistory};
 
-/// A history keeps the processor's rules. A trace that fails somewhere among them keeps them not all. Where Script holds at an entry, and one
-/// of the processor's rules fails as the first of them, it is the first of all rules that fails there.
+/// A history keeps the processor's rules. A trace that fails somewhere among them keeps them not all. Where Script holds at an entry, and
+/// one of the processor's rules fails as the first of them, it is the first of all rules that fails there.
 pub fn the_processors_rules_are_some_of_all()
     ensures history { (j : JobView) (past : List Entry) → History j past → MachineHistory j past }
     ensures fails { (j : JobView) (whole : List Entry) (place : ℕ) (rule : Rule) → FailsFirstAmong is_machines j whole place rule

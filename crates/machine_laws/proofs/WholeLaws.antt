@@ -36,7 +36,8 @@ use Rattle.seal_record.specs.Cipher.{cipher}
 use Rattle.machine_laws.specs.inner.Shape.{ShapeWithRules}
 use Rattle.machine_laws.specs.inner.Stands.{HasEnclaves, IsSound, StandsWithRules}
 use Rattle.machine_laws.specs.inner.State.{State, after_failed_eld, fresh, making_of, row_outside}
-use Rattle.machine_laws.specs.inner.Steps.{CanApply, CanEnd, IsNoProcessor, IsReloaded, IsStep, IsWrittenOut, commit_row, did_by, is_of_cpus, refused_by}
+use Rattle.machine_laws.specs.inner.Steps.{CanApply, CanEnd, IsNoProcessor, IsReloaded, IsStep, IsWrittenOut, commit_row, did_by}
+use Rattle.machine_laws.specs.inner.Steps.{is_of_cpus, refused_by}
 use Rattle.machine_laws.proofs.ProcessorLaws.{mode_by_entries}
 use Rattle.machine_laws.proofs.ShapeColumns.{is_eld}
 use Rattle.machine_laws.proofs.ShapeLaws.{IsNextTo, held_by, shaped_more}

@@ -48,7 +48,8 @@ ends_map S T f statuses.Spent out out' (text, said, is) = (text, f statuses.Spen
 -- ---- texts that are none
 
 -- the line on a trace
-pub no_trace : (edition : Edition) (bytes : List ℕ) (line : ℕ) (Said : List Entry → Status → List ℕ → Type 0) → Reads edition bytes (Err line)
+pub no_trace : (edition : Edition) (bytes : List ℕ) (line : ℕ) (Said : List Entry → Status → List ℕ → Type 0)
+    → Reads edition bytes (Err line)
     → (status : Status) (text : List ℕ) → (status ≡ statuses.BadTrace) × (text ≡ old.fault_line line)
     → OfTrace edition bytes Said status text
 no_trace edition bytes line Said reads status text (is, told) =
@@ -250,8 +251,8 @@ none_told left old_left Same Said status out out' (bytes, is, (job, (old_bytes, 
 -- ---- what is asked of both
 
 -- it is told with one of two statuses
-pub telling_ends : (telling : Telling) (j : JobView) (past : List Entry) (status : Status) (text : List ℕ) → Tells telling j past status text
-    → (status ≡ statuses.Done) ⊎ (status ≡ statuses.AuditNo)
+pub telling_ends : (telling : Telling) (j : JobView) (past : List Entry) (status : Status) (text : List ℕ)
+    → Tells telling j past status text → (status ≡ statuses.Done) ⊎ (status ≡ statuses.AuditNo)
 telling_ends tellings.Least j past status text said = inl said.0
 telling_ends (tellings.Judge rules) j past status text (verdicts.Yes, judged, is, told) = inl is
 telling_ends (tellings.Judge rules) j past status text (verdicts.No place rule, judged, is, told) = inr is

@@ -47,8 +47,8 @@ use std::thread::Threads;
 /// read no further than one byte past them.
 ///
 /// `audit PATH` reads the same two, whoever made the trace, and gives to `out` the verdict: `yes` where the trace is a history of the job,
-/// and else the first place at which a rule fails, and that rule. `check PATH` does so by the processor's rules alone, which say nothing of a
-/// driver, and gives the trace's tally behind the verdict; of the job it uses the EPC's size, the key and the first epoch and version.
+/// and else the first place at which a rule fails, and that rule. `check PATH` does so by the processor's rules alone, which say nothing of
+/// a driver, and gives the trace's tally behind the verdict; of the job it uses the EPC's size, the key and the first epoch and version.
 ///
 /// `query PATH PLACE L PAGE` and `moves PATH L PAGE` read the same two, whoever made the trace, and answer a question to it. The one gives
 /// to `out` where the page was behind so many entries, which processors cached it there, and its first word. The other gives a line for
@@ -106,7 +106,8 @@ pub fn sgxpage<
 
     // `run` gives the line on a text that is no job's.
     ensures bad_job { command_in (map string_bytes words.now) ≡ Some commands.Run → result.status ≡ Status.BadJob →
-        OfRead (J.left job.old) (λ bytes. Told bytes (K.given out.old) (K.given out.new)) × (trace.new ≡ trace.old) × (result.store ≡ None) }
+        OfRead (J.left job.old) (λ bytes. Told bytes (K.given out.old) (K.given out.new))
+        × (trace.new ≡ trace.old) × (result.store ≡ None) }
     ensures no_job { command_in (map string_bytes words.now) ≡ Some commands.Run → IsSomeAnd (J.left job.old) HasFault →
         (result.status ≡ Status.BadJob) ⊎ MayStandIn result.status }
     ensures run_else { command_in (map string_bytes words.now) ≡ Some commands.Run → IsRunEnd result.status × (old.new ≡ old.old) }

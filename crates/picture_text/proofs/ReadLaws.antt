@@ -23,7 +23,8 @@ use Rattle.picture_text.specs.declared.counts.Counts.{Counts}
 use Rattle.picture_text.specs.declared.events.Counter.{Counter}
 use Rattle.picture_text.specs.declared.events.Counter.TheVariants as counters
 use Rattle.picture_text.specs.declared.events.Mark.TheVariants as marks
-use Rattle.picture_text.specs.Events.{lane_of, frame_in, frame_lane, marked, page_lane, pages_by, steps_on, events_after, events_by, events_of}
+use Rattle.picture_text.specs.Events.{lane_of, frame_in, frame_lane, marked, page_lane, pages_by, steps_on, events_after, events_by}
+use Rattle.picture_text.specs.Events.{events_of}
 use Rattle.picture_text.specs.Events.{count_to, counts_of, counts_to}
 use Rattle.picture_text.specs.Lanes.{same_lane}
 use Rattle.picture_text.specs.Open.{inside, sits, stands, when_so, only, open_on}

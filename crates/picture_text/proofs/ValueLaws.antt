@@ -12,7 +12,8 @@ use Rattle.picture_text.specs.declared.events.Lane.{Lane}
 use Rattle.picture_text.specs.declared.events.Open.{Open}
 use Rattle.picture_text.specs.declared.events.PictureEvent.{PictureEvent}
 use Rattle.picture_text.specs.declared.events.Span.{Span}
-use Rattle.picture_text.specs.Events.{begins, count_to, counts_of, counts_to, ends, events_after, events_by, events_of, frame_in, frame_lane}
+use Rattle.picture_text.specs.Events.{begins, count_to, counts_of, counts_to, ends, events_after, events_by, events_of, frame_in}
+use Rattle.picture_text.specs.Events.{frame_lane}
 use Rattle.picture_text.specs.Events.{lane_of, page_lane, pages_by, steps, steps_on}
 use Rattle.picture_text.specs.Open.{open_on, same_spans}
 use Rattle.picture_text.specs.Reading.{count_in, read_value, same_counter}
@@ -84,7 +85,8 @@ hit k place before value =
       | inr differs ↦ rw (differs, own k) refl
     ]
 
-miss : (k other : Counter) (place before value v : ℕ) → same_counter other k ≡ false → read_value k (count_to place other before value) v ≡ v
+miss : (k other : Counter) (place before value v : ℕ) → same_counter other k ≡ false
+    → read_value k (count_to place other before value) v ≡ v
 miss k other place before value v apart =
     elim (tested (before == value)) [
       | inl same ↦ rw same refl

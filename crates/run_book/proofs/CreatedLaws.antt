@@ -149,4 +149,5 @@ pub created_are_jobs : (j : JobView) (past : List Entry) → Along (ScriptRule j
     → is_some (created past n) ≡ true → (1 ≤ n) × (n ≤ length j.enclaves)
 created_are_jobs j [] script age n made = absurd (false≢true made)
 created_are_jobs j (e ∷ past) script age n made =
-    created_more j past e.actor e.event (builds_or_none j past (outs_kept j past) e script.0 age.0) n (created_are_jobs j past script.1 age.1 n) made
+    created_more j past e.actor e.event (builds_or_none j past (outs_kept j past) e script.0 age.0) n
+    (created_are_jobs j past script.1 age.1 n) made

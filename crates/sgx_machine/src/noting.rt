@@ -35,8 +35,8 @@ impl Machine {
         prove!(!matches!(entry.event, Event::Did { .. } | Event::Refused { .. }));
     }
 
-    /// Who is no processor, a driver or a processor past the 16th, is inside no enclave. An instruction of processors that is refused to it for
-    /// the first case of its row leaves the machine what it was, which stands for the longer list of entries.
+    /// Who is no processor, a driver or a processor past the 16th, is inside no enclave. An instruction of processors that is refused to it
+    /// for the first case of its row leaves the machine what it was, which stands for the longer list of entries.
     pub fn note_outsiders(&self)
         ensures inside { (p : ℕ) → 16 ≤ p → (state_of self.now).inside p ≡ None }
         ensures refused { (making : Making) (past : List Entry) (records : List Made) (actor : Actor) (action : Action) (why : Refusal)

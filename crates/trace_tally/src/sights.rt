@@ -5,7 +5,8 @@ ghost use Rattle.least_reloads.specs.Plans.{has};
 ghost use Rattle.sgx_rules.specs.declared.entries.Entry.{Entry};
 ghost use Rattle.sgx_types.specs.declared.names.Page.{Page};
 ghost use Rattle.trace_places.specs.Places.{is_page};
-ghost use Rattle.trace_tally.specs.Tests.{back_by, blocked_by, is_again, is_odd, is_page_entered, is_page_cached, is_refused_paging, is_spent, is_paging};
+ghost use Rattle.trace_tally.specs.Tests.{back_by, blocked_by, is_again, is_odd, is_page_entered, is_page_cached, is_refused_paging};
+ghost use Rattle.trace_tally.specs.Tests.{is_spent, is_paging};
 ghost use Rattle.trace_tally.specs.Tests.{page_in};
 ghost use Rattle.trace_tally.specs.inner.Sights.{is_blocked_entered, seen, Knows};
 

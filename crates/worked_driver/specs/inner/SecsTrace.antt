@@ -1,5 +1,5 @@
--- Two enclaves in eight frames: all pages of the first go out while the second is built, and then its SECS. A processor enters the first, so
--- that its SECS comes back, and then its two pages.
+-- Two enclaves in eight frames: all pages of the first go out while the second is built, and then its SECS. A processor enters the first,
+-- so that its SECS comes back, and then its two pages.
 use Rattle.std.specs.Prelude.{ℕ, List, [], ◌∷◌, None, true, replicate, reverse}
 use Rattle.sgx_types.specs.declared.names.Actor.TheVariants.{Builder, Reclaimer}
 use Rattle.sgx_types.specs.declared.names.Kind.TheVariants as kinds

@@ -22,4 +22,5 @@ returns-in-Refused-clause-answer c =
 
 pub bring_back-requires-clause-loads : goal.bring_back-requires-clause-loads
 bring_back-requires-clause-loads c =
-    loads_by _ c.args.frame.0 c.open_start.result c.in-Some.page c.in-Some.version c.open_start.ensures (sym c.load_of.ensures ∙ c.in-Some.is)
+    loads_by _ c.args.frame.0 c.open_start.result c.in-Some.page c.in-Some.version c.open_start.ensures
+    (sym c.load_of.ensures ∙ c.in-Some.is)

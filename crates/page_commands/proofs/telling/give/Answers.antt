@@ -25,7 +25,8 @@ returns-in_err-give_verdict-in-Judge-clause-broke g c = λ failed.
     let Broke : Telling → List Entry → Type 0 = λ t entries. (status : Status) × (text : List ℕ)
     × Tells t c.args.traced.now.job (reverse entries) status text
     × GivesPart (g.K.Sink.given c.args.out.now) (g.K.Sink.given c.give_verdict.new.out) text in
-    let broke : Broke (tellings.Judge c.in-Judge.rules) c.deref-in-Judge.result.now = (status_by part.0, _, (part.0, part.1, refl, refl), part.2) in
+    let broke : Broke (tellings.Judge c.in-Judge.rules) c.deref-in-Judge.result.now =
+    (status_by part.0, _, (part.0, part.1, refl, refl), part.2) in
     subst (λ entries. Broke c.args.telling entries) c.deref-in-Judge.ensures.value
     (subst (λ t. Broke t c.deref-in-Judge.result.now) (sym c.in-Judge.is) broke)
 

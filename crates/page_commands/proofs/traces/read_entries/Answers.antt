@@ -10,7 +10,8 @@ returns-in-Err-Bad-clause-told g c =
       fault.0,
       fault.1,
       ends_map _ (OfTrace c.args.edition fault.0 (λ past status text. ⊥))
-          (no_trace c.args.edition fault.0 c.in-Err-Bad.line (λ past status text. ⊥) fault.2) c.tell_line.result _ _ c.tell_line.ensures.told,
+          (no_trace c.args.edition fault.0 c.in-Err-Bad.line
+          (λ past status text. ⊥) fault.2) c.tell_line.result _ _ c.tell_line.ensures.told,
     )
 
 pub returns-in-Err-Failed-clause-told : goal.returns-in-Err-Failed-clause-told

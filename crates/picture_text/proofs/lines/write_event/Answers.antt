@@ -64,5 +64,6 @@ returns-in-Counts-clause-text c = λ lanes numbered.
     lead on (time ++ (at ++ (name ++ (named ++ (args ++ (value ++ end))))))
     c.write_parts-in-Counts.ensures.text (c.write_lane-in-Counts.ensures.text lanes numbered) c.write_parts-in-Counts-2.ensures.text
     ∙ ap (λ (line : List ℕ). o ++ line) (count_parts lead on time at name named args value end)
-    ∙ ap (λ (n : List ℕ). o ++ ((((((((lead ++ on) ++ time) ++ at) ++ name) ++ n) ++ args) ++ value) ++ end)) (sym c.counter_name.ensures.name)
+    ∙ ap (λ (n : List ℕ). o ++ ((((((((lead ++ on) ++ time) ++ at) ++ name) ++ n) ++ args) ++ value) ++ end))
+    (sym c.counter_name.ensures.name)
     ∙ ap (λ (mark : Mark). o ++ mark_text lanes c.args.entry.now event.place event.lane mark) (sym c.in-Counts.is)

@@ -14,7 +14,8 @@ loop-at-preserved c =
     let at = c.loop-at.at in
     let action = c.args.action.now in
     let why = c.args.why.now in
-    let within : at < length rows = omega (arith, c.loop-at-test.true, c.loop-at.auto.at-end, ap length c.loop-at.invariant.0, c.len-at-end.ensures) in
+    let within : at < length rows =
+    omega (arith, c.loop-at-test.true, c.loop-at.auto.at-end, ap length c.loop-at.invariant.0, c.len-at-end.ensures) in
     let d = c.index.result.now in
     let other : is_of (get_or rows at d) action why ≡ false =
     ap (λ (row : RefusalCount). is_of row action why) (sym (get_or_read rows at _ within c.index.ensures d))
@@ -28,7 +29,8 @@ returns-then-is_of c =
     let at = c.loop-at.at in
     let action = c.args.action.now in
     let why = c.args.why.now in
-    let within : at < length rows = omega (arith, c.loop-at-test.true, c.loop-at.auto.at-end, ap length c.loop-at.invariant.0, c.len-at-end.ensures) in
+    let within : at < length rows =
+    omega (arith, c.loop-at-test.true, c.loop-at.auto.at-end, ap length c.loop-at.invariant.0, c.len-at-end.ensures) in
     let d = c.index_mut.result.now in
     let reads : get_or rows at d ≡ d = sym (get_or_read rows at _ within c.index_mut.ensures.value d) in
     let first : get_or rows at d ≡ c.index.result.now = sym (get_or_read rows at _ within c.index.ensures d) in

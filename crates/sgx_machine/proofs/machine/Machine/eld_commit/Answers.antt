@@ -63,7 +63,8 @@ is_refused c =
     } in
     ended_refused c.self.inside c.self.invariant c.args.frame work c.args.work.rec c.start-start.result c.unwrap-page.result
     (rw (← c.self.view_is) at c.requires.loading) is (rw (← c.self.view_is) at c.start-start.ensures) c.unwrap-page.ensures c.args.actor
-    c.eld_commit-ended.new.epc c.eld_commit-ended.new.secs c.eld_commit-ended.new.va c.refused.result c.in-Err.refusal ends.row ends.refused.0
+    c.eld_commit-ended.new.epc c.eld_commit-ended.new.secs c.eld_commit-ended.new.va c.refused.result c.in-Err.refusal
+    ends.row ends.refused.0
     ends.refused.1 ends.beside ends.counts c.refused.ensures
 
 pub unwrap-page-requires : goal.unwrap-page-requires
