@@ -123,6 +123,24 @@ no_job left old_left Same unread.Memory Said status out out' same fault ends =
           ends_map None (OfBoth bytes old_bytes Said) (λ s text said. absurd said.1) status out out' ends),
     ))
 
+-- .. alone, and no run is made
+pub no_run : (left : Option (List ℕ)) (why : Unread) (status : Status) (out out' : Option (List ℕ)) → IsFaultOf left why
+    → Ends (λ status text. (status ≡ statuses.BadJob) × IsFaultAnd why (λ fault. text ≡ fault_line fault)) status out out'
+    → OfRead left (λ bytes. Ends (OfJob bytes (λ j status text. ⊥)) status out out')
+no_run left (unread.Bad fault) status out out' (bytes, is, spelt) ends =
+    let Line : Status → List ℕ → Type 0 = λ s text. (s ≡ statuses.BadJob) × (text ≡ fault_line fault) in (
+      bytes,
+      is,
+      ends_map Line (OfJob bytes (λ j status text. ⊥)) (λ s text said.
+          subst (λ (s : Status). OfJob bytes (λ j status text. ⊥) s text) (sym said.0) (fault, spelt, said.1)) status out out' ends,
+    )
+no_run left unread.Failed status out out' fault ends =
+    let None : Status → List ℕ → Type 0 = λ s text. (s ≡ statuses.BadJob) × ⊥ in
+    some_read left _ (λ bytes. ends_map None (OfJob bytes (λ j status text. ⊥)) (λ s text said. absurd said.1) status out out' ends)
+no_run left unread.Memory status out out' fault ends =
+    let None : Status → List ℕ → Type 0 = λ s text. (s ≡ statuses.BadJob) × ⊥ in
+    some_read left _ (λ bytes. ends_map None (OfJob bytes (λ j status text. ⊥)) (λ s text said. absurd said.1) status out out' ends)
+
 -- behind a job, what is said of a trace is said of both. Nothing else is said with the status of a job that is none
 pub of_trace : (bytes old_bytes : List ℕ) (j : JobView) (Said : JobView → List Entry → Status → List ℕ → Type 0) → read bytes ≡ Ok j
     → ((past : List Entry) (text : List ℕ) → Said j past statuses.BadJob text → ⊥)

@@ -75,11 +75,3 @@ kind_text kinds.TooLong = codes "TooLong"
 -- the line on the first fault of a job
 abbrev pub fault_line : Fault → List ℕ
 fault_line fault = codes "job line " ++ decimal fault.line ++ codes ": " ++ kind_text fault.kind ++ codes "\n"
-
--- a sink got this line
-abbrev pub Told : List ℕ → Option (List ℕ) → Option (List ℕ) → Type 0
-Told bytes out out' = (fault : Fault) × (read bytes ≡ Err fault) × (out' ≡ followed_by out (fault_line fault))
-
--- .. or a proper front of it
-abbrev pub HalfTold : List ℕ → Option (List ℕ) → Option (List ℕ) → Type 0
-HalfTold bytes out out' = (fault : Fault) × (read bytes ≡ Err fault) × GivesPart out out' (fault_line fault)

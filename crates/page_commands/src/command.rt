@@ -11,8 +11,8 @@ ghost use Rattle.page_commands.specs.Summary.{summary_of};
 ghost use Rattle.trace_file.specs.Reading.{OfRead};
 ghost use Rattle.page_commands.specs.Commands.{HasEnded, IsDemoEnd, IsRunEnd, MayReadOld, MayStandIn, NoFault, ReadsJob, RunsNone};
 ghost use Rattle.page_commands.specs.Commands.{status_of};
-ghost use Rattle.page_commands.specs.Runs.{BothGiven, DemoBy, HalfGiven, HalfTold, HasFault, HasJob, RanBy, Told};
-ghost use Rattle.page_commands.specs.Says.{Ends, Says};
+ghost use Rattle.page_commands.specs.Runs.{BothGiven, DemoBy, HalfGiven, HasFault, HasJob, RanBy};
+ghost use Rattle.page_commands.specs.Says.{Ends, OfJob, Says};
 ghost use Rattle.run_jobs.specs.declared.ends.End.{End};
 
 use crate::ended::{Ended, unrun};
@@ -104,10 +104,11 @@ pub fn sgxpage<
         Ends (Says command bytes old_bytes) result.status (K.given out.old) (K.given out.new)))
         × (ReadsJob command ⊎ (job.new ≡ job.old)) × (trace.new ≡ trace.old) × (result.store ≡ None)) }
 
-    // `run` gives the line on a text that is no job's.
-    ensures bad_job { command_in (map string_bytes words.now) ≡ Some commands.Run → result.status ≡ Status.BadJob →
-        OfRead (J.left job.old) (λ bytes. Told bytes (K.given out.old) (K.given out.new))
-        × (trace.new ≡ trace.old) × (result.store ≡ None) }
+    // Where `run` makes no run, it gives the line on a text that is no job's, and nothing else.
+    ensures unrun { command_in (map string_bytes words.now) ≡ Some commands.Run → result.store ≡ None →
+        OfRead (J.left job.old) (λ bytes. Ends (OfJob bytes (λ j status text. ⊥)) result.status (K.given out.old) (K.given out.new))
+        × (trace.new ≡ trace.old) }
+    ensures bad_job { command_in (map string_bytes words.now) ≡ Some commands.Run → result.status ≡ Status.BadJob → result.store ≡ None }
     ensures no_job { command_in (map string_bytes words.now) ≡ Some commands.Run → IsSomeAnd (J.left job.old) HasFault →
         (result.status ≡ Status.BadJob) ⊎ MayStandIn result.status }
     ensures run_else { command_in (map string_bytes words.now) ≡ Some commands.Run → IsRunEnd result.status × (old.new ≡ old.old) }
@@ -123,10 +124,9 @@ pub fn sgxpage<
         NoFault (L.faults trace.old) (L.faults trace.new) →
         HasEnded result.status ⊎ (result.status ≡ Status.Memory) }
     ensures broke { command_in (map string_bytes words.now) ≡ Some commands.Run → result.status ≡ Status.WriteFault
-        → OfRead (J.left job.old) (λ bytes.
-        (HalfTold bytes (K.given out.old) (K.given out.new) × (trace.new ≡ trace.old) × (result.store ≡ None))
-        ⊎ ((end : End) × IsSomeAnd result.store (λ store. RanBy bytes end (B.told store) (B.plans store)
-        (λ j past. HalfGiven j past (K.given out.old) (K.given out.new) (L.given trace.old) (L.given trace.new))))) }
+        → (result.store ≡ None)
+        ⊎ OfRead (J.left job.old) (λ bytes. (end : End) × IsSomeAnd result.store (λ store. RanBy bytes end (B.told store) (B.plans store)
+        (λ j past. HalfGiven j past (K.given out.old) (K.given out.new) (L.given trace.old) (L.given trace.new)))) }
     // The store comes back from a run that came to its end, whatever the status, and from no other.
     ensures back { command_in (map string_bytes words.now) ≡ Some commands.Run → IfSome result.store (λ store.
         OfRead (J.left job.old) (λ bytes. (end : End) × RanBy bytes end (B.told store) (B.plans store) (λ j past. Unit {0}))) }

@@ -6,7 +6,8 @@ ghost use Rattle.io_edges.specs.Sources.{TakesAtMost};
 ghost use Rattle.trace_file.specs.Reading.{OfRead};
 ghost use Rattle.page_commands.specs.Commands.{HasEnded, IsRunEnd, MayStandIn, NoFault, status_of};
 ghost use Rattle.page_commands.specs.inner.Commands.{IsGiven};
-ghost use Rattle.page_commands.specs.Runs.{BothGiven, HalfGiven, HalfTold, HasFault, HasJob, RanBy, Told};
+ghost use Rattle.page_commands.specs.Runs.{BothGiven, HalfGiven, HasFault, HasJob, RanBy};
+ghost use Rattle.page_commands.specs.Says.{Ends, OfJob};
 ghost use Rattle.run_jobs.specs.declared.ends.End.{End};
 
 use crate::ended::{Ended, unrun};
@@ -44,9 +45,11 @@ pub(crate) fn run_command<
     ensures read_fault { result.status ≡ Status.ReadFault →
         HasRisen (J.faults job.old) (J.faults job.new) × (out.new ≡ out.old) × (trace.new ≡ trace.old) × (result.store ≡ None) }
 
-    ensures bad_job { result.status ≡ Status.BadJob →
-        OfRead (J.left job.old) (λ bytes. Told bytes (K.given out.old) (K.given out.new))
-        × (trace.new ≡ trace.old) × (result.store ≡ None) }
+    // Without a run the output gets the line on a text that is no job's, and nothing else.
+    ensures unrun { result.store ≡ None →
+        OfRead (J.left job.old) (λ bytes. Ends (OfJob bytes (λ j status text. ⊥)) result.status (K.given out.old) (K.given out.new))
+        × (trace.new ≡ trace.old) }
+    ensures bad_job { result.status ≡ Status.BadJob → result.store ≡ None }
     ensures no_job { IsSomeAnd (J.left job.old) HasFault →
         (result.status ≡ Status.BadJob) ⊎ MayStandIn result.status }
 
@@ -63,10 +66,9 @@ pub(crate) fn run_command<
 
     ensures write_fault { result.status ≡ Status.WriteFault →
         HasRisen (K.faults out.old) (K.faults out.new) ⊎ HasRisen (L.faults trace.old) (L.faults trace.new) }
-    ensures broke { result.status ≡ Status.WriteFault → OfRead (J.left job.old) (λ bytes.
-        (HalfTold bytes (K.given out.old) (K.given out.new) × (trace.new ≡ trace.old) × (result.store ≡ None))
-        ⊎ ((end : End) × IsSomeAnd result.store (λ store. RanBy bytes end (B.told store) (B.plans store)
-        (λ j past. HalfGiven j past (K.given out.old) (K.given out.new) (L.given trace.old) (L.given trace.new))))) }
+    ensures broke { result.status ≡ Status.WriteFault → (result.store ≡ None)
+        ⊎ OfRead (J.left job.old) (λ bytes. (end : End) × IsSomeAnd result.store (λ store. RanBy bytes end (B.told store) (B.plans store)
+        (λ j past. HalfGiven j past (K.given out.old) (K.given out.new) (L.given trace.old) (L.given trace.new)))) }
     ensures memory { result.status ≡ Status.Memory → (out.new ≡ out.old) × (trace.new ≡ trace.old) }
     // The store comes back from a run that came to its end, whatever the status, and from no other.
     ensures back { IfSome result.store (λ store. OfRead (J.left job.old) (λ bytes.
