@@ -45,7 +45,7 @@ const ROWS: &[Row] = &[
         replies: b"A init\nB init\ncpu 0\ncssa 0\n7\nexit\n",
         told: "",
         line: "r age A secs taken",
-        never: " age B secs ",
+        never: " bus ",
         loads: "A secs\nA 0\nA 1\nA 2\n",
     },
     Row {
