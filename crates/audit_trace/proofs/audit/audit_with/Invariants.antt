@@ -4,4 +4,4 @@ use Rattle.audit_trace.proofs.audit.audit_with.Given as goal
 
 -- all stands for the entries so far, which keep each rule
 abbrev pub invariant-loop-place : goal.invariant-loop-place
-invariant-loop-place l = KeepsAudit l.job (reverse (take l.place l.entries)) l.auditing
+invariant-loop-place g l = KeepsAudit l.job (reverse (take l.place l.entries)) l.auditing
