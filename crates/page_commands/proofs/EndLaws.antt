@@ -52,37 +52,20 @@ pub no_trace : (edition : Edition) (bytes : List ℕ) (line : ℕ) (Said : List 
     → Reads edition bytes (Err line)
     → (status : Status) (text : List ℕ) → (status ≡ statuses.BadTrace) × (text ≡ old.fault_line line)
     → OfTrace edition bytes Said status text
-no_trace edition bytes line Said reads status text (is, told) =
-    subst (λ (s : Status). OfTrace edition bytes Said s text) (sym is) (line, reads, told)
+no_trace edition bytes line Said reads status text (is, told) = inr (is, (line, reads, told))
 
 -- what is said of no trace is said whatever is asked of one
 pub trace_map : (edition : Edition) (bytes : List ℕ) (S T : List Entry → Status → List ℕ → Type 0)
     → ((past : List Entry) (status : Status) (text : List ℕ) → S past status text → T past status text)
     → (status : Status) (text : List ℕ) → OfTrace edition bytes S status text → OfTrace edition bytes T status text
-trace_map edition bytes S T f statuses.BadTrace text o = o
-trace_map edition bytes S T f statuses.ReadFault text (entries, reads, said) = (entries, reads, f _ _ _ said)
-trace_map edition bytes S T f statuses.Memory text (entries, reads, said) = (entries, reads, f _ _ _ said)
-trace_map edition bytes S T f statuses.WriteFault text (entries, reads, said) = (entries, reads, f _ _ _ said)
-trace_map edition bytes S T f statuses.Done text (entries, reads, said) = (entries, reads, f _ _ _ said)
-trace_map edition bytes S T f statuses.BadJob text (entries, reads, said) = (entries, reads, f _ _ _ said)
-trace_map edition bytes S T f statuses.BadWords text (entries, reads, said) = (entries, reads, f _ _ _ said)
-trace_map edition bytes S T f statuses.AuditNo text (entries, reads, said) = (entries, reads, f _ _ _ said)
-trace_map edition bytes S T f statuses.Bus text (entries, reads, said) = (entries, reads, f _ _ _ said)
-trace_map edition bytes S T f statuses.Spent text (entries, reads, said) = (entries, reads, f _ _ _ said)
+trace_map edition bytes S T f status text (inl (entries, reads, said)) = inl (entries, reads, f _ _ _ said)
+trace_map edition bytes S T f status text (inr none) = inr none
 
 pub job_map : (bytes : List ℕ) (S T : JobView → Status → List ℕ → Type 0)
     → ((j : JobView) (status : Status) (text : List ℕ) → S j status text → T j status text)
     → (status : Status) (text : List ℕ) → OfJob bytes S status text → OfJob bytes T status text
-job_map bytes S T f statuses.BadJob text o = o
-job_map bytes S T f statuses.BadTrace text (j, spelt, said) = (j, spelt, f _ _ _ said)
-job_map bytes S T f statuses.ReadFault text (j, spelt, said) = (j, spelt, f _ _ _ said)
-job_map bytes S T f statuses.Memory text (j, spelt, said) = (j, spelt, f _ _ _ said)
-job_map bytes S T f statuses.WriteFault text (j, spelt, said) = (j, spelt, f _ _ _ said)
-job_map bytes S T f statuses.Done text (j, spelt, said) = (j, spelt, f _ _ _ said)
-job_map bytes S T f statuses.BadWords text (j, spelt, said) = (j, spelt, f _ _ _ said)
-job_map bytes S T f statuses.AuditNo text (j, spelt, said) = (j, spelt, f _ _ _ said)
-job_map bytes S T f statuses.Bus text (j, spelt, said) = (j, spelt, f _ _ _ said)
-job_map bytes S T f statuses.Spent text (j, spelt, said) = (j, spelt, f _ _ _ said)
+job_map bytes S T f status text (inl (j, spelt, said)) = inl (j, spelt, f _ _ _ said)
+job_map bytes S T f status text (inr none) = inr none
 
 -- of both: what is said of none of the two is said whatever is asked of them
 pub both_map : (bytes old_bytes : List ℕ) (S T : JobView → List Entry → Status → List ℕ → Type 0)
@@ -104,8 +87,7 @@ no_job left old_left Same (unread.Bad fault) Said status out out' same (bytes, i
       (
         inr same,
         some_read old_left _ (λ old_bytes.
-            ends_map Line (OfBoth bytes old_bytes Said) (λ s text said.
-            subst (λ (s : Status). OfBoth bytes old_bytes Said s text) (sym said.0) (fault, spelt, said.1)) status out out' ends),
+            ends_map Line (OfBoth bytes old_bytes Said) (λ s text said. inr (said.0, (fault, spelt, said.1))) status out out' ends),
       ),
     )
 no_job left old_left Same unread.Failed Said status out out' same fault ends =
@@ -131,8 +113,7 @@ no_run left (unread.Bad fault) status out out' (bytes, is, spelt) ends =
     let Line : Status → List ℕ → Type 0 = λ s text. (s ≡ statuses.BadJob) × (text ≡ fault_line fault) in (
       bytes,
       is,
-      ends_map Line (OfJob bytes (λ j status text. ⊥)) (λ s text said.
-          subst (λ (s : Status). OfJob bytes (λ j status text. ⊥) s text) (sym said.0) (fault, spelt, said.1)) status out out' ends,
+      ends_map Line (OfJob bytes (λ j status text. ⊥)) (λ s text said. inr (said.0, (fault, spelt, said.1))) status out out' ends,
     )
 no_run left unread.Failed status out out' fault ends =
     let None : Status → List ℕ → Type 0 = λ s text. (s ≡ statuses.BadJob) × ⊥ in
@@ -141,20 +122,10 @@ no_run left unread.Memory status out out' fault ends =
     let None : Status → List ℕ → Type 0 = λ s text. (s ≡ statuses.BadJob) × ⊥ in
     some_read left _ (λ bytes. ends_map None (OfJob bytes (λ j status text. ⊥)) (λ s text said. absurd said.1) status out out' ends)
 
--- behind a job, what is said of a trace is said of both. Nothing else is said with the status of a job that is none
-pub of_trace : (bytes old_bytes : List ℕ) (j : JobView) (Said : JobView → List Entry → Status → List ℕ → Type 0) → read bytes ≡ Ok j
-    → ((past : List Entry) (text : List ℕ) → Said j past statuses.BadJob text → ⊥)
+-- behind a job, what is said of a trace is said of both
+of_trace : (bytes old_bytes : List ℕ) (j : JobView) (Said : JobView → List Entry → Status → List ℕ → Type 0) → read bytes ≡ Ok j
     → (status : Status) (text : List ℕ) → OfTrace editions.Two old_bytes (Said j) status text → OfBoth bytes old_bytes Said status text
-of_trace bytes old_bytes j Said spelt never statuses.BadJob text (entries, reads, said) = absurd (never (reverse entries) text said)
-of_trace bytes old_bytes j Said spelt never statuses.BadTrace text o = (j, spelt, o)
-of_trace bytes old_bytes j Said spelt never statuses.ReadFault text o = (j, spelt, o)
-of_trace bytes old_bytes j Said spelt never statuses.Memory text o = (j, spelt, o)
-of_trace bytes old_bytes j Said spelt never statuses.WriteFault text o = (j, spelt, o)
-of_trace bytes old_bytes j Said spelt never statuses.Done text o = (j, spelt, o)
-of_trace bytes old_bytes j Said spelt never statuses.BadWords text o = (j, spelt, o)
-of_trace bytes old_bytes j Said spelt never statuses.AuditNo text o = (j, spelt, o)
-of_trace bytes old_bytes j Said spelt never statuses.Bus text o = (j, spelt, o)
-of_trace bytes old_bytes j Said spelt never statuses.Spent text o = (j, spelt, o)
+of_trace bytes old_bytes j Said spelt status text said = inl (j, spelt, said)
 
 -- the line on a trace behind a job
 pub job_no_trace : (left old_left : Option (List ℕ)) (Same : Type 0) (j : JobView) (status : Status) (out out' : Option (List ℕ))
@@ -171,7 +142,7 @@ job_no_trace left old_left Same j status out out' (bytes, is, spelt) (old_bytes,
       old_bytes,
       old_is,
       ends_map (OfTrace editions.Two old_bytes (λ past status text. ⊥)) (OfBoth bytes old_bytes (λ j past status text. ⊥))
-          (of_trace bytes old_bytes j (λ j past status text. ⊥) spelt (λ past text said. said)) status out out' ends,
+          (of_trace bytes old_bytes j (λ j past status text. ⊥) spelt) status out out' ends,
     ),
   ),
 )
@@ -180,14 +151,9 @@ job_no_trace left old_left Same j status out out' (bytes, is, spelt) (old_bytes,
 
 -- what was told of a job and of a trace's entries was told of their bytes
 said_of : (bytes old_bytes : List ℕ) (j : JobView) (entries : List Entry) (Said : JobView → List Entry → Status → List ℕ → Type 0)
-    (status : Status) (text : List ℕ) → (status ≡ statuses.Done) ⊎ (status ≡ statuses.AuditNo) → read bytes ≡ Ok j
-    → Reads editions.Two old_bytes (Ok entries) → Said j (reverse entries) status text → OfBoth bytes old_bytes Said status text
-said_of bytes old_bytes j entries Said status text (inl is) spelt reads said =
-    subst (λ (s : Status). OfBoth bytes old_bytes Said s text) (sym is)
-    (j, spelt, (entries, reads, subst (λ (s : Status). Said j (reverse entries) s text) is said))
-said_of bytes old_bytes j entries Said status text (inr is) spelt reads said =
-    subst (λ (s : Status). OfBoth bytes old_bytes Said s text) (sym is)
-    (j, spelt, (entries, reads, subst (λ (s : Status). Said j (reverse entries) s text) is said))
+    (status : Status) (text : List ℕ) → read bytes ≡ Ok j → Reads editions.Two old_bytes (Ok entries) → Said j (reverse entries) status text
+    → OfBoth bytes old_bytes Said status text
+said_of bytes old_bytes j entries Said status text spelt reads said = inl (j, spelt, inl (entries, reads, said))
 
 ends_told : (Said : Status → List ℕ → Type 0) (status : Status) (text : List ℕ) (out out' : Option (List ℕ))
     → (status ≡ statuses.Done) ⊎ (status ≡ statuses.AuditNo) → Said status text → out' ≡ followed_by out text → Ends Said status out out'
@@ -212,7 +178,7 @@ both_told left old_left Same j entries Said status text out out' kind (bytes, is
       old_bytes,
       old_is,
       ends_told (OfBoth bytes old_bytes Said) status text out out' kind
-          (said_of bytes old_bytes j entries Said status text kind spelt reads said) got,
+          (said_of bytes old_bytes j entries Said status text spelt reads said) got,
     ),
   ),
 )
@@ -220,12 +186,12 @@ both_told left old_left Same j entries Said status text out out' kind (bytes, is
 -- .. or a front of it
 pub both_broke : (left old_left : Option (List ℕ)) (Same : Type 0) (j : JobView) (entries : List Entry)
     (Said : JobView → List Entry → Status → List ℕ → Type 0) (status : Status) (text : List ℕ) (out out' : Option (List ℕ))
-    → (status ≡ statuses.Done) ⊎ (status ≡ statuses.AuditNo) → OfRead left (λ bytes. read bytes ≡ Ok j)
+    → OfRead left (λ bytes. read bytes ≡ Ok j)
     → OfRead old_left (λ bytes. Reads editions.Two bytes (Ok entries)) → Said j (reverse entries) status text
     → GivesPart out out' text
     → OfRead left (λ bytes. (HasJob bytes ⊎ Same)
     × OfRead old_left (λ old_bytes. Ends (OfBoth bytes old_bytes Said) statuses.WriteFault out out'))
-both_broke left old_left Same j entries Said status text out out' kind (bytes, is, spelt) (old_bytes, old_is, reads) said part = (
+both_broke left old_left Same j entries Said status text out out' (bytes, is, spelt) (old_bytes, old_is, reads) said part = (
   bytes,
   is,
   (
@@ -233,7 +199,7 @@ both_broke left old_left Same j entries Said status text out out' kind (bytes, i
     (
       old_bytes,
       old_is,
-      (status, text, said_of bytes old_bytes j entries Said status text kind spelt reads said, part),
+      (status, text, said_of bytes old_bytes j entries Said status text spelt reads said, part),
     ),
   ),
 )

@@ -1,5 +1,5 @@
 -- A command ends in one way, by the bytes that it reads.
-use Rattle.std.proofs.Common.{◌≡◌, ◌⊎◌, ℕ, List, Ok, Err, inl, inr, refl, reverse, sym, subst, ◌∙◌}
+use Rattle.std.proofs.Common.{◌≡◌, ℕ, List, Ok, Err, inl, inr, refl, reverse, sym, subst, ◌∙◌}
 use Rattle.page_commands.specs.JudgedBy.{JudgesBy}
 use Rattle.audit_check.specs.declared.verdict.Verdict.TheVariants as verdicts
 use Rattle.command_words.specs.declared.command.Command.{Command}
@@ -25,25 +25,6 @@ use Rattle.page_commands.specs.Says.{edition_by, Judged, OfJob, OfTrace, Says, s
 
 -- ---- a trace
 
--- its first faulty line, or its entries
-abbrev Traced : Edition → List ℕ → (List Entry → Status → List ℕ → Type 0) → Status → List ℕ → Type 0
-Traced edition bytes Said status text =
-    ((status ≡ statuses.BadTrace) × ((line : ℕ) × Reads edition bytes (Err line)))
-    ⊎ ((entries : List Entry) × Reads edition bytes (Ok entries) × Said (reverse entries) status text)
-
-traced : (edition : Edition) (bytes : List ℕ) (Said : List Entry → Status → List ℕ → Type 0) (status : Status) (text : List ℕ)
-    → OfTrace edition bytes Said status text → Traced edition bytes Said status text
-traced edition bytes Said statuses.BadTrace text (line, reads, told) = inl (refl, (line, reads))
-traced edition bytes Said statuses.Done text said = inr said
-traced edition bytes Said statuses.BadJob text said = inr said
-traced edition bytes Said statuses.BadWords text said = inr said
-traced edition bytes Said statuses.ReadFault text said = inr said
-traced edition bytes Said statuses.WriteFault text said = inr said
-traced edition bytes Said statuses.Memory text said = inr said
-traced edition bytes Said statuses.AuditNo text said = inr said
-traced edition bytes Said statuses.Bus text said = inr said
-traced edition bytes Said statuses.Spent text said = inr said
-
 not_both : (edition : Edition) (bytes : List ℕ) (line : ℕ) (entries : List Entry) → Reads edition bytes (Err line)
     → Reads edition bytes (Ok entries) → ⊥
 not_both edition bytes line entries wrong reads =
@@ -52,37 +33,18 @@ not_both edition bytes line entries wrong reads =
 
 one_trace : (edition : Edition) (bytes : List ℕ) (Said : List Entry → Status → List ℕ → Type 0)
     → ((past : List Entry) (s t : Status) (text other : List ℕ) → Said past s text → Said past t other → s ≡ t)
-    → (s t : Status) (text other : List ℕ) → Traced edition bytes Said s text → Traced edition bytes Said t other → s ≡ t
-one_trace edition bytes Said one s t text other (inl wrong) (inl also) = wrong.0 ∙ sym also.0
-one_trace edition bytes Said one s t text other (inl wrong) (inr right) =
+    → (s t : Status) (text other : List ℕ) → OfTrace edition bytes Said s text → OfTrace edition bytes Said t other → s ≡ t
+one_trace edition bytes Said one s t text other (inr wrong) (inr also) = wrong.0 ∙ sym also.0
+one_trace edition bytes Said one s t text other (inr wrong) (inl right) =
     absurd (not_both edition bytes wrong.1.0 right.0 wrong.1.1 right.1)
-one_trace edition bytes Said one s t text other (inr right) (inl wrong) =
+one_trace edition bytes Said one s t text other (inl right) (inr wrong) =
     absurd (not_both edition bytes wrong.1.0 right.0 wrong.1.1 right.1)
-one_trace edition bytes Said one s t text other (inr right) (inr also) =
+one_trace edition bytes Said one s t text other (inl right) (inl also) =
     let both : Ok right.0 ≡ Ok also.0 = one_thing edition bytes (Ok right.0) (Ok also.0) right.1 also.1 in
     let same : right.0 ≡ also.0 = cc in
     one (reverse also.0) s t text other (subst (λ (entries : List Entry). Said (reverse entries) s text) same right.2) also.2
 
 -- ---- a job
-
--- its first fault, or the job
-abbrev Spelt : List ℕ → (JobView → Status → List ℕ → Type 0) → Status → List ℕ → Type 0
-Spelt bytes Said status text =
-    ((status ≡ statuses.BadJob) × ((fault : Fault) × (read bytes ≡ Err fault)))
-    ⊎ ((j : JobView) × (read bytes ≡ Ok j) × Said j status text)
-
-spelt : (bytes : List ℕ) (Said : JobView → Status → List ℕ → Type 0) (status : Status) (text : List ℕ) → OfJob bytes Said status text
-    → Spelt bytes Said status text
-spelt bytes Said statuses.BadJob text (fault, reads, told) = inl (refl, (fault, reads))
-spelt bytes Said statuses.Done text said = inr said
-spelt bytes Said statuses.BadTrace text said = inr said
-spelt bytes Said statuses.BadWords text said = inr said
-spelt bytes Said statuses.ReadFault text said = inr said
-spelt bytes Said statuses.WriteFault text said = inr said
-spelt bytes Said statuses.Memory text said = inr said
-spelt bytes Said statuses.AuditNo text said = inr said
-spelt bytes Said statuses.Bus text said = inr said
-spelt bytes Said statuses.Spent text said = inr said
 
 no_job : (bytes : List ℕ) (fault : Fault) (j : JobView) → read bytes ≡ Err fault → read bytes ≡ Ok j → ⊥
 no_job bytes fault j wrong right =
@@ -91,11 +53,11 @@ no_job bytes fault j wrong right =
 
 one_job : (bytes : List ℕ) (Said : JobView → Status → List ℕ → Type 0)
     → ((j : JobView) (s t : Status) (text other : List ℕ) → Said j s text → Said j t other → s ≡ t)
-    → (s t : Status) (text other : List ℕ) → Spelt bytes Said s text → Spelt bytes Said t other → s ≡ t
-one_job bytes Said one s t text other (inl wrong) (inl also) = wrong.0 ∙ sym also.0
-one_job bytes Said one s t text other (inl wrong) (inr right) = absurd (no_job bytes wrong.1.0 right.0 wrong.1.1 right.1)
-one_job bytes Said one s t text other (inr right) (inl wrong) = absurd (no_job bytes wrong.1.0 right.0 wrong.1.1 right.1)
-one_job bytes Said one s t text other (inr right) (inr also) =
+    → (s t : Status) (text other : List ℕ) → OfJob bytes Said s text → OfJob bytes Said t other → s ≡ t
+one_job bytes Said one s t text other (inr wrong) (inr also) = wrong.0 ∙ sym also.0
+one_job bytes Said one s t text other (inr wrong) (inl right) = absurd (no_job bytes wrong.1.0 right.0 wrong.1.1 right.1)
+one_job bytes Said one s t text other (inl right) (inr wrong) = absurd (no_job bytes wrong.1.0 right.0 wrong.1.1 right.1)
+one_job bytes Said one s t text other (inl right) (inl also) =
     let both : Ok right.0 ≡ Ok also.0 = sym right.1 ∙ also.1 in
     let same : right.0 ≡ also.0 = cc in
     one also.0 s t text other (subst (λ (j : JobView). Said j s text) same right.2) also.2
@@ -127,8 +89,7 @@ one_telling (tellings.Ask question) j past s t text other said also = said.0 ∙
 both_traced : (old_bytes : List ℕ) (telling : Telling) (j : JobView) (s t : Status) (text other : List ℕ)
     → OfTrace editions.Two old_bytes (Tells telling j) s text → OfTrace editions.Two old_bytes (Tells telling j) t other → s ≡ t
 both_traced old_bytes telling j s t text other said also =
-    one_trace editions.Two old_bytes (Tells telling j) (one_telling telling j) s t text other
-    (traced editions.Two old_bytes (Tells telling j) s text said) (traced editions.Two old_bytes (Tells telling j) t other also)
+    one_trace editions.Two old_bytes (Tells telling j) (one_telling telling j) s t text other said also
 
 -- ---- a command
 
@@ -137,11 +98,10 @@ pub one_end : (command : Command) (bytes old_bytes : List ℕ) (s t : Status) (t
 one_end (commands.Make number size) bytes old_bytes s t text other said also = said.0 ∙ sym also.0
 one_end (commands.Tell telling) bytes old_bytes s t text other said also =
     let Said : JobView → Status → List ℕ → Type 0 = λ j. OfTrace editions.Two old_bytes (Tells telling j) in
-    one_job bytes Said (both_traced old_bytes telling) s t text other (spelt bytes Said s text said) (spelt bytes Said t other also)
+    one_job bytes Said (both_traced old_bytes telling) s t text other said also
 one_end (commands.Show showing) bytes old_bytes s t text other said also =
     let Said : List Entry → Status → List ℕ → Type 0 = λ past status text. (status ≡ statuses.Done) × (text ≡ shown showing past) in
-    one_trace (edition_by showing) old_bytes Said (λ past s t text other said also. said.0 ∙ sym also.0) s t text other
-    (traced (edition_by showing) old_bytes Said s text said) (traced (edition_by showing) old_bytes Said t other also)
+    one_trace (edition_by showing) old_bytes Said (λ past s t text other said also. said.0 ∙ sym also.0) s t text other said also
 one_end (commands.Gate rounds) bytes old_bytes s t text other said also = said.0 ∙ sym also.0
 one_end commands.Help bytes old_bytes s t text other said also = said.0 ∙ sym also.0
 one_end commands.Run bytes old_bytes s t text other said also = absurd said

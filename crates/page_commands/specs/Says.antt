@@ -1,5 +1,5 @@
 -- What each command says of the bytes that it reads: a text on the output, with a status.
-use Rattle.std.specs.Prelude.{ℕ, ◌≡◌, List, Option, Ok, Err, reverse}
+use Rattle.std.specs.Prelude.{ℕ, ◌≡◌, ◌⊎◌, List, Option, Ok, Err, reverse}
 use Rattle.page_commands.specs.JudgedBy.{JudgesBy}
 use Rattle.audit_check.specs.declared.verdict.Verdict.{Verdict}
 use Rattle.audit_check.specs.declared.verdict.Verdict.TheVariants as verdicts
@@ -39,13 +39,15 @@ Is told status text = (status ≡ statuses.Done) × (text ≡ told)
 
 -- of the entries of a trace, newest first; or the line on the first fault of a text that is none
 abbrev pub OfTrace : Edition → List ℕ → (List Entry → Status → List ℕ → Type 0) → Status → List ℕ → Type 0
-OfTrace edition bytes Said statuses.BadTrace text = (line : ℕ) × Reads edition bytes (Err line) × (text ≡ old.fault_line line)
-OfTrace edition bytes Said status text = (entries : List Entry) × Reads edition bytes (Ok entries) × Said (reverse entries) status text
+OfTrace edition bytes Said status text =
+    ((entries : List Entry) × Reads edition bytes (Ok entries) × Said (reverse entries) status text)
+    ⊎ ((status ≡ statuses.BadTrace) × ((line : ℕ) × Reads edition bytes (Err line) × (text ≡ old.fault_line line)))
 
 -- of a job; or the line on the first fault of a text that is none
 abbrev pub OfJob : List ℕ → (JobView → Status → List ℕ → Type 0) → Status → List ℕ → Type 0
-OfJob bytes Said statuses.BadJob text = (fault : Fault) × (read bytes ≡ Err fault) × (text ≡ fault_line fault)
-OfJob bytes Said status text = (j : JobView) × (read bytes ≡ Ok j) × Said j status text
+OfJob bytes Said status text =
+    ((j : JobView) × (read bytes ≡ Ok j) × Said j status text)
+    ⊎ ((status ≡ statuses.BadJob) × ((fault : Fault) × (read bytes ≡ Err fault) × (text ≡ fault_line fault)))
 
 -- of a job and behind it the entries of a trace
 abbrev pub OfBoth : List ℕ → List ℕ → (JobView → List Entry → Status → List ℕ → Type 0) → Status → List ℕ → Type 0

@@ -1,4 +1,4 @@
-use Rattle.std.proofs.Common.{ℕ, List, Err, Ok, ap, arith, length, refl, reverse, subst}
+use Rattle.std.proofs.Common.{ℕ, List, Err, Ok, ap, arith, inl, length, refl, reverse, subst}
 use Rattle.io_edges.specs.Sinks.{GivesPart}
 use Rattle.trace_file.specs.Reading.{OfRead, Reads}
 use Rattle.trace_migrate.proofs.TextLaws.{text_long}
@@ -38,4 +38,4 @@ returns-in-Err-Failed-clause-says g c =
     Ends (OfTrace e bytes (λ past. Is (shown c.args.showing past))) statuses.WriteFault (g.K.Sink.given c.args.out.now)
     (g.K.Sink.given c.give.new.out)) in
     subst Told c.edition_by.ensures
-    (read.0, read.1, (statuses.Done, text, (c.in-Ok.entries.items, read.2, (refl, refl)), part))
+    (read.0, read.1, (statuses.Done, text, inl (c.in-Ok.entries.items, read.2, (refl, refl)), part))

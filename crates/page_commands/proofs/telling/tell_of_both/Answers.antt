@@ -20,5 +20,5 @@ pub returns-in-Err-Failed-clause-says : goal.returns-in-Err-Failed-clause-says
 returns-in-Err-Failed-clause-says g c =
     let said = c.in-Err-Failed.ensures.broke (ap Err c.in-Err-Failed.field-0-is) in
     both_broke (g.J.Source.left c.args.job.now) (g.O.Source.left c.args.old.now) _ c.in-Ok.traced.job c.in-Ok.traced.entries.items
-    (Tells c.args.telling) said.0 said.1 _ _ (telling_ends c.args.telling _ _ _ _ said.2) c.in-Ok.ensures.job c.in-Ok.ensures.entries said.2
+    (Tells c.args.telling) said.0 said.1 _ _ c.in-Ok.ensures.job c.in-Ok.ensures.entries said.2
     (subst (λ o. GivesPart (g.K.Sink.given o) (g.K.Sink.given c.give.new.out) said.1) c.in-Ok.ensures.untold said.3)
