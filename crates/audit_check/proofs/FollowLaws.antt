@@ -37,7 +37,7 @@ use Rattle.machine_laws.proofs.FrameLaws.{open_below}
 use Rattle.machine_laws.proofs.TestLaws.{last_place}
 use Rattle.history_rules.specs.declared.rules.Rule.{Rule}
 use Rattle.history_rules.specs.declared.rules.Rule.TheVariants as rules
-use Rattle.history_rules.specs.Histories.{Says}
+use Rattle.history_rules.specs.Histories.{RuleSays}
 use Rattle.history_rules.specs.inner.Histories.{is_machines}
 use Rattle.history_machine.specs.Histories.{FailsAmong}
 use Rattle.audit_machine.specs.inner.Asked.{made_for}
@@ -133,13 +133,13 @@ module _ (j : JobView) (cpus : ℕ) (s : State) (past : List Entry)
   kept : KeepsRules (made_for j cpus) past
   kept = own_rules (made_for j cpus) s past (made_by j.key past) stands
 
-  pub fits_follows : (e : Entry) → Says j rules.Refusal past (Some e) → Says j rules.Fits past (Some e)
+  pub fits_follows : (e : Entry) → RuleSays j rules.Refusal past (Some e) → RuleSays j rules.Fits past (Some e)
   fits_follows e refusal = (
     fits_too (machine_of j) past e.actor e.event kept.fits.entries refusal,
     last_place NoPageTwice past kept.fits.pages,
   )
 
-  pub stale_follows : (e : Entry) → Says j rules.Refusal past (Some e) → Says j rules.Stale past (Some e)
+  pub stale_follows : (e : Entry) → RuleSays j rules.Refusal past (Some e) → RuleSays j rules.Stale past (Some e)
   stale_follows e refusal = (stale_too (machine_of j) past e.actor e.event refusal, last_place NoneStale past kept.stale.places)
 
   pub never_first : (e : Entry) (rule : Rule) → FailsAmong is_machines j past (Some e) rule → is_named rule ≡ true

@@ -20,7 +20,7 @@ use Rattle.machine_laws.proofs.TestLaws.{last_place}
 use Rattle.sgx_machine.specs.inner.Parts.{Parts, idle, made, state_of}
 use Rattle.history_rules.specs.declared.rules.Rule.{Rule}
 use Rattle.history_rules.specs.declared.rules.Rule.TheVariants as rules
-use Rattle.history_rules.specs.Histories.{Before, Keeps, Says}
+use Rattle.history_rules.specs.Histories.{Before, Keeps, RuleSays}
 use Rattle.history_rules.specs.inner.Histories.{is_machines}
 use Rattle.history_machine.specs.Histories.{FailsAmong, FailsFirstAmong, MachineHistory}
 use Rattle.audit_machine.specs.inner.Asked.{made_for}
@@ -35,16 +35,16 @@ use Rattle.audit_check.proofs.FollowLaws.{never_first}
 -- ---- the processor's rules along a trace
 
 module _ (j : JobView) where
-  along : (rule : List Entry → Entry → Type 0) (r : Rule) → ((past : List Entry) (e : Entry) → rule past e → Says j r past (Some e))
-      → (past : List Entry) → Along rule past → Before (Says j r) past
+  along : (rule : List Entry → Entry → Type 0) (r : Rule) → ((past : List Entry) (e : Entry) → rule past e → RuleSays j r past (Some e))
+      → (past : List Entry) → Along rule past → Before (RuleSays j r) past
   along rule r said [] h = tt
   along rule r said (e ∷ past) h = (said past e h.0, along rule r said past h.1)
 
-  fits-before : (past : List Entry) → Along (FitsRule j.epc) past → AtEachPlace NoPageTwice past → Before (Says j rules.Fits) past
+  fits-before : (past : List Entry) → Along (FitsRule j.epc) past → AtEachPlace NoPageTwice past → Before (RuleSays j rules.Fits) past
   fits-before [] h pages = tt
   fits-before (e ∷ past) h pages = ((h.0, last_place NoPageTwice past pages.1), fits-before past h.1 pages.1)
 
-  stale-before : (past : List Entry) → Along StaleRule past → AtEachPlace NoneStale past → Before (Says j rules.Stale) past
+  stale-before : (past : List Entry) → Along StaleRule past → AtEachPlace NoneStale past → Before (RuleSays j rules.Stale) past
   stale-before [] h places = tt
   stale-before (e ∷ past) h places = ((h.0, last_place NoneStale past places.1), stale-before past h.1 places.1)
 
@@ -69,7 +69,7 @@ module _ (j : JobView) where
       measure = (tt, along _ rules.Measure (λ before e said. said) past h.standing.measure);
     }
 
-  kept-before : (past : List Entry) → MachineHistory j past → (r : Rule) → is_machines r ≡ true → Before (Says j r) past
+  kept-before : (past : List Entry) → MachineHistory j past → (r : Rule) → is_machines r ≡ true → Before (RuleSays j r) past
   kept-before past h rules.Refusal own = h.refusal.1
   kept-before past h rules.Flat own = h.flat.1
   kept-before past h rules.Fits own = h.fits.1

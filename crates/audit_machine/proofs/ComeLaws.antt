@@ -27,7 +27,8 @@ use Rattle.sgx_types.specs.Sealed.{Sealed}
 use Rattle.sgx_rules.specs.Slots.{version_in}
 use Rattle.sgx_rules.specs.Starts.{Start}
 use Rattle.sgx_rules.specs.inner.Starts.{BareStart, bare_start, without_place}
-use Rattle.sgx_rules.specs.Table.{first_of_row, is_loading}
+use Rattle.sgx_types.specs.Cases.{first_of_row}
+use Rattle.sgx_rules.specs.Table.{is_loading}
 use Rattle.sgx_types.proofs.Truths.{both_true, not_false, tested}
 use Rattle.seal_record.specs.Cipher.{tag}
 use Rattle.seal_record.specs.Records.{Made}

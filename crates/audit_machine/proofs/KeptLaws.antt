@@ -9,7 +9,7 @@ use Rattle.sgx_rules.specs.declared.entries.Event.TheVariants.{Did, Refused}
 use Rattle.sgx_types.specs.declared.names.Actor.{Actor}
 use Rattle.sgx_rules.specs.Rules.{NoPageTwice, NoneStale, RefusalRule}
 use Rattle.sgx_rules.specs.Sights.{row_at}
-use Rattle.sgx_rules.specs.Table.{first_of_row}
+use Rattle.sgx_types.specs.Cases.{first_of_row}
 use Rattle.sgx_rules.specs.inner.Rules.{KeepsRules}
 use Rattle.sgx_types.specs.Making.{Making}
 use Rattle.seal_record.specs.Records.{Made}
@@ -19,7 +19,7 @@ use Rattle.machine_laws.specs.inner.State.{State}
 use Rattle.machine_laws.proofs.TestLaws.{last_place}
 use Rattle.history_rules.specs.declared.rules.Rule.{Rule}
 use Rattle.history_rules.specs.declared.rules.Rule.TheVariants as rules
-use Rattle.history_rules.specs.Histories.{Says}
+use Rattle.history_rules.specs.Histories.{RuleSays}
 use Rattle.history_rules.specs.inner.Histories.{is_machines}
 use Rattle.audit_machine.specs.inner.Rivals.{KeepsMachines}
 use Rattle.audit_machine.specs.inner.Asked.{made_for}
@@ -51,7 +51,7 @@ last_kept j cpus t past e records h = record { each = last }
     keeps : KeepsRules (made_for j cpus) (e ∷ past)
     keeps = own_rules (made_for j cpus) t (e ∷ past) records h
 
-    last : (r : Rule) → is_machines r ≡ true → Says j r past (Some e)
+    last : (r : Rule) → is_machines r ≡ true → RuleSays j r past (Some e)
     last rules.Refusal its = refusal_any j cpus (length j.scripts) past e.actor e.event keeps.refusal.0
     last rules.Flat its = keeps.flat.0
     last rules.Fits its = (keeps.fits.entries.0, last_place NoPageTwice past keeps.fits.pages.1)

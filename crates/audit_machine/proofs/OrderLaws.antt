@@ -9,7 +9,7 @@ use Rattle.job_grammar.specs.Jobs.{JobView}
 use Rattle.script_rules.specs.Machines.{machine_of}
 use Rattle.history_rules.specs.declared.rules.Rule.{Rule}
 use Rattle.history_rules.specs.declared.rules.Rule.TheVariants as rules
-use Rattle.history_rules.specs.Histories.{Says, rank}
+use Rattle.history_rules.specs.Histories.{RuleSays, rank}
 use Rattle.history_rules.specs.inner.Histories.{is_machines}
 use Rattle.history_machine.specs.Histories.{FailsAmong}
 
@@ -17,25 +17,25 @@ module _ (j : JobView) (past : List Entry) (e : Entry) where
   pub refusal_fails : (RefusalRule (machine_of j) past e → ⊥) → FailsAmong is_machines j past (Some e) rules.Refusal
   refusal_fails fails = record { own = refl; earlier = before; fails = fails }
     where
-      before : (r : Rule) → is_machines r ≡ true → rank r < 1 → Says j r past (Some e)
+      before : (r : Rule) → is_machines r ≡ true → rank r < 1 → RuleSays j r past (Some e)
       before rules.Script own low = absurd cc
       before r own low = absurd (omega (arith, low))
 
-  module _ (refusal : Says j rules.Refusal past (Some e)) where
+  module _ (refusal : RuleSays j rules.Refusal past (Some e)) where
     pub flat_fails : (FlatRule past e → ⊥) → FailsAmong is_machines j past (Some e) rules.Flat
     flat_fails fails = record { own = refl; earlier = before; fails = fails }
       where
-        before : (r : Rule) → is_machines r ≡ true → rank r < 2 → Says j r past (Some e)
+        before : (r : Rule) → is_machines r ≡ true → rank r < 2 → RuleSays j r past (Some e)
         before rules.Script own low = absurd cc
         before rules.Refusal own low = refusal
         before r own low = absurd (omega (arith, low))
 
-    module _ (flat : Says j rules.Flat past (Some e)) (fits : Says j rules.Fits past (Some e))
-        (stale : Says j rules.Stale past (Some e)) where
+    module _ (flat : RuleSays j rules.Flat past (Some e)) (fits : RuleSays j rules.Fits past (Some e))
+        (stale : RuleSays j rules.Stale past (Some e)) where
       pub evict_fails : (EvictRule past e → ⊥) → FailsAmong is_machines j past (Some e) rules.Evict
       evict_fails fails = record { own = refl; earlier = before; fails = fails }
         where
-          before : (r : Rule) → is_machines r ≡ true → rank r < 5 → Says j r past (Some e)
+          before : (r : Rule) → is_machines r ≡ true → rank r < 5 → RuleSays j r past (Some e)
           before rules.Script own low = absurd cc
           before rules.Refusal own low = refusal
           before rules.Flat own low = flat
@@ -43,11 +43,11 @@ module _ (j : JobView) (past : List Entry) (e : Entry) where
           before rules.Stale own low = stale
           before r own low = absurd (omega (arith, low))
 
-      module _ (evict : Says j rules.Evict past (Some e)) where
+      module _ (evict : RuleSays j rules.Evict past (Some e)) where
         pub fresh_fails : (FreshRule j.start_version past e → ⊥) → FailsAmong is_machines j past (Some e) rules.Fresh
         fresh_fails fails = record { own = refl; earlier = before; fails = fails }
           where
-            before : (r : Rule) → is_machines r ≡ true → rank r < 6 → Says j r past (Some e)
+            before : (r : Rule) → is_machines r ≡ true → rank r < 6 → RuleSays j r past (Some e)
             before rules.Script own low = absurd cc
             before rules.Refusal own low = refusal
             before rules.Flat own low = flat
@@ -56,11 +56,11 @@ module _ (j : JobView) (past : List Entry) (e : Entry) where
             before rules.Evict own low = evict
             before r own low = absurd (omega (arith, low))
 
-        module _ (fresh : Says j rules.Fresh past (Some e)) where
+        module _ (fresh : RuleSays j rules.Fresh past (Some e)) where
           pub sealed_fails : (SealedRule j.key past e → ⊥) → FailsAmong is_machines j past (Some e) rules.Sealed
           sealed_fails fails = record { own = refl; earlier = before; fails = fails }
             where
-              before : (r : Rule) → is_machines r ≡ true → rank r < 7 → Says j r past (Some e)
+              before : (r : Rule) → is_machines r ≡ true → rank r < 7 → RuleSays j r past (Some e)
               before rules.Script own low = absurd cc
               before rules.Refusal own low = refusal
               before rules.Flat own low = flat
@@ -70,11 +70,11 @@ module _ (j : JobView) (past : List Entry) (e : Entry) where
               before rules.Fresh own low = fresh
               before r own low = absurd (omega (arith, low))
 
-          pub measure_fails : Says j rules.Sealed past (Some e) → (MeasureRule past e → ⊥)
+          pub measure_fails : RuleSays j rules.Sealed past (Some e) → (MeasureRule past e → ⊥)
               → FailsAmong is_machines j past (Some e) rules.Measure
           measure_fails sealed fails = record { own = refl; earlier = before; fails = fails }
             where
-              before : (r : Rule) → is_machines r ≡ true → rank r < 8 → Says j r past (Some e)
+              before : (r : Rule) → is_machines r ≡ true → rank r < 8 → RuleSays j r past (Some e)
               before rules.Script own low = absurd cc
               before rules.Refusal own low = refusal
               before rules.Flat own low = flat

@@ -17,7 +17,7 @@ use Rattle.sgx_rules.specs.Processors.{Stay, stay}
 use Rattle.sgx_rules.specs.Flat.{FlatMemory, accepts, flat, is_processors, is_visible}
 use Rattle.sgx_rules.specs.Rules.{FlatRule, RefusalRule}
 use Rattle.sgx_rules.specs.Sights.{row_at, sight_at, stay_of}
-use Rattle.sgx_rules.specs.Table.{first_of_row}
+use Rattle.sgx_types.specs.Cases.{first_of_row}
 use Rattle.seal_record.specs.Records.{Made}
 use Rattle.job_grammar.specs.Jobs.{JobView}
 use Rattle.sgx_types.specs.Making.{Making}

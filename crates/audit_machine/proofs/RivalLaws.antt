@@ -18,7 +18,8 @@ use Rattle.sgx_rules.specs.declared.refusals.Refusal.TheVariants as why
 use Rattle.sgx_rules.specs.Flat.{enclave_sight, flat, is_visible, settled}
 use Rattle.sgx_rules.specs.Rules.{HasForm, RefusalRule, case_of, seen_answer}
 use Rattle.sgx_rules.specs.Sights.{row_at, secs_sight_at}
-use Rattle.sgx_rules.specs.Table.{EnclaveSight, SecsSight, first_of_row, init_row}
+use Rattle.sgx_types.specs.Cases.{first_of_row}
+use Rattle.sgx_rules.specs.Table.{EnclaveSight, SecsSight, init_row}
 use Rattle.sgx_types.proofs.Truths.{tested}
 use Rattle.measure_log.specs.Rule.{IsExpected, IsOther, MeasureRule, measurement}
 use Rattle.job_grammar.specs.Jobs.{JobView}

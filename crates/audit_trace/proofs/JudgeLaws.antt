@@ -32,7 +32,7 @@ use Rattle.driver_tables.specs.declared.driver.Driver.{Driver}
 use Rattle.driver_tables.specs.inner.Held.{ShowsHolds}
 use Rattle.history_rules.specs.declared.rules.Rule.{Rule}
 use Rattle.history_rules.specs.declared.rules.Rule.TheVariants as rules
-use Rattle.history_rules.specs.Histories.{Before, FailsHere, Says}
+use Rattle.history_rules.specs.Histories.{Before, FailsHere, RuleSays}
 use Rattle.history_rules.specs.inner.Histories.{GoesOn}
 use Rattle.run_laws.proofs.EntryLaws.{is_among}
 use Rattle.due_tables.specs.inner.Due.{IsOrderly, IsReady, IsShown}
@@ -63,7 +63,7 @@ use Rattle.audit_trace.proofs.OutLaws.{all_slots, outs_shown}
 use Rattle.audit_trace.proofs.RuleLaws.{age_fails, goes_on_more, kick_fails, script_fails}
 
 -- each entry is its actor's next
-along : (j : JobView) (past : List Entry) → Before (Says j rules.Script) past → Along (ScriptRule j) past
+along : (j : JobView) (past : List Entry) → Before (RuleSays j rules.Script) past → Along (ScriptRule j) past
 along j [] h = tt
 along j (x ∷ before) h = (h.0, along j before h.1)
 

@@ -21,6 +21,7 @@ use Rattle.driver_rules.specs.Spares.{outs}
 use Rattle.driver_laws.specs.inner.Agrees.{auditors, stays}
 use Rattle.driver_laws.specs.inner.Sound.{slot_at, slot_of, slot_outside}
 use Rattle.driver_laws.proofs.AloneLaws.{free_none}
+use Rattle.driver_laws.proofs.OutLaws.{page_out as slot_out}
 use Rattle.driver_laws.proofs.RowLaws.{array_stays}
 use Rattle.driver_tables.specs.declared.driver.Driver.{Driver}
 use Rattle.driver_tables.specs.inner.Tells.{Tells}
@@ -60,33 +61,7 @@ module _ (made : Making) (j : JobView) (past : List Entry) (d : Driver) (m : Par
 
   -- a slot that a page has is out by the entries: it holds a version, or an open start names it
   page_out : (g : Page) (s : VaSlot) → slot_of past g ≡ Some s → outs j past s ≡ true
-  page_out g s at = by_place (place past g) refl at
-    where
-      by_version : (p : Place) → place past g ≡ p → slot_outside p ≡ Some s → outs j past s ≡ true
-      by_version p is outside = by_zero (version_in past s == 0) refl (a.used.filled g s (ap slot_outside is ∙ outside))
-        where
-          last : (b : Bool) → (b || true) ≡ true
-          last true = refl
-          last false = refl
-
-          by_zero : (b : Bool) → (version_in past s == 0) ≡ b → 0 < version_in past s → outs j past s ≡ true
-          by_zero false is low = rw is (last (is_slot_busy j.epc past s))
-          by_zero true is low = let none = eqb-true (version_in past s) 0 is in absurd (omega (arith, none, low))
-
-      by_start : (n : ℕ) (o : Option Start) → open_start past n ≡ o → slot_of_start o ≡ Some s → outs j past s ≡ true
-      by_start n None opened names = absurd (none-some s names)
-      by_start n (Some x) opened names =
-          let same : x.slot ≡ s = same_Some x.slot s names in
-          let busy : is_slot_busy j.epc past s ≡ true =
-          ap (is_slot_busy j.epc past) (sym same) ∙ open_busy j.epc past n x (starts_within n x opened) opened in
-          ap (λ b. b || not (version_in past s == 0)) busy
-
-      by_place : (p : Place) → place past g ≡ p → slot_at (open_start past) p ≡ Some s → outs j past s ≡ true
-      by_place (Away t) is names = by_version (Away t) is names
-      by_place (Loading n t) is names = by_version (Loading n t) is names
-      by_place (Leaving n) is names = by_start n (open_start past n) refl names
-      by_place (Here n) is names = absurd (none-some s names)
-      by_place Absent is names = absurd (none-some s names)
+  page_out g s = slot_out j past g s a.used starts_within
 
   pub outs_shown : ShowsOuts d.slots past (outs j past)
   outs_shown s other low within = by_keeper (is_out d.slots s) refl

@@ -13,7 +13,7 @@ use Rattle.machine_laws.specs.inner.State.{State}
 use Rattle.machine_laws.proofs.TestLaws.{last_place}
 use Rattle.history_rules.specs.declared.rules.Rule.{Rule}
 use Rattle.history_rules.specs.declared.rules.Rule.TheVariants as rules
-use Rattle.history_rules.specs.Histories.{Before, FailsFirst, FailsHere, History, Says, rank}
+use Rattle.history_rules.specs.Histories.{Before, FailsFirst, FailsHere, History, RuleSays, rank}
 use Rattle.history_rules.specs.inner.Histories.{GoesOn}
 use Rattle.audit_machine.specs.inner.Rivals.{KeepsMachines}
 use Rattle.audit_machine.proofs.KeptLaws.{last_kept, own_rules}
@@ -21,14 +21,14 @@ use Rattle.audit_machine.proofs.KeptLaws.{last_kept, own_rules}
 -- ---- one entry
 
 -- an entry that is not due breaks Script, and no rule is named before that
-pub script_fails : (j : JobView) (past : List Entry) (next : Option Entry) → (Says j rules.Script past next → ⊥)
+pub script_fails : (j : JobView) (past : List Entry) (next : Option Entry) → (RuleSays j rules.Script past next → ⊥)
     → FailsHere j past next rules.Script
 script_fails j past next fails = record { earlier = λ r low. absurd (omega (arith, low)); fails = fails }
 
 -- ---- of an entry that keeps each rule of the machine
 
 machines_before : (j : JobView) (past : List Entry) (e : Entry) → ScriptRule j past e → KeepsMachines j past e → (r : Rule) → rank r < 9
-    → Says j r past (Some e)
+    → RuleSays j r past (Some e)
 machines_before j past e script keeps rules.Script low = script
 machines_before j past e script keeps rules.Refusal low = keeps.each rules.Refusal refl
 machines_before j past e script keeps rules.Flat low = keeps.each rules.Flat refl
@@ -48,7 +48,7 @@ pub kick_fails : (j : JobView) (past : List Entry) (e : Entry) → ScriptRule j 
     → (KickRule j past e → ⊥) → FailsHere j past (Some e) rules.Kick
 kick_fails j past e script keeps age fails = record { earlier = before; fails = fails }
   where
-    before : (r : Rule) → rank r < 10 → Says j r past (Some e)
+    before : (r : Rule) → rank r < 10 → RuleSays j r past (Some e)
     before rules.Age low = age
     before rules.Kick low = absurd (omega (arith, low))
     before rules.Script low = script
@@ -90,7 +90,7 @@ goes_on_more j t past e records h script stands age kick =
 -- ---- a whole trace
 
 -- each rule held at each entry so far
-pub all_before : (j : JobView) (past : List Entry) → GoesOn j past → (r : Rule) → Before (Says j r) past
+pub all_before : (j : JobView) (past : List Entry) → GoesOn j past → (r : Rule) → Before (RuleSays j r) past
 all_before j past h rules.Script = h.script
 all_before j past h rules.Refusal = h.refusal.1
 all_before j past h rules.Flat = h.flat.1

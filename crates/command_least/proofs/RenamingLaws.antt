@@ -7,7 +7,7 @@ use Rattle.std.proofs.lemmas.List.{length-map, map-append}
 use Rattle.sgx_types.specs.declared.names.Page.{Page}
 use Rattle.sgx_types.specs.Pages.{same_page}
 use Rattle.sgx_types.proofs.Pages.{same_pages, same_page-refl}
-use Rattle.least_reloads.specs.Plans.{StepView, PlanView, IsStep, IsRun, IsLawful, after, has, kept, loads_of}
+use Rattle.least_reloads.specs.Plans.{StepView, PlanView, IsStep, IsRun, IsLawful, held_behind, has, kept, loads_of}
 use Rattle.least_reloads.proofs.Pages.{distinct_cons, distinct_parts, none_distinct}
 use Rattle.command_least.specs.Fewest.{IsFewest}
 use Rattle.command_least.specs.inner.Naming.{Renaming}
@@ -59,7 +59,7 @@ kept_named r (x ∷ held) step =
     ∙ ap (λ rest. cond (not (has step.out x)) (r.to x ∷ rest) rest) (kept_named r held step)
     ∙ map_cond r (not (has step.out x)) x (kept held step) (kept held step)
 
-after_named : (r : Renaming) (held : List Page) (step : StepView) → after (map r.to held) (step_named r step) ≡ map r.to (after held step)
+after_named : (r : Renaming) (held : List Page) (step : StepView) → held_behind (map r.to held) (step_named r step) ≡ map r.to (held_behind held step)
 after_named r held step =
     ap (λ rest. rest ++ map r.to step.load) (kept_named r held step) ∙ sym (map-append r.to (kept held step) step.load)
 
@@ -72,9 +72,9 @@ named_step r frames held x step is = record {
       ap (λ pages. has pages g) (kept_named r held step) ∙ has_named r (kept held step) g
       ∙ is.load_absent (r.back g) (sym (has_named r step.load g) ∙ comes);
   load_once = distinct_named r step.load is.load_once;
-  fits = let same : length (after (map r.to held) (step_named r step)) ≡ length (after held step) =
-      ap length (after_named r held step) ∙ length-map (after held step) r.to in omega (arith, same, is.fits);
-  accessed_held = ap (λ pages. has pages (r.to x)) (after_named r held step) ∙ has_to r (after held step) x ∙ is.accessed_held;
+  fits = let same : length (held_behind (map r.to held) (step_named r step)) ≡ length (held_behind held step) =
+      ap length (after_named r held step) ∙ length-map (held_behind held step) r.to in omega (arith, same, is.fits);
+  accessed_held = ap (λ pages. has pages (r.to x)) (after_named r held step) ∙ has_to r (held_behind held step) x ∙ is.accessed_held;
 }
 
 named_run : (r : Renaming) (frames : ℕ) (held accesses : List Page) (steps : List StepView) → IsRun frames held accesses steps
@@ -85,7 +85,7 @@ named_run r frames held (x ∷ accesses) [] run = run
 named_run r frames held (x ∷ accesses) (step ∷ steps) run =
     let Goes : List Page → Type 0 = λ pages. IsRun frames pages (map r.to accesses) (map (step_named r) steps) in (
       named_step r frames held x step run.0,
-      subst Goes (sym (after_named r held step)) (named_run r frames (after held step) accesses steps run.1),
+      subst Goes (sym (after_named r held step)) (named_run r frames (held_behind held step) accesses steps run.1),
     )
 
 named_loads : (r : Renaming) (steps : List StepView) → loads_of (map (step_named r) steps) ≡ loads_of steps

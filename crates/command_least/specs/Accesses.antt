@@ -43,13 +43,13 @@ accesses_of (e ∷ past) = accesses_of past ++ accessed past e.actor e.event
 
 -- ---- reloads
 
-abbrev pub is_reg : Option (Kind × Perm) → Bool
-is_reg (Some (kinds.Reg, perm)) = true
-is_reg _ = false
+abbrev pub is_reg_page : Option (Kind × Perm) → Bool
+is_reg_page (Some (kinds.Reg, perm)) = true
+is_reg_page _ = false
 
 -- a REG page is brought back
 abbrev pub brings_back : List Entry → Event → Bool
-brings_back past (Did (Eld f) (Moved page version tag)) = is_reg (added past page)
+brings_back past (Did (Eld f) (Moved page version tag)) = is_reg_page (added past page)
 brings_back past _ = false
 
 -- how many reloads of REG pages there were
@@ -60,5 +60,5 @@ made (e ∷ past) = made past + (if brings_back past e.event then 1 else 0)
 -- ---- frames
 
 -- the frames that enclaves' pages can have: those that hold neither a version array page nor an enclave's SECS
-abbrev pub frames : JobView → ℕ
-frames j = j.epc - va_pages j - length j.enclaves
+abbrev pub page_frames : JobView → ℕ
+page_frames j = j.epc - va_pages j - length j.enclaves

@@ -6,7 +6,7 @@ use Rattle.sgx_types.specs.declared.names.Page.{Page}
 use Rattle.job_grammar.specs.Jobs.{JobView}
 use Rattle.least_reloads.specs.Plans.{PlanView, IsLawful}
 use Rattle.text_words.specs.Words.{Words, line_text}
-use Rattle.command_least.specs.Accesses.{accesses_of, frames, made}
+use Rattle.command_least.specs.Accesses.{accesses_of, page_frames, made}
 
 -- some lawful plan for these accesses and frames makes so many loads, and none makes fewer
 pub record IsFewest (accesses : List Page) (frames loads : ℕ) : Type 0 where
@@ -29,5 +29,5 @@ least_text accesses frames least made = flat_map line_text (least_lines accesses
 -- the text on the trace of a job: how many accesses, how many frames, the fewest loads for these, and how many reloads were made
 pub record IsLeastText (j : JobView) (past : List Entry) (text : List ℕ) : Type 0 where
   pub least : ℕ
-  pub fewest : IsFewest (accesses_of past) (frames j) least
-  pub is : text ≡ least_text (length (accesses_of past)) (frames j) least (made past)
+  pub fewest : IsFewest (accesses_of past) (page_frames j) least
+  pub is : text ≡ least_text (length (accesses_of past)) (page_frames j) least (made past)

@@ -1,7 +1,7 @@
 //! The four numbers on a trace of a job, and the text that tells them.
 
 ghost use Rattle.std.specs.Prelude.{◌≡◌, ◌≤◌, IfOk, length, reverse};
-ghost use Rattle.command_least.specs.Accesses.{accesses_of, frames, made};
+ghost use Rattle.command_least.specs.Accesses.{accesses_of, page_frames, made};
 ghost use Rattle.command_least.specs.Fewest.{IsFewest, IsLeastText, least_text};
 
 use crate::accesses::accesses_of;
@@ -35,8 +35,8 @@ pub struct Numbers {
 /// frames there are.
 pub fn numbers_of(alloc: Global, job: &Job, entries: &[Entry]) -> Result<Numbers, Memory>
     ensures accesses { IfOk result (λ numbers. numbers.accesses ≡ length (accesses_of (reverse entries.now))) }
-    ensures frames { IfOk result (λ numbers. numbers.frames ≡ frames job.now) }
-    ensures least { IfOk result (λ numbers. IsFewest (accesses_of (reverse entries.now)) (frames job.now) numbers.least) }
+    ensures frames { IfOk result (λ numbers. numbers.frames ≡ page_frames job.now) }
+    ensures least { IfOk result (λ numbers. IsFewest (accesses_of (reverse entries.now)) (page_frames job.now) numbers.least) }
     ensures made { IfOk result (λ numbers. numbers.made ≡ made (reverse entries.now)) }
 {
     let made = made(alloc, entries)?;
@@ -52,7 +52,7 @@ pub fn numbers_of(alloc: Global, job: &Job, entries: &[Entry]) -> Result<Numbers
 
 // The job's frames, but for those of the version array pages and of the enclaves.
 fn frames(job: &Job) -> u32
-    ensures frames { result ≡ frames job.now }
+    ensures frames { result ≡ page_frames job.now }
     ensures some { 1 ≤ result }
 {
     let enclaves = job.enclaves().len() as u32;

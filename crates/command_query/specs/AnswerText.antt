@@ -11,7 +11,7 @@ use Rattle.trace_places.specs.declared.moves.Where.{Where}
 use Rattle.trace_places.specs.declared.moves.Where.TheVariants.{Nowhere, At, Loading, Sealed}
 use Rattle.trace_places.specs.Places.{place_of}
 use Rattle.trace_query.specs.declared.page_moves.Move.{Move}
-use Rattle.trace_query.specs.Moves.{before, moves}
+use Rattle.trace_query.specs.Moves.{first_entries, moves}
 use Rattle.trace_query.specs.Spans.{cachers}
 
 abbrev pub where_words : Where → Words
@@ -40,5 +40,5 @@ moves_text moves = flat_map (λ move. line_text (move_words move)) moves
 
 abbrev pub answer_text : Question → List Entry → List ℕ
 answer_text (Behind place page) past =
-    page_text (place_of (before place past) page) (cachers (before place past) page) (word (before place past) page 0)
+    page_text (place_of (first_entries place past) page) (cachers (first_entries place past) page) (word (first_entries place past) page 0)
 answer_text (Moves page) past = moves_text (moves past page)

@@ -62,11 +62,11 @@ abbrev pub is_help : List ℕ → Bool
 is_help name = bytes_eq name (codes "help") || bytes_eq name (codes "--help")
 
 -- `help` and `--help`
-abbrev pub alone : List ℕ → Option Command
-alone name = if is_help name then Some commands.Help else None
+abbrev pub help_of : List ℕ → Option Command
+help_of name = if is_help name then Some commands.Help else None
 
 abbrev pub command_in : List (List ℕ) → Option Command
-command_in (name ∷ []) = alone name
+command_in (name ∷ []) = help_of name
 command_in (name ∷ word ∷ []) = with_word name word
 command_in (name ∷ first ∷ second ∷ []) = with_size name first second
 command_in (name ∷ path ∷ letter ∷ page ∷ []) = asks_moves name path letter page

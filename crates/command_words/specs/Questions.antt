@@ -36,18 +36,18 @@ enclave_page name word = do
   own_page enclave word
 
 -- `va` and the number of a version array page, or the letter of an enclave and one of its pages
-abbrev pub page_of : List ℕ → List ℕ → Option Page
-page_of name word = if bytes_eq name (codes "va") then array_page word else enclave_page name word
+abbrev pub page_asked : List ℕ → List ℕ → Option Page
+page_asked name word = if bytes_eq name (codes "va") then array_page word else enclave_page name word
 
 abbrev pub behind_of : List ℕ → List ℕ → List ℕ → Option Command
 behind_of place letter page = do
   n ← count_of place
-  g ← page_of letter page
+  g ← page_asked letter page
   Some (Tell (Ask (Behind n g)))
 
-abbrev pub moves_of : List ℕ → List ℕ → Option Command
-moves_of letter page = do
-  g ← page_of letter page
+abbrev pub moves_asked : List ℕ → List ℕ → Option Command
+moves_asked letter page = do
+  g ← page_asked letter page
   Some (Tell (Ask (Moves g)))
 
 -- `query PATH PLACE L PAGE`, where PATH is any word that is not empty
@@ -57,4 +57,4 @@ asks_behind name path place letter page =
 
 -- `moves PATH L PAGE`
 abbrev pub asks_moves : List ℕ → List ℕ → List ℕ → List ℕ → Option Command
-asks_moves name path letter page = if bytes_eq name (codes "moves") && nat_lt 0 (length path) then moves_of letter page else None
+asks_moves name path letter page = if bytes_eq name (codes "moves") && nat_lt 0 (length path) then moves_asked letter page else None

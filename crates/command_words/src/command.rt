@@ -2,10 +2,10 @@
 
 ghost use Rattle.command_words.specs.Commands.{command_in, is_help, path_by, rounds_of, size_of, sized_by, with_path};
 ghost use Rattle.command_words.specs.Numbers.{count_of, is_digit};
-ghost use Rattle.command_words.specs.Questions.{asks_behind, asks_moves, behind_of, moves_of, number_below, own_page, page_of};
+ghost use Rattle.command_words.specs.Questions.{asks_behind, asks_moves, behind_of, moves_asked, number_below, own_page, page_asked};
 ghost use Rattle.command_words.specs.declared.command.Command.TheVariants as commands;
 ghost use Rattle.command_words.specs.inner.Commands.{IsSized};
-ghost use Rattle.command_words.specs.Commands.{alone, with_rounds, with_size, with_word};
+ghost use Rattle.command_words.specs.Commands.{help_of, with_rounds, with_size, with_word};
 ghost use Rattle.std.specs.List.{list_all};
 ghost use Rattle.std.specs.Prelude.{◌≡◌, ◌≤◌, ◌^◌, IfSome, map, string_bytes};
 
@@ -60,7 +60,7 @@ pub fn command_of(words: &[String]) -> Option<Command>
 }
 
 fn lone_command(name: &str) -> Option<Command>
-    ensures value { result ≡ alone name.now }
+    ensures value { result ≡ help_of name.now }
     ensures sized { IfSome result IsSized }
 {
     if is_help(name) {
@@ -195,7 +195,7 @@ fn moves_command(name: &str, path: &str, letter: &str, page: &str) -> Option<Com
 }
 
 fn moves(letter: &[u8], page: &[u8]) -> Option<Command>
-    ensures value { result ≡ moves_of letter.now page.now }
+    ensures value { result ≡ moves_asked letter.now page.now }
     ensures sized { IfSome result IsSized }
 {
     let page = page_of(letter, page)?;
@@ -204,7 +204,7 @@ fn moves(letter: &[u8], page: &[u8]) -> Option<Command>
 
 // The page that two words name.
 fn page_of(name: &[u8], page: &[u8]) -> Option<Page>
-    ensures { result ≡ page_of name.now page.now }
+    ensures { result ≡ page_asked name.now page.now }
 {
     if name == b"va".as_slice() {
         let number = number_below(1 << 32, page)?;

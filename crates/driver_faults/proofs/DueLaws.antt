@@ -24,8 +24,8 @@ use Rattle.sgx_rules.specs.inner.Rules.{LoadsAwayRule}
 use Rattle.sgx_types.specs.Sealed.{Sealed}
 use Rattle.sgx_rules.specs.Starts.{Start, open_start}
 use Rattle.sgx_rules.specs.inner.Starts.{is_load_of}
-use Rattle.sgx_rules.specs.Table.{first_of_row}
-use Rattle.script_rules.specs.Script.{frame_at}
+use Rattle.sgx_types.specs.Cases.{first_of_row}
+use Rattle.sgx_types.specs.Pages.{frame_at}
 use Rattle.job_grammar.specs.Jobs.{JobView}
 use Rattle.backing_store.specs.Calls.{Call}
 use Rattle.backing_store.specs.declared.backing.StoreFault.{StoreFault}

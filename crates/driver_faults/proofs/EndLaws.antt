@@ -24,7 +24,8 @@ use Rattle.sgx_types.specs.Making.{Making}
 use Rattle.sgx_types.specs.Sealed.{Sealed}
 use Rattle.sgx_rules.specs.Starts.{Start, open_start}
 use Rattle.sgx_rules.specs.inner.Starts.{BareStart}
-use Rattle.sgx_rules.specs.Table.{first_of_row, is_loading}
+use Rattle.sgx_types.specs.Cases.{first_of_row}
+use Rattle.sgx_rules.specs.Table.{is_loading}
 use Rattle.sgx_rules.proofs.Busy.{IsBareOf}
 use Rattle.job_grammar.specs.Jobs.{JobView}
 use Rattle.driver_list.specs.inner.Keeping.{Kept, keeping, kept_at, page_kept}

@@ -20,11 +20,12 @@ use Rattle.sgx_rules.specs.Frames.{added, Content, content, Free, Holds, IsLoadi
 use Rattle.sgx_types.specs.Making.{Making}
 use Rattle.sgx_rules.specs.Rules.{Along, FitsRule}
 use Rattle.sgx_rules.specs.Sights.{sight_at}
-use Rattle.sgx_rules.specs.Table.{FrameSight, LoadSight, SlotSight, eldstart_row, first_of_row, is_made, is_va}
+use Rattle.sgx_types.specs.Cases.{first_of_row}
+use Rattle.sgx_rules.specs.Table.{FrameSight, LoadSight, SlotSight, eldstart_row, is_made, is_va}
 use Rattle.sgx_rules.specs.declared.refusals.Refusal.{Refusal}
 use Rattle.sgx_rules.specs.Starts.{open_start, slot_found, slot_in}
 use Rattle.sgx_rules.specs.inner.Enclaves.{created}
-use Rattle.script_rules.specs.Script.{frame_at}
+use Rattle.sgx_types.specs.Pages.{frame_at}
 use Rattle.job_grammar.specs.Jobs.{JobView, va_pages}
 use Rattle.machine_laws.specs.inner.State.{State, is_known, load_sight, row_of, secs_sight, sight, slot_sight, version_at}
 use Rattle.machine_laws.proofs.ColumnLaws.{added_is, enclave_is, sight_is, vas_is}

@@ -9,7 +9,7 @@ use Rattle.sgx_types.specs.declared.names.Frame.{Frame}
 use Rattle.sgx_types.specs.declared.record.Header.{Header}
 use Rattle.sgx_rules.specs.declared.refusals.Refusal.{Refusal}
 use Rattle.sgx_types.specs.Sealed.{Sealed}
-use Rattle.sgx_rules.specs.Table.{first_of_row}
+use Rattle.sgx_types.specs.Cases.{first_of_row}
 use Rattle.seal_record.specs.Cipher.{tag}
 use Rattle.seal_record.specs.inner.Row.{eld_row, same_header}
 use Rattle.machine_laws.specs.inner.State.{State}

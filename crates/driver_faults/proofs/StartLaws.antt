@@ -11,7 +11,8 @@ use Rattle.sgx_types.specs.declared.names.Page.{Page}
 use Rattle.sgx_types.specs.declared.names.SlotAt.{SlotAt}
 use Rattle.sgx_types.specs.declared.names.VaSlot.{VaSlot}
 use Rattle.sgx_rules.specs.declared.refusals.Refusal.{Refusal}
-use Rattle.sgx_rules.specs.Table.{first_of_row, is_loading}
+use Rattle.sgx_types.specs.Cases.{first_of_row}
+use Rattle.sgx_rules.specs.Table.{is_loading}
 use Rattle.machine_laws.specs.inner.State.{State, after_eldstart, row_of}
 use Rattle.machine_laws.specs.inner.Steps.{IsDone, IsStep, refused_by}
 use Rattle.sgx_types.specs.Sealed.{Sealed}

@@ -9,7 +9,8 @@ use Rattle.sgx_rules.specs.declared.entries.Event.{Event}
 use Rattle.sgx_rules.specs.declared.entries.Event.TheVariants.{Age, Bus, Did, Kick, Refused}
 use Rattle.sgx_types.specs.declared.names.Page.{Page}
 use Rattle.job_grammar.specs.Jobs.{JobView}
-use Rattle.script_rules.specs.Script.{action_of, frame_at}
+use Rattle.script_rules.specs.Script.{action_of}
+use Rattle.sgx_types.specs.Pages.{frame_at}
 use Rattle.driver_rules.specs.Dues.{Asks, Due, Ends, Fetch, Fetches, Finished, IsFetch, IsNext, KicksAll, LooksAt, Makes, Reports}
 use Rattle.driver_rules.specs.Dues.{Stopped, TriesOut, Waits}
 use Rattle.driver_rules.specs.Scripts.{is_load, IsActors, ScriptRule}

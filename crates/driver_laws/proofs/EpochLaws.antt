@@ -19,7 +19,8 @@ use Rattle.sgx_types.specs.Counts.{earlier_or}
 use Rattle.sgx_rules.specs.Frames.{Content, content, Free, Holds, is_free, IsLoading, IsVa, SecsOf}
 use Rattle.sgx_rules.specs.Processors.{stay}
 use Rattle.sgx_rules.specs.Sights.{drain_sight_at, sight_at, slot_sight_at, use_sight_at}
-use Rattle.sgx_rules.specs.Table.{DrainSight, ewbstart_row, first_of_row, FrameSight, is_busy, is_out_of_range, is_own, is_va}
+use Rattle.sgx_types.specs.Cases.{first_of_row}
+use Rattle.sgx_rules.specs.Table.{DrainSight, ewbstart_row, FrameSight, is_busy, is_out_of_range, is_own, is_va}
 use Rattle.sgx_rules.specs.Table.{SlotSight, UseSight}
 use Rattle.sgx_rules.proofs.Contents.{page_enclave}
 use Rattle.sgx_types.proofs.CountLaws.{count_below-zero}

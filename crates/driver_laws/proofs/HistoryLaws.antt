@@ -34,7 +34,7 @@ use Rattle.sgx_types.specs.declared.names.TheConstants.{SECS_NUMBER}
 use Rattle.sgx_types.specs.declared.names.VaSlot.{VaSlot}
 use Rattle.sgx_types.specs.Lawful.{is_enclave, is_lawful}
 use Rattle.sgx_types.specs.Pages.{is_own_page, is_va_page, page_at, same_page, secs_page, va_page}
-use Rattle.sgx_rules.specs.Flat.{enclave_sight_of, flat, FlatEnclave, marked}
+use Rattle.sgx_rules.specs.Flat.{enclave_sight_of, flat, FlatEnclave, as_initialised}
 use Rattle.sgx_rules.specs.Frames.{added, Content, content, is_sealing, is_secs_of, IsVa, page_there, secs_frame, SecsOf, stands, vas_made}
 use Rattle.sgx_rules.specs.inner.Enclaves.{created, created_by}
 use Rattle.sgx_rules.specs.Rules.{Along, FitsRule, RefusalRule}
@@ -45,7 +45,8 @@ use Rattle.sgx_rules.specs.Starts.{open_start, slot_found, slot_in, Start}
 use Rattle.sgx_rules.specs.inner.Starts.{is_load_of}
 use Rattle.sgx_rules.specs.Table.{add_row, ewbstart_row, FrameSight, init_row, is_busy, is_va, SecsSight}
 use Rattle.job_grammar.specs.Jobs.{JobView}
-use Rattle.script_rules.specs.Script.{frame_at, is_init_of, is_initialised}
+use Rattle.script_rules.specs.Script.{is_init_of, is_initialised}
+use Rattle.sgx_types.specs.Pages.{frame_at}
 use Rattle.driver_rules.specs.Ages.{AgeOf, AgeRule, ahead_by, InPass, IsAhead}
 use Rattle.driver_rules.specs.Passes.{Aside, aside, Between, Blocking, IsGoing, IsToGo, NoneAside, Pass, pass, Scan, Tries}
 use Rattle.driver_rules.specs.Places.{Absent, Away, frame_here, Here, is_here, Leaving, Loading, Place, place}
@@ -124,7 +125,7 @@ abbrev is_ready : Option FlatEnclave → Bool
 is_ready None = false
 is_ready (Some x) = x.is_init
 
-ready_marked : (o : Option FlatEnclave) → is_some o ≡ true → is_ready (marked o) ≡ true
+ready_marked : (o : Option FlatEnclave) → is_some o ≡ true → is_ready (as_initialised o) ≡ true
 ready_marked None h = cc
 ready_marked (Some x) h = refl
 
@@ -170,7 +171,7 @@ init_ready k (e ∷ past) n refusals h = by_event e.event refusals.0 h (init_rea
         other true same apart_from k = absurd (false≢true (sym apart_from ∙ eq-eqb n enclave (sym (eqb-true enclave n same))))
         other false same apart_from k = k
 
-        by_test : (b : Bool) → (n == enclave) ≡ b → is_ready (if b then marked (created past n) else created past n) ≡ true
+        by_test : (b : Bool) → (n == enclave) ≡ b → is_ready (if b then as_initialised (created past n) else created past n) ≡ true
         by_test true same =
             ready_marked (created past n) (ap (λ m. is_some (created past m)) (eqb-true n enclave same) ∙ there)
         by_test false same = before (other (enclave == n) refl same is)

@@ -10,7 +10,7 @@ use Rattle.sgx_rules.specs.declared.entries.Entry.{Entry}
 use Rattle.sgx_rules.specs.declared.entries.Event.{Event}
 use Rattle.sgx_rules.specs.declared.entries.Event.TheVariants.{Did}
 use Rattle.sgx_rules.specs.inner.Enclaves.{created, created_by, is_there}
-use Rattle.sgx_rules.specs.Flat.{enclave_sight_of, flat, FlatEnclave, marked}
+use Rattle.sgx_rules.specs.Flat.{enclave_sight_of, flat, FlatEnclave, as_initialised}
 use Rattle.sgx_rules.specs.Rules.{Along, RefusalRule}
 use Rattle.sgx_rules.specs.Sights.{row_at, secs_sight_at}
 use Rattle.sgx_rules.specs.Table.{init_row, is_ready, SecsSight}
@@ -22,7 +22,7 @@ use Rattle.driver_laws.specs.inner.Kinds.{CanMove}
 use Rattle.driver_laws.specs.inner.Sound.{is_absent, IsSound}
 use Rattle.driver_laws.specs.inner.Inits.{InitsAreReady, InitTells}
 
-marked_ready : (o : Option FlatEnclave) → is_some o ≡ true → is_ready (enclave_sight_of (marked o)) ≡ true
+marked_ready : (o : Option FlatEnclave) → is_some o ≡ true → is_ready (enclave_sight_of (as_initialised o)) ≡ true
 marked_ready None h = cc
 marked_ready (Some x) h = refl
 
@@ -61,7 +61,7 @@ more_inits past x s can tells before = λ e is. by_event x.event can tells e is
         other false same apart h = h
 
         by_test : (b : Bool) → (e == enclave) ≡ b → ((enclave == e) || is_initialised past e) ≡ true
-            → is_ready (enclave_sight_of (if b then marked (created past e) else created past e)) ≡ true
+            → is_ready (enclave_sight_of (if b then as_initialised (created past e) else created past e)) ≡ true
         by_test true same h =
             marked_ready (created past e) (ap (λ n. is_some (created past n)) (eqb-true e enclave same) ∙ t)
         by_test false same h = before e (other (enclave == e) refl same h)

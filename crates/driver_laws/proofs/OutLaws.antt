@@ -19,11 +19,11 @@ use Rattle.driver_laws.specs.inner.Used.{SealingAreOpen, SlotsAreUsed}
 use Rattle.driver_laws.proofs.RowLaws.{array_stays}
 
 -- each open start is of a frame of the EPC
-abbrev StartsWithin : ℕ → List Entry → Type 0
+abbrev pub StartsWithin : ℕ → List Entry → Type 0
 StartsWithin frames past = (n : ℕ) (x : Start) → open_start past n ≡ Some x → n < frames
 
 -- a slot that a page has is out by the entries: it holds a version, or an open start names it
-page_out : (j : JobView) (past : List Entry) (g : Page) (s : VaSlot) → SlotsAreUsed past → StartsWithin j.epc past
+pub page_out : (j : JobView) (past : List Entry) (g : Page) (s : VaSlot) → SlotsAreUsed past → StartsWithin j.epc past
     → slot_of past g ≡ Some s → outs j past s ≡ true
 page_out j past g s u within at = by_place (place past g) refl at
   where

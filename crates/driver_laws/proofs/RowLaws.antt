@@ -18,7 +18,8 @@ use Rattle.sgx_rules.specs.Slots.{is_busy_at, is_busy_of, is_of_va, is_va_in_use
 use Rattle.sgx_rules.specs.Slots.{version_at, version_in, version_of}
 use Rattle.sgx_rules.specs.inner.Slots.{IsIdle}
 use Rattle.sgx_rules.specs.Starts.{open_start, slot_found, slot_in, Start}
-use Rattle.sgx_rules.specs.Table.{DrainSight, eldstart_row, ewbstart_row, first_of_row, FrameSight, is_busy, is_loading}
+use Rattle.sgx_types.specs.Cases.{first_of_row}
+use Rattle.sgx_rules.specs.Table.{DrainSight, eldstart_row, ewbstart_row, FrameSight, is_busy, is_loading}
 use Rattle.sgx_rules.specs.Table.{is_out_of_range, is_own, is_va, is_valid, LoadSight, SecsSight}
 use Rattle.sgx_rules.specs.declared.entries.Action.TheVariants.{Add, Create, Eld, EldStart, Epa, Ewb}
 use Rattle.sgx_rules.specs.declared.entries.Answer.TheVariants.{Moved}

@@ -23,7 +23,7 @@ use Rattle.sgx_types.specs.declared.names.SlotAt.{SlotAt}
 use Rattle.sgx_types.specs.declared.names.VaSlot.{VaSlot}
 use Rattle.sgx_rules.specs.declared.refusals.Refusal.{Refusal}
 use Rattle.sgx_rules.specs.inner.Enclaves.{created}
-use Rattle.sgx_rules.specs.Flat.{FlatEnclave, marked}
+use Rattle.sgx_rules.specs.Flat.{FlatEnclave, as_initialised}
 use Rattle.sgx_rules.specs.Table.{is_lawful_access, is_own}
 use Rattle.sgx_rules.specs.Frames.{added, Content, content, Free, Holds, is_child, is_this, IsLoading, IsVa, reloaded, SecsOf}
 use Rattle.sgx_rules.specs.Frames.{vas_made}
@@ -515,7 +515,7 @@ sound_refused past a f refusal can s = record {
 
 -- ---- an enclave is initialised
 
-still_there : (b : Bool) (o : Option FlatEnclave) → is_some (if b then marked o else o) ≡ is_some o
+still_there : (b : Bool) (o : Option FlatEnclave) → is_some (if b then as_initialised o else o) ≡ is_some o
 still_there true None = refl
 still_there true (Some x) = refl
 still_there false o = refl

@@ -11,17 +11,18 @@ use Rattle.sgx_rules.specs.declared.refusals.Refusal.{Refusal}
 use Rattle.sgx_rules.specs.Flat.{enclave_sight, flat}
 use Rattle.sgx_types.specs.Making.{Making}
 use Rattle.sgx_rules.specs.Sights.{enclave_of_stay, row_at, secs_sight_at, sight_at, stay_of}
-use Rattle.sgx_rules.specs.Table.{add_row, Case, EnclaveSight, fill_row, first_of_row, FrameSight, init_row, SecsSight}
+use Rattle.sgx_types.specs.Cases.{first_of_row}
+use Rattle.sgx_rules.specs.Table.{EnclaveSight, FrameSight, Row, SecsSight, add_row, fill_row, init_row}
 use Rattle.driver_rules.specs.Stops.{is_last_refusal}
 use Rattle.sgx_rules.specs.declared.entries.Action.TheVariants as actions
 use Rattle.sgx_rules.specs.declared.entries.Cause.TheVariants as causes
 
 -- no case of a row ends a run
-spares : List Case → Bool
+spares : Row → Bool
 spares [] = true
 spares (c ∷ cases) = not (is_last_refusal c.why) && spares cases
 
-never_last : (cases : List Case) (r : Refusal) → spares cases ≡ true → first_of_row cases ≡ Some r → is_last_refusal r ≡ false
+never_last : (cases : Row) (r : Refusal) → spares cases ≡ true → first_of_row cases ≡ Some r → is_last_refusal r ≡ false
 unfolding spares
 never_last [] r h is = cc
 never_last (c ∷ cases) r h is = by_last (is_last_refusal c.why) refl h (never_last cases r)

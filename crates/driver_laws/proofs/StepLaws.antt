@@ -14,7 +14,8 @@ use Rattle.sgx_rules.specs.declared.entries.Event.{Event}
 use Rattle.sgx_rules.specs.declared.entries.Event.TheVariants.{Age, Bus, Did, Kick, Refused}
 use Rattle.sgx_types.specs.declared.names.Page.{Page}
 use Rattle.job_grammar.specs.Jobs.{JobView}
-use Rattle.script_rules.specs.Script.{action_of, build_of, built, frame_at, is_builder, step_action, with_frame}
+use Rattle.script_rules.specs.Script.{action_of, build_of, built, is_builder, step_action, with_frame}
+use Rattle.sgx_types.specs.Pages.{frame_at}
 use Rattle.script_rules.specs.declared.steps.BuildStep.{BuildStep}
 use Rattle.driver_rules.specs.Ages.{AgeOf, AgeRuleBy, Ahead, ahead, EndsNext, GoesOn, InPass, IsAhead, Looks, TriesNext}
 use Rattle.driver_rules.specs.Dues.{Asks, Due, Ends, Fetch, Fetches, Finished, IsFetch, IsNext, KicksAll, LooksAt, Makes, makes_or}

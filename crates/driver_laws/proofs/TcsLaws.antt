@@ -27,8 +27,9 @@ use Rattle.sgx_rules.specs.Table.{is_lawful_access}
 use Rattle.job_grammar.specs.declared.jobs.Op.{Op}
 use Rattle.job_grammar.specs.Jobs.{JobView}
 use Rattle.script_rules.specs.declared.steps.BuildStep.{BuildStep}
-use Rattle.script_rules.specs.Script.{build_of, built, enter_with, frame_at, is_seated_at, is_turned_away, leaves_by, replied}
-use Rattle.script_rules.specs.Script.{resume_with, saved, saved_after, script_of, with_frame}
+use Rattle.script_rules.specs.Script.{build_of, built, enter_with, is_seated_at, is_turned_away, leaves_by, replied}
+use Rattle.sgx_types.specs.Pages.{frame_at}
+use Rattle.script_rules.specs.Script.{resume_with, saved_frames, saved_after, script_of, with_frame}
 use Rattle.driver_rules.specs.Ages.{AgeOf, AgeRuleBy, Ahead, ahead, EndsNext, GoesOn, InPass, IsAhead, Looks, TriesNext}
 use Rattle.driver_laws.specs.inner.Driven.{IsDriven}
 use Rattle.driver_rules.specs.Needs.{interrupted_by, interrupted_in, Interruption, interruption, interruption_after, needs_after}
@@ -380,7 +381,7 @@ next_no_resume (KicksAll cpus) e t tf sf answer h n = h
 -- an entry of another actor leaves the count of the page at stake
 counted : (j : JobView) (past : List Entry) (out : Outs) (e : Entry) (p : ℕ) → TcsAreApart j → ((q : ℕ) → NamesOwn j past q)
     → ScriptRule j past e → AgeRuleBy j past out e → is_by p e.actor ≡ false → (g : Page) → tcs_of j past p ≡ Some g
-    → saved (e ∷ past) g ≡ saved past g
+    → saved_frames (e ∷ past) g ≡ saved_frames past g
 counted j past out e p apart own script age other g at = by_event e.actor e.event other script.next age
   where
     mine : names_tcs j p g ≡ true
@@ -406,7 +407,7 @@ counted j past out e p apart own script age other g at = by_event e.actor e.even
         (named_due j past c.0 (own c.0)) next.1) k
 
     by_event : (a : Actor) (ev : Event) → is_by p a ≡ false → IsActors j past a ev → AgeOf j past out a ev
-        → saved_after ev (leaves_by a past g) g (saved past g) ≡ saved past g
+        → saved_after ev (leaves_by a past g) g (saved_frames past g) ≡ saved_frames past g
     by_event a (Did (actions.Aex cause) answer) k next ag = rw (by_left a k) refl
     by_event a (Did (actions.Resume n t tf sf) answer) k next ag = rw (by_resume a n t tf sf answer k next ag) refl
     by_event a _ k next ag = refl

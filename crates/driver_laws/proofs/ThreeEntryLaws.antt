@@ -21,8 +21,8 @@ use Rattle.sgx_rules.specs.Processors.{Enters, is_by, Keeps, Leaves, Move, move_
 use Rattle.job_grammar.specs.declared.jobs.Op.{Op}
 use Rattle.job_grammar.specs.declared.jobs.PageLine.{PageLine}
 use Rattle.job_grammar.specs.Jobs.{JobView, lines_at, tcs_line}
-use Rattle.script_rules.specs.Script.{action_of, interrupted_after, is_interrupted, is_reply, leaves_by, saved, saved_after}
-use Rattle.driver_rules.specs.Holds.{access_of_stay, front_to, holds, holds_by, is_among, page_in, up_to}
+use Rattle.script_rules.specs.Script.{action_of, interrupted_after, is_interrupted, is_reply, leaves_by, saved_frames, saved_after}
+use Rattle.driver_rules.specs.Holds.{access_of_stay, front_to, holds, holds_by, is_among, pages_there, up_to}
 use Rattle.driver_rules.specs.Needs.{access_page, interrupted_by, interrupted_in, Interruption, interruption, interruption_after}
 use Rattle.driver_rules.specs.Needs.{last_save, listed, next_op, next_save}
 use Rattle.driver_rules.specs.Places.{is_here, place}
@@ -101,7 +101,7 @@ away_among past (x ∷ xs) g h = by_test (is_here (place past x)) h (away_among 
 
 -- they are by the stay, the interruption, the operation and the count of the TCS page alone
 three_same : (j : JobView) (past now : List Entry) (s : Option Stay) (i : Option Interruption) (op : Option Op)
-    → ((g : Page) → tcs_by s i op ≡ Some g → saved now g ≡ saved past g) → three_by j now s i op ≡ three_by j past s i op
+    → ((g : Page) → tcs_by s i op ≡ Some g → saved_frames now g ≡ saved_frames past g) → three_by j now s i op ≡ three_by j past s i op
 three_same j past now s i None h = refl
 three_same j past now (Some s) i (Some op) h =
     ap (λ n. pages_by j s.seat.enclave s.seat.tcs (n + 1) op) (h (page_at s.seat.enclave s.seat.tcs) refl)
@@ -184,7 +184,7 @@ other_stay Keeps past s = refl
 
 -- another actor's entry that leaves the count of the TCS page leaves the three
 pub three_others : (j : JobView) (past : List Entry) (e : Entry) (p : ℕ) → is_by p e.actor ≡ false
-    → ((g : Page) → tcs_of j past p ≡ Some g → saved (e ∷ past) g ≡ saved past g) → HoldsThree j past p → HoldsThree j (e ∷ past) p
+    → ((g : Page) → tcs_of j past p ≡ Some g → saved_frames (e ∷ past) g ≡ saved_frames past g) → HoldsThree j past p → HoldsThree j (e ∷ past) p
 three_others j past e p other counted h =
     three_held j (e ∷ past) p
     (subst (λ pages. AreHeld (e ∷ past) pages (three j (e ∷ past) p)) (sym held)
@@ -286,7 +286,7 @@ three_still : (j : JobView) (past : List Entry) (c : Cpu) (ev : Event) → IsSti
     → three j (own_past past c ev) c.0 ≡ three j past c.0
 three_still j past c ev still k =
     rw (stays, breaks, own_next j past c ev k) (three_same j past (own_past past c ev) (stay past c.0) (interruption past c.0)
-    (next_op j past c.0) (λ g named. still.counts (leaves_by (actors.Cpu c) past g) g (saved past g)))
+    (next_op j past c.0) (λ g named. still.counts (leaves_by (actors.Cpu c) past g) g (saved_frames past g)))
   where
     stays : stay (own_past past c ev) c.0 ≡ stay past c.0
     stays = ap (λ m. stay_after m (c.0 == c.0) past (stay past c.0)) still.moves
@@ -324,7 +324,7 @@ three_left j past c cause answer s for_page system k inside =
         (record { enclave = s.seat.enclave; tcs = s.seat.tcs; for_page = for_page })
     broken = rw (own_is c.0, system (stay past c.0), inside) refl
 
-    counted : saved (own_past past c (left cause answer)) (page_at s.seat.enclave s.seat.tcs) ≡ saved past
+    counted : saved_frames (own_past past c (left cause answer)) (page_at s.seat.enclave s.seat.tcs) ≡ saved_frames past
         (page_at s.seat.enclave s.seat.tcs) + 1
     counted = rw (inside, same_page-refl (page_at s.seat.enclave s.seat.tcs)) refl
 
@@ -347,7 +347,7 @@ access_in j past s i (Some o) = λ g k.
     (behind_in (listed (last_save s.seat.enclave n line)) (listed (access_page s.seat.enclave (Some o))) g k)
   where
     n : ℕ
-    n = saved past (page_at s.seat.enclave s.seat.tcs) + 1
+    n = saved_frames past (page_at s.seat.enclave s.seat.tcs) + 1
 
     line : Option PageLine
     line = tcs_line (lines_at j.enclaves s.seat.enclave) s.seat.tcs
@@ -396,7 +396,7 @@ own_end j past c answer h done =
 -- ---- resumptions
 
 pub page_in_among : (content : Content) (g : Page) (zs : List Page) → stands content g ≡ true → is_among zs g ≡ true
-    → AreAmong (page_in content) zs
+    → AreAmong (pages_there content) zs
 page_in_among (Holds page kind perm) g zs held there x k =
     or_true (same_page page x) false (is_among zs x ≡ true) k
     (λ m. subst (λ y. is_among zs y ≡ true) (sym (same_pages page g held) ∙ same_pages page x m) there) (λ m. absurd (false≢true m))
@@ -429,16 +429,16 @@ resumed i tf sf answer = Did (actions.Resume i.enclave i.tcs tf sf) answer
 
 pub own_resume : (j : JobView) (past : List Entry) (c : Cpu) (i : Interruption) (tf sf : Frame) (answer : Answer) (op : Op)
     → HoldsThree j past c.0 → stay past c.0 ≡ None → interruption past c.0 ≡ Some i → next_op j past c.0 ≡ Some op
-    → AreAmong (page_in (content past sf.0)) (three j past c.0) → HoldsThree j (own_past past c (resumed i tf sf answer)) c.0
+    → AreAmong (pages_there (content past sf.0)) (three j past c.0) → HoldsThree j (own_past past c (resumed i tf sf answer)) c.0
 own_resume j past c i tf sf answer op h outside broken next used =
     own_more j past c (resumed i tf sf answer) h quiet longer
-    (among_held (own_past past c (resumed i tf sf answer)) (page_at i.enclave i.tcs ∷ page_in (content past sf.0))
+    (among_held (own_past past c (resumed i tf sf answer)) (page_at i.enclave i.tcs ∷ pages_there (content past sf.0))
     (three j (own_past past c (resumed i tf sf answer)) c.0) (λ g among. longer g (new g among))) refl
   where
     quiet : is_reply (is_interrupted past c.0) (resumed i tf sf answer) ≡ false
     quiet = ap not (h.interrupted ∙ ap is_some broken)
 
-    now : three j past c.0 ≡ pages_by j i.enclave i.tcs (saved past (page_at i.enclave i.tcs)) op
+    now : three j past c.0 ≡ pages_by j i.enclave i.tcs (saved_frames past (page_at i.enclave i.tcs)) op
     now = rw (outside, broken, next) refl
 
     tcs_in : is_among (three j past c.0) (page_at i.enclave i.tcs) ≡ true
@@ -446,13 +446,13 @@ own_resume j past c i tf sf answer op h outside broken next used =
         subst (λ pages. is_among pages (page_at i.enclave i.tcs) ≡ true) (sym now)
         (or_left (same_page (page_at i.enclave i.tcs) (page_at i.enclave i.tcs)) _ (same_page-refl (page_at i.enclave i.tcs)))
 
-    new : AreAmong (page_at i.enclave i.tcs ∷ page_in (content past sf.0)) (three j past c.0)
+    new : AreAmong (page_at i.enclave i.tcs ∷ pages_there (content past sf.0)) (three j past c.0)
     new g among =
-        or_true (same_page (page_at i.enclave i.tcs) g) (is_among (page_in (content past sf.0)) g)
+        or_true (same_page (page_at i.enclave i.tcs) g) (is_among (pages_there (content past sf.0)) g)
         (is_among (three j past c.0) g ≡ true) among
         (λ k. subst (λ y. is_among (three j past c.0) y ≡ true) (same_pages (page_at i.enclave i.tcs) g k) tcs_in) (used g)
 
-    counted : saved (own_past past c (resumed i tf sf answer)) (page_at i.enclave i.tcs) ≡ saved past (page_at i.enclave i.tcs) - 1
+    counted : saved_frames (own_past past c (resumed i tf sf answer)) (page_at i.enclave i.tcs) ≡ saved_frames past (page_at i.enclave i.tcs) - 1
     counted = rw (same_page-refl (page_at i.enclave i.tcs)) refl
 
     inside : stay (own_past past c (resumed i tf sf answer)) c.0 ≡ Some
@@ -460,10 +460,10 @@ own_resume j past c i tf sf answer op h outside broken next used =
     inside = rw (own_is c.0) refl
 
     behind : three j (own_past past c (resumed i tf sf answer)) c.0 ≡ pages_by j i.enclave i.tcs
-        (saved past (page_at i.enclave i.tcs) - 1 + 1) op
+        (saved_frames past (page_at i.enclave i.tcs) - 1 + 1) op
     behind = rw (inside, own_next j past c (resumed i tf sf answer) quiet, next) (ap (λ n. pages_by j i.enclave i.tcs (n + 1) op) counted)
 
     longer : AreAmong (three j past c.0) (three j (own_past past c (resumed i tf sf answer)) c.0)
     longer g among =
-        subst (λ pages. is_among pages g ≡ true) (sym behind) (pages_less j i.enclave i.tcs (saved past (page_at i.enclave i.tcs)) op g
+        subst (λ pages. is_among pages g ≡ true) (sym behind) (pages_less j i.enclave i.tcs (saved_frames past (page_at i.enclave i.tcs)) op g
         (subst (λ pages. is_among pages g ≡ true) now among))

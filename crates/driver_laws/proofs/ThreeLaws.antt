@@ -22,9 +22,10 @@ use Rattle.sgx_rules.specs.Processors.{holds_number, Stay, stay, translations}
 use Rattle.sgx_rules.specs.Table.{is_lawful_access}
 use Rattle.job_grammar.specs.declared.jobs.Op.{Op}
 use Rattle.job_grammar.specs.Jobs.{JobView, lines_at, tcs_line}
-use Rattle.script_rules.specs.Script.{action_of, enter_with, frame_at, is_interrupted, is_reply, is_reply_action, is_turned_away}
-use Rattle.script_rules.specs.Script.{resume_with, saved}
-use Rattle.driver_rules.specs.Holds.{access_of_stay, brought_with, holds_by, is_among, page_in, page_of_stay, those_here, up_to}
+use Rattle.script_rules.specs.Script.{action_of, enter_with, is_interrupted, is_reply, is_reply_action, is_turned_away}
+use Rattle.sgx_types.specs.Pages.{frame_at}
+use Rattle.script_rules.specs.Script.{resume_with, saved_frames}
+use Rattle.driver_rules.specs.Holds.{access_of_stay, brought_with, holds_by, is_among, pages_there, page_of_stay, those_here, up_to}
 use Rattle.driver_rules.specs.Needs.{access_page, Interruption, interruption, last_save, listed, needs, needs_after, needs_of}
 use Rattle.driver_rules.specs.Needs.{needs_to_enter, needs_to_resume, next_op, save_to_enter, save_to_resume}
 use Rattle.driver_rules.specs.Places.{Absent, Away, frame_here, Here, is_here, Leaving, Loading, Place, place}
@@ -128,14 +129,14 @@ needs_in j past p op (Some i) broken next =
 
     by_page : (b : Bool)
         → AreAmong (needs_to_resume j past i.enclave i.tcs ++ (if b then listed (access_page i.enclave (Some op)) else []))
-        (pages_by j i.enclave i.tcs (saved past (page_at i.enclave i.tcs)) op)
-    by_page true = all_refl (pages_by j i.enclave i.tcs (saved past (page_at i.enclave i.tcs)) op)
+        (pages_by j i.enclave i.tcs (saved_frames past (page_at i.enclave i.tcs)) op)
+    by_page true = all_refl (pages_by j i.enclave i.tcs (saved_frames past (page_at i.enclave i.tcs)) op)
     by_page false =
-        all_append (needs_to_resume j past i.enclave i.tcs) [] (pages_by j i.enclave i.tcs (saved past (page_at i.enclave i.tcs)) op)
+        all_append (needs_to_resume j past i.enclave i.tcs) [] (pages_by j i.enclave i.tcs (saved_frames past (page_at i.enclave i.tcs)) op)
         (more_among (page_at i.enclave i.tcs) (listed (save_to_resume j past i.enclave i.tcs))
         (listed (save_to_resume j past i.enclave i.tcs) ++ listed (access_page i.enclave (Some op)))
         (listed_in (save_to_resume j past i.enclave i.tcs) (listed (access_page i.enclave (Some op)))))
-        (none_among (pages_by j i.enclave i.tcs (saved past (page_at i.enclave i.tcs)) op))
+        (none_among (pages_by j i.enclave i.tcs (saved_frames past (page_at i.enclave i.tcs)) op))
 
 -- a version array page that is outside was made, and is not the first
 later_array : (past : List Entry) (g : Page) (slot : VaSlot) → IsSound past → place past g ≡ Away slot → is_va_page g ≡ true
@@ -274,13 +275,13 @@ here_holds past g f s here = s.places.frames g f ∙ stands_there (place past g)
 
 good_resume : (j : JobView) (past : List Entry) (c : Cpu) (why : Why) (i : Interruption) (op : Op) (tf sf : Option ℕ)
     → HoldsThree j past c.0 → stay past c.0 ≡ None → interruption past c.0 ≡ Some i → next_op j past c.0 ≡ Some op
-    → ((f : ℕ) → sf ≡ Some f → AreAmong (page_in (content past f)) (three j past c.0))
+    → ((f : ℕ) → sf ≡ Some f → AreAmong (pages_there (content past f)) (three j past c.0))
     → Good j past c (makes_or why (resume_with i.enclave i.tcs tf sf))
 good_resume j past c why i op (Some tf) (Some sf) h outside broken next used =
     good_makes j past c (actions.Resume i.enclave i.tcs (frame_at tf) (frame_at sf)) h
     (λ answer r. own_resume j past c i (frame_at tf) (frame_at sf) answer op h outside broken next (used sf refl)) (λ r. new)
   where
-    now : three j past c.0 ≡ pages_by j i.enclave i.tcs (saved past (page_at i.enclave i.tcs)) op
+    now : three j past c.0 ≡ pages_by j i.enclave i.tcs (saved_frames past (page_at i.enclave i.tcs)) op
     now = rw (outside, broken, next) refl
 
     tcs_in : is_among (three j past c.0) (page_at i.enclave i.tcs) ≡ true
@@ -288,9 +289,9 @@ good_resume j past c why i op (Some tf) (Some sf) h outside broken next used =
         subst (λ pages. is_among pages (page_at i.enclave i.tcs) ≡ true) (sym now)
         (or_left (same_page (page_at i.enclave i.tcs) (page_at i.enclave i.tcs)) _ (same_page-refl (page_at i.enclave i.tcs)))
 
-    new : AreAmong (page_at i.enclave i.tcs ∷ page_in (content past sf)) (three j past c.0)
+    new : AreAmong (page_at i.enclave i.tcs ∷ pages_there (content past sf)) (three j past c.0)
     new g among =
-        or_true (same_page (page_at i.enclave i.tcs) g) (is_among (page_in (content past sf)) g)
+        or_true (same_page (page_at i.enclave i.tcs) g) (is_among (pages_there (content past sf)) g)
         (is_among (three j past c.0) g ≡ true) among
         (λ k. subst (λ y. is_among (three j past c.0) y ≡ true) (same_pages (page_at i.enclave i.tcs) g k) tcs_in) (used sf refl g)
 good_resume j past c why i op (Some tf) None h outside broken next used = good_waits j past c why
@@ -300,18 +301,18 @@ good_resume j past c why i op None sf h outside broken next used = good_waits j 
 save_used : (j : JobView) (past : List Entry) (c : Cpu) (i : Interruption) (op : Op) → IsSound past → stay past c.0 ≡ None
     → interruption past c.0 ≡ Some i → next_op j past c.0 ≡ Some op
     → (f : ℕ) → save_frame past (page_at i.enclave i.tcs) (save_to_resume j past i.enclave i.tcs) ≡ Some f
-    → AreAmong (page_in (content past f)) (three j past c.0)
+    → AreAmong (pages_there (content past f)) (three j past c.0)
 save_used j past c i op s outside broken next f at = by_save (save_to_resume j past i.enclave i.tcs) refl at
   where
-    now : three j past c.0 ≡ pages_by j i.enclave i.tcs (saved past (page_at i.enclave i.tcs)) op
+    now : three j past c.0 ≡ pages_by j i.enclave i.tcs (saved_frames past (page_at i.enclave i.tcs)) op
     now = rw (outside, broken, next) refl
 
-    in_three : (g : Page) → is_among (pages_by j i.enclave i.tcs (saved past (page_at i.enclave i.tcs)) op) g ≡ true
+    in_three : (g : Page) → is_among (pages_by j i.enclave i.tcs (saved_frames past (page_at i.enclave i.tcs)) op) g ≡ true
         → is_among (three j past c.0) g ≡ true
     in_three g k = subst (λ pages. is_among pages g ≡ true) (sym now) k
 
     by_save : (o : Option Page) → save_to_resume j past i.enclave i.tcs ≡ o → save_frame past (page_at i.enclave i.tcs) o ≡ Some f
-        → AreAmong (page_in (content past f)) (three j past c.0)
+        → AreAmong (pages_there (content past f)) (three j past c.0)
     by_save None is k =
         page_in_among (content past f) (page_at i.enclave i.tcs) (three j past c.0) (here_holds past (page_at i.enclave i.tcs) f s k)
         (in_three (page_at i.enclave i.tcs) (or_left (same_page (page_at i.enclave i.tcs) (page_at i.enclave i.tcs)) _
@@ -510,10 +511,10 @@ three_most j past p = by_state (stay past p) (interruption past p) (next_op j pa
     by_state : (s : Option Stay) (i : Option Interruption) (op : Option Op) → length (three_by j past s i op) ≤ 3
     by_state s i None = omega arith
     by_state (Some s) i (Some op) =
-        by_two (page_at s.seat.enclave s.seat.tcs) (last_save s.seat.enclave (saved past (page_at s.seat.enclave s.seat.tcs) + 1)
+        by_two (page_at s.seat.enclave s.seat.tcs) (last_save s.seat.enclave (saved_frames past (page_at s.seat.enclave s.seat.tcs) + 1)
         (tcs_line (lines_at j.enclaves s.seat.enclave) s.seat.tcs)) (access_page s.seat.enclave (Some op))
     by_state None (Some i) (Some op) =
-        by_two (page_at i.enclave i.tcs) (last_save i.enclave (saved past (page_at i.enclave i.tcs))
+        by_two (page_at i.enclave i.tcs) (last_save i.enclave (saved_frames past (page_at i.enclave i.tcs))
         (tcs_line (lines_at j.enclaves i.enclave) i.tcs)) (access_page i.enclave (Some op))
     by_state None None (Some (ops.Enter e t)) = by_one (page_at e t) (save_to_enter j past e t)
     by_state None None (Some (ops.Resume e t)) = by_one (page_at e t) (save_to_resume j past e t)

@@ -22,7 +22,8 @@ use Rattle.sgx_rules.specs.Frames.{is_free, vas_made}
 use Rattle.sgx_rules.specs.Rules.{RefusalRule}
 use Rattle.sgx_rules.specs.Sights.{drain_sight_at, sight_at, slot_sight_at, use_sight_at}
 use Rattle.sgx_rules.specs.Slots.{open_slot}
-use Rattle.sgx_rules.specs.Table.{DrainSight, FrameSight, SlotSight, UseSight, ewbstart_row, first_of_row, is_busy, is_out_of_range, is_own}
+use Rattle.sgx_types.specs.Cases.{first_of_row}
+use Rattle.sgx_rules.specs.Table.{DrainSight, FrameSight, SlotSight, UseSight, ewbstart_row, is_busy, is_out_of_range, is_own}
 use Rattle.sgx_rules.specs.Table.{is_va}
 use Rattle.job_grammar.specs.Jobs.{JobView}
 use Rattle.sgx_machine.specs.inner.Parts.{Parts}

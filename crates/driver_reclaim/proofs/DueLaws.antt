@@ -17,7 +17,7 @@ use Rattle.epcm_entry.specs.inner.EntryView.{is_free}
 use Rattle.epcm_entry.specs.inner.Epc.{EpcFrame, free_frame, is_free_frame}
 use Rattle.epcm_entry.specs.inner.Sights.{held}
 use Rattle.job_grammar.specs.Jobs.{JobView}
-use Rattle.script_rules.specs.Script.{frame_at}
+use Rattle.sgx_types.specs.Pages.{frame_at}
 use Rattle.machine_laws.proofs.ColumnLaws.{content_is}
 use Rattle.machine_laws.specs.inner.Columns.{HasColumns}
 use Rattle.machine_laws.specs.inner.State.{version_at}

@@ -28,7 +28,7 @@ use Rattle.sgx_rules.specs.Frames.{content, is_blocked, is_this, page_there, vas
 use Rattle.sgx_rules.specs.Slots.{next_version}
 use Rattle.sgx_rules.specs.Table as table
 use Rattle.job_grammar.specs.Jobs.{JobView}
-use Rattle.script_rules.specs.Script.{frame_at}
+use Rattle.sgx_types.specs.Pages.{frame_at}
 use Rattle.driver_slots.specs.inner.Keeper.{AllOut, is_ours}
 use Rattle.sgx_machine.specs.inner.Parts.{Parts, state_of}
 use Rattle.driver_rules.specs.Ages as ages

@@ -31,10 +31,11 @@ use Rattle.sgx_rules.specs.Slots.{names_slot, next_version, version_in}
 use Rattle.sgx_rules.specs.Slots.{slot_of as slot_of_start}
 use Rattle.sgx_rules.specs.Starts.{open_start, Start}
 use Rattle.sgx_rules.specs.Table as table
-use Rattle.sgx_rules.specs.Table.{block_row, DrainSight, ewbstart_row, first_of_row, FrameSight, is_busy, is_loading, SlotSight}
+use Rattle.sgx_types.specs.Cases.{first_of_row}
+use Rattle.sgx_rules.specs.Table.{block_row, DrainSight, ewbstart_row, FrameSight, is_busy, is_loading, SlotSight}
 use Rattle.sgx_rules.specs.Table.{track_row, TrackSight, UseSight}
 use Rattle.job_grammar.specs.Jobs.{JobView, va_pages}
-use Rattle.script_rules.specs.Script.{frame_at}
+use Rattle.sgx_types.specs.Pages.{frame_at}
 use Rattle.driver_slots.specs.inner.Keeper.{is_ours, is_out, va_slot}
 use Rattle.machine_laws.proofs.ColumnLaws.{added_is, epoch_is, next_version_is, sight_is}
 use Rattle.machine_laws.proofs.MoveSights.{secs_sees}

@@ -30,7 +30,7 @@ use Rattle.sgx_rules.specs.Slots.{slot_of as slot_of_start}
 use Rattle.sgx_rules.specs.Starts.{open_start, slot_found, slot_in, Start}
 use Rattle.sgx_rules.specs.Table.{is_va, SlotSight}
 use Rattle.job_grammar.specs.Jobs.{JobView}
-use Rattle.script_rules.specs.Script.{frame_at}
+use Rattle.sgx_types.specs.Pages.{frame_at}
 use Rattle.machine_laws.proofs.ColumnLaws.{blocked_is, content_is, epoch_is}
 use Rattle.machine_laws.proofs.ShapeLaws.{drained_by, noting_agrees}
 use Rattle.machine_laws.specs.inner.Columns.{HasColumns}

@@ -16,7 +16,7 @@ use Rattle.sgx_rules.specs.Rules.{Along}
 use Rattle.sgx_rules.specs.Starts.{open_start}
 use Rattle.backing_store.specs.Calls.{Call}
 use Rattle.job_grammar.specs.Jobs.{JobView}
-use Rattle.script_rules.specs.Script.{frame_at}
+use Rattle.sgx_types.specs.Pages.{frame_at}
 use Rattle.driver_slots.specs.inner.Keeper.{count_out}
 use Rattle.machine_laws.proofs.ColumnLaws.{content_is}
 use Rattle.machine_laws.proofs.SlotLaws.{started_as}

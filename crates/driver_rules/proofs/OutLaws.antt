@@ -16,8 +16,10 @@ use Rattle.sgx_types.specs.Making.{Making}
 use Rattle.sgx_rules.specs.Rules.{Along, RefusalRule}
 use Rattle.sgx_rules.specs.Sights.{drain_sight_at, row_at, sight_at, slot_sight_at, use_sight_at}
 use Rattle.sgx_rules.specs.Slots.{is_slot_busy, next_version, version_at, version_in, version_of}
-use Rattle.sgx_rules.specs.Table.{allowed, Case, DrainSight, ewbstart_row, first_of_row, FrameSight, is_busy, is_out_of_range, is_own}
-use Rattle.sgx_rules.specs.Table.{is_va, SlotSight, UseSight, when, ◌otherwise◌}
+use Rattle.sgx_types.specs.Cases.{allowed, first_of_row}
+use Rattle.sgx_rules.specs.Table.{DrainSight, FrameSight, Row, ewbstart_row, is_busy, is_out_of_range, is_own}
+use Rattle.sgx_types.specs.Cases.{when, ◌otherwise◌}
+use Rattle.sgx_rules.specs.Table.{is_va, SlotSight, UseSight}
 use Rattle.job_grammar.specs.Jobs.{JobView}
 use Rattle.driver_rules.specs.Ages.{AgeRule, AgeRuleBy, KeptAgeRule}
 use Rattle.driver_rules.specs.inner.Slotted.{has_occupied, is_occupied, NamesFree, SlotRule, SlotTells}
@@ -26,7 +28,7 @@ use Rattle.sgx_rules.specs.declared.refusals.Refusal.TheVariants as why
 
 -- ---- a slot that is in use has a version
 
-next_case : (b : Bool) (first refusal : Refusal) (rest : List Case) → (first ≡ refusal → ⊥)
+next_case : (b : Bool) (first refusal : Refusal) (rest : Row) → (first ≡ refusal → ⊥)
     → first_of_row ((when b first) otherwise rest) ≡ Some refusal → first_of_row rest ≡ Some refusal
 next_case true first refusal rest other is = absurd (other (told is))
   where
@@ -50,26 +52,26 @@ version_there s uses slot drain spent version is =
     refusal : Refusal
     refusal = why.SlotOccupied version
 
-    behind_track : List Case
+    behind_track : Row
     behind_track = (when (not (slot.version == 0)) (why.SlotOccupied slot.version)) otherwise
         (when spent why.VersionSpent) otherwise allowed
 
-    behind_block : List Case
+    behind_block : Row
     behind_block = (when (is_own s.content && not drain.is_drained) (why.NotTracked drain.epoch drain.kept_back)) otherwise behind_track
 
-    behind_children : List Case
+    behind_children : Row
     behind_children = (when (is_own s.content && not s.is_blocked) why.PageNotBlocked) otherwise behind_block
 
-    behind_kind : List Case
+    behind_kind : Row
     behind_kind = (when (not (uses.children == 0)) (why.ChildPresent uses.children)) otherwise behind_children
 
-    behind_free : List Case
+    behind_free : Row
     behind_free = (when (not (is_va slot.frame.content) || uses.is_its_own) why.BadKind) otherwise behind_kind
 
-    behind_busy : List Case
+    behind_busy : Row
     behind_busy = (when (is_free s.content) why.PgInvld) otherwise behind_free
 
-    behind_range : List Case
+    behind_range : Row
     behind_range = (when (is_busy s || slot.is_busy || uses.is_in_use) why.Conflict) otherwise behind_busy
 
     by_version : (b : Bool) → (slot.version == 0) ≡ b → first_of_row ((when (not b) (why.SlotOccupied slot.version)) otherwise

@@ -16,7 +16,8 @@ use Rattle.sgx_types.specs.declared.names.SlotAt.{SlotAt}
 use Rattle.sgx_types.specs.Pages.{is_own_page, is_secs_page, secs_page, va_page}
 use Rattle.sgx_rules.specs.Frames.{vas_made}
 use Rattle.job_grammar.specs.Jobs.{JobView}
-use Rattle.script_rules.specs.Script.{action_of, frame_at}
+use Rattle.script_rules.specs.Script.{action_of}
+use Rattle.sgx_types.specs.Pages.{frame_at}
 use Rattle.driver_rules.specs.declared.waits.Why.{Why}
 use Rattle.driver_rules.specs.Ages.{AgeRuleBy, ahead_by, FormOf, FormUnless, head_of, InForm, InPass, IsAhead, IsEndAhead, IsInTries}
 use Rattle.driver_rules.specs.Ages.{IsKickOrTry, IsLastTry, IsLookAhead, IsLookAt, IsTry, IsTryAhead, KickRule, LookOf}

@@ -13,7 +13,7 @@ use Rattle.sgx_types.specs.declared.names.SlotAt.{SlotAt}
 use Rattle.sgx_types.specs.Counts.{any_below, count_below}
 use Rattle.sgx_types.specs.Pages.{no_perm, page_at, secs_page, va_page}
 use Rattle.job_grammar.specs.Jobs.{JobView}
-use Rattle.script_rules.specs.Script.{frame_at}
+use Rattle.sgx_types.specs.Pages.{frame_at}
 use Rattle.driver_rules.specs.inner.Decided.{keeps_age, keeps_kick, keeps_script}
 use Rattle.driver_rules.specs.Dues.{Asks, Fetches, LooksAt, TriesOut}
 use Rattle.driver_rules.specs.Places.{place}

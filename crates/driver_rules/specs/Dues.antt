@@ -7,7 +7,8 @@ use Rattle.sgx_rules.specs.declared.entries.BusWhy.{BusWhy}
 use Rattle.sgx_rules.specs.declared.entries.Look.{Look}
 use Rattle.sgx_types.specs.declared.names.Page.{Page}
 use Rattle.sgx_types.specs.declared.names.SlotAt.{SlotAt}
-use Rattle.script_rules.specs.Script.{action_of, frame_at}
+use Rattle.script_rules.specs.Script.{action_of}
+use Rattle.sgx_types.specs.Pages.{frame_at}
 use Rattle.driver_rules.specs.declared.waits.Why.{Why}
 use Rattle.sgx_rules.specs.declared.entries.Action.TheVariants as actions
 use Rattle.sgx_rules.specs.declared.entries.BusWhy.TheVariants as reasons

@@ -40,8 +40,8 @@ abbrev pub brought_with : List Entry → Page → List Page → List Page
 brought_with past g pages =
     if is_own_page g then up_to g pages else those_here past pages ++ (if is_va_page g then g ∷ [] else [])
 
-abbrev pub page_in : Content → List Page
-page_in c = option_to_list (page_of c)
+abbrev pub pages_there : Content → List Page
+pages_there c = option_to_list (page_of c)
 
 abbrev pub page_of_stay : Option Stay → ℕ → List Page
 page_of_stay None number = []
@@ -57,7 +57,7 @@ abbrev pub holds_by : JobView → List Entry → ℕ → Option Action → List 
 holds_by j past p (Some (Fill number f)) = page_of_stay (stay past p) number
 holds_by j past p (Some (Aex causes.Fault)) = access_of_stay j past p (stay past p)
 holds_by j past p (Some (EldStart f page slot)) = brought_with past page (needs j past p)
-holds_by j past p (Some (Resume enclave tcs tf sf)) = page_at enclave tcs ∷ page_in (content past sf.0)
+holds_by j past p (Some (Resume enclave tcs tf sf)) = page_at enclave tcs ∷ pages_there (content past sf.0)
 holds_by j past p _ = []
 
 abbrev pub holds_after : JobView → List Entry → Entry → ℕ → List Page → List Page

@@ -16,7 +16,7 @@ use Rattle.job_grammar.specs.declared.jobs.Op.TheVariants as ops
 use Rattle.job_grammar.specs.declared.jobs.PageLine.{PageLine}
 use Rattle.job_grammar.specs.declared.jobs.PageLine.TheVariants as lines
 use Rattle.job_grammar.specs.Jobs.{JobView, lines_at, tcs_line}
-use Rattle.script_rules.specs.Script.{replied, saved, script_of}
+use Rattle.script_rules.specs.Script.{replied, saved_frames, script_of}
 
 -- ---- interruptions
 
@@ -76,10 +76,10 @@ last_save enclave n (Some (lines.Tcs page ossa nssa plain)) = if n == 0 then Non
 last_save enclave n _ = None
 
 abbrev pub save_to_enter : JobView → List Entry → ℕ → ℕ → Option Page
-save_to_enter j past enclave tcs = next_save enclave (saved past (page_at enclave tcs)) (tcs_line (lines_at j.enclaves enclave) tcs)
+save_to_enter j past enclave tcs = next_save enclave (saved_frames past (page_at enclave tcs)) (tcs_line (lines_at j.enclaves enclave) tcs)
 
 abbrev pub save_to_resume : JobView → List Entry → ℕ → ℕ → Option Page
-save_to_resume j past enclave tcs = last_save enclave (saved past (page_at enclave tcs)) (tcs_line (lines_at j.enclaves enclave) tcs)
+save_to_resume j past enclave tcs = last_save enclave (saved_frames past (page_at enclave tcs)) (tcs_line (lines_at j.enclaves enclave) tcs)
 
 -- ---- needs
 

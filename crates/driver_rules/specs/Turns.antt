@@ -19,7 +19,8 @@ use Rattle.sgx_rules.specs.Table.{is_lawful_access}
 use Rattle.job_grammar.specs.declared.jobs.Op.{Op}
 use Rattle.job_grammar.specs.Jobs.{JobView}
 use Rattle.script_rules.specs.declared.steps.BuildStep.{BuildStep}
-use Rattle.script_rules.specs.Script.{build_of, built, enter_with, frame_at, is_turned_away, resume_with, step_due}
+use Rattle.script_rules.specs.Script.{build_of, built, enter_with, is_turned_away, resume_with, step_due}
+use Rattle.sgx_types.specs.Pages.{frame_at}
 use Rattle.driver_rules.specs.Dues.{Asks, Due, Ends, Fetch, Fetches, Finished, Makes, makes_or, Reports, Stopped, Waits, WaitsFor}
 use Rattle.driver_rules.specs.Needs.{Interruption, interruption, needs_after, needs_to_enter, needs_to_resume, next_op, save_to_enter}
 use Rattle.driver_rules.specs.Needs.{save_to_resume}

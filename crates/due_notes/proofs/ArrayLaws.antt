@@ -28,7 +28,8 @@ use Rattle.sgx_rules.specs.declared.refusals.Refusal.{Refusal}
 use Rattle.sgx_rules.specs.declared.refusals.Refusal.TheVariants as why
 use Rattle.sgx_types.specs.Pages.{is_own_page, page_at, secs_page}
 use Rattle.sgx_rules.specs.Frames.{Content, Free, content, free_from, is_free, least_free, vas_after, vas_made}
-use Rattle.sgx_rules.specs.Table.{epa_row, first_of_row, is_loading, is_valid}
+use Rattle.sgx_types.specs.Cases.{first_of_row}
+use Rattle.sgx_rules.specs.Table.{epa_row, is_loading, is_valid}
 use Rattle.epcm_entry.specs.declared.entry_view.EntryView.{EntryView}
 use Rattle.epcm_entry.specs.declared.entry_view.EntryView.TheVariants as views
 use Rattle.epcm_entry.specs.inner.EntryView.{goes_out}
@@ -38,7 +39,8 @@ use Rattle.driver_slots.specs.inner.Keeper.{Keeper}
 use Rattle.job_grammar.specs.Jobs.{JobView, va_pages}
 use Rattle.script_rules.specs.declared.steps.BuildStep.{BuildStep}
 use Rattle.script_rules.specs.declared.steps.BuildStep.TheVariants as builds
-use Rattle.script_rules.specs.Script.{action_of, build_of, built, frame_at, is_builder, step_action, with_frame}
+use Rattle.script_rules.specs.Script.{action_of, build_of, built, is_builder, step_action, with_frame}
+use Rattle.sgx_types.specs.Pages.{frame_at}
 use Rattle.driver_list.specs.inner.Places.{IsPlaced}
 use Rattle.machine_laws.specs.inner.Columns.{HasColumns}
 use Rattle.machine_laws.specs.inner.State.{row_of, sight}

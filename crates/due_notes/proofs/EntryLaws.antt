@@ -23,7 +23,8 @@ use Rattle.sgx_types.specs.declared.names.TheConstants.{SECS_NUMBER}
 use Rattle.sgx_types.proofs.Truths.{neither}
 use Rattle.sgx_rules.specs.Frames.{added, vas_made}
 use Rattle.sgx_rules.specs.inner.Enclaves.{created, is_there}
-use Rattle.sgx_rules.specs.Table.{create_row, epa_row, first_of_row}
+use Rattle.sgx_types.specs.Cases.{first_of_row}
+use Rattle.sgx_rules.specs.Table.{create_row, epa_row}
 use Rattle.sgx_rules.proofs.Contents.{free_there}
 use Rattle.job_grammar.specs.Jobs.{JobView}
 use Rattle.script_rules.specs.Script.{is_builder, step_action}

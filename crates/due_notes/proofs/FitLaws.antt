@@ -18,7 +18,7 @@ use Rattle.sgx_types.specs.declared.names.Perm.{Perm}
 use Rattle.sgx_types.specs.declared.names.Page.{Page}
 use Rattle.sgx_types.specs.Pages.{is_own_page, page_at, secs_page, va_page}
 use Rattle.sgx_rules.specs.Frames.{vas_made}
-use Rattle.sgx_rules.specs.Table.{first_of_row}
+use Rattle.sgx_types.specs.Cases.{first_of_row}
 use Rattle.cached_translations.specs.declared.processor.Mode.{Mode}
 use Rattle.job_grammar.specs.Jobs.{JobView}
 use Rattle.driver_list.specs.inner.Places.{IsPlaced}

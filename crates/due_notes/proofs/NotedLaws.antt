@@ -22,7 +22,7 @@ use Rattle.sgx_rules.specs.declared.refusals.Refusal.{Refusal}
 use Rattle.sgx_types.specs.Pages.{page_at, same_page, secs_page, va_page}
 use Rattle.sgx_rules.specs.Frames.{vas_after, vas_made}
 use Rattle.sgx_rules.specs.Starts.{open_start}
-use Rattle.sgx_rules.specs.Table.{first_of_row}
+use Rattle.sgx_types.specs.Cases.{first_of_row}
 use Rattle.cached_translations.specs.declared.processor.Mode.{Mode}
 use Rattle.job_grammar.specs.Jobs.{JobView, va_pages}
 use Rattle.backing_store.specs.Calls.{Call}

@@ -12,7 +12,7 @@ use Rattle.job_grammar.specs.declared.jobs.PageLine.{PageLine}
 use Rattle.job_grammar.specs.declared.jobs.PageLine.TheVariants as lines
 use Rattle.job_grammar.specs.Jobs.{JobView, lines_at, tcs_line}
 use Rattle.job_grammar.specs.inner.Valid.{IsValid}
-use Rattle.script_rules.specs.Script.{is_seated_at, saved}
+use Rattle.script_rules.specs.Script.{is_seated_at, saved_frames}
 use Rattle.driver_list.specs.inner.Places.{IsPlaced, total}
 use Rattle.driver_list.proofs.PlaceLaws.{place_within}
 use Rattle.driver_tables.specs.inner.Counts.{job_counts}
@@ -42,12 +42,12 @@ placed_low j g v placed = by_name (is_va_page g) (g.number == SECS_NUMBER) refl 
 -- ---- state save pages
 
 saved_within : (past : List Entry) (p : ℕ) (g : Page) (line : Option PageLine) → IsWithin (in_use past p g) line
-    → IsWithin (saved past g) line
+    → IsWithin (saved_frames past g) line
 saved_within past p g None h = tt
 saved_within past p g (Some (lines.Reg first count perm value plain)) h = tt
 saved_within past p g (Some (lines.Tcs page ossa nssa plain)) h = by_test (is_seated_at g (stay past p)) h
   where
-    by_test : (b : Bool) → (if b then saved past g + 1 else saved past g) ≤ nssa → saved past g ≤ nssa
+    by_test : (b : Bool) → (if b then saved_frames past g + 1 else saved_frames past g) ≤ nssa → saved_frames past g ≤ nssa
     by_test true k = omega (arith, k)
     by_test false k = k
 
@@ -87,17 +87,17 @@ last_is e n (Some (lines.Tcs page ossa nssa plain)) g few is low = by_test (n ==
 
 module _ (j : JobView) (past : List Entry) (t : Turns) (shows : ShowsTurns j past t) (orderly : IsOrderly j past) (e n : ℕ) (g : Page)
     (low : g.number < 2 ^ 32) where
-  few : IsWithin (saved past (page_at e n)) (tcs_line (lines_at j.enclaves e) n)
+  few : IsWithin (saved_frames past (page_at e n)) (tcs_line (lines_at j.enclaves e) n)
   few = saved_within past 0 (page_at e n) (tcs_line (lines_at j.enclaves e) n) (orderly.room 0 (page_at e n))
 
   -- by which a processor enters
   pub enter_save : save_to_enter j past e n ≡ Some g → next_save_of e (tcs_at t.tcs (page_at e n)) ≡ Some g
   enter_save is =
       ap (next_save_of e) (shows.saves (page_at e n))
-      ∙ next_is e (saved past (page_at e n)) (tcs_line (lines_at j.enclaves e) n) g few is low
+      ∙ next_is e (saved_frames past (page_at e n)) (tcs_line (lines_at j.enclaves e) n) g few is low
 
   -- .. and resumes
   pub resume_save : save_to_resume j past e n ≡ Some g → last_save_of e (tcs_at t.tcs (page_at e n)) ≡ Some g
   resume_save is =
       ap (last_save_of e) (shows.saves (page_at e n))
-      ∙ last_is e (saved past (page_at e n)) (tcs_line (lines_at j.enclaves e) n) g few is low
+      ∙ last_is e (saved_frames past (page_at e n)) (tcs_line (lines_at j.enclaves e) n) g few is low

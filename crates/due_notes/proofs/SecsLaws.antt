@@ -31,7 +31,7 @@ use Rattle.sgx_rules.specs.Flat.{enclave_sight_of}
 use Rattle.sgx_rules.specs.Frames.{Content, SecsOf, content, is_secs_of, secs_frame, stands}
 use Rattle.sgx_rules.specs.Rules.{Along}
 use Rattle.sgx_rules.specs.Sights.{secs_seen}
-use Rattle.sgx_rules.specs.Table.{first_of_row}
+use Rattle.sgx_types.specs.Cases.{first_of_row}
 use Rattle.job_grammar.specs.declared.jobs.PageLine.{PageLine}
 use Rattle.job_grammar.specs.declared.jobs.PageLine.TheVariants as lines
 use Rattle.job_grammar.specs.Jobs.{EnclaveView, JobView, va_pages}

@@ -17,9 +17,10 @@ use Rattle.sgx_types.specs.Pages.{page_at, same_page}
 use Rattle.sgx_rules.specs.Frames.{Content, Free, Holds, IsLoading, IsVa, SecsOf, content, is_page, stands}
 use Rattle.sgx_rules.specs.Processors.{Seat, Stay, stay}
 use Rattle.sgx_rules.specs.Sights.{seat_of}
-use Rattle.sgx_rules.specs.Table.{FrameSight, access_row, allows_read, allows_update, allows_write, fill_row, first_of_row}
+use Rattle.sgx_types.specs.Cases.{first_of_row}
+use Rattle.sgx_rules.specs.Table.{FrameSight, access_row, allows_read, allows_update, allows_write, fill_row}
 use Rattle.sgx_rules.specs.Table.{is_reg, is_tcs}
-use Rattle.sgx_rules.specs.Table.{when}
+use Rattle.sgx_types.specs.Cases.{when}
 use Rattle.cached_translations.specs.declared.processor.Mode.{Mode}
 use Rattle.cached_translations.specs.declared.processor.Mode.TheVariants.{Inside, Outside}
 use Rattle.cached_translations.specs.inner.Modes.{enclave_inside}

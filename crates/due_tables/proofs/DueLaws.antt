@@ -27,7 +27,8 @@ use Rattle.job_grammar.specs.inner.Valid.{IsValid, IsValidOp}
 use Rattle.script_rules.specs.declared.steps.BuildStep.{BuildStep}
 use Rattle.script_rules.specs.declared.steps.BuildStep.TheVariants as builds
 use Rattle.script_rules.specs.inner.Cursor.{left}
-use Rattle.script_rules.specs.Script.{build_of, built, enter_with, frame_at, is_turned_away, resume_with, saved, script_of}
+use Rattle.script_rules.specs.Script.{build_of, built, enter_with, is_turned_away, resume_with, saved_frames, script_of}
+use Rattle.sgx_types.specs.Pages.{frame_at}
 use Rattle.script_rules.specs.Script.{step_due}
 use Rattle.script_rules.specs.Script.{with_frame as frame_step}
 use Rattle.machine_laws.specs.inner.Columns.{seat_of_stay}
@@ -154,13 +155,13 @@ module _ (j : JobView) (past : List Entry) (p : ℕ) (look : Looks) (v : IsValid
   pub enter_save_is : (e t : ℕ) → next_save_of e (look.tcs (page_at e t)) ≡ save_to_enter j past e t
   enter_save_is e t =
       ap (next_save_of e) (seen.saves (page_at e t))
-      ∙ next_is e (saved past (page_at e t)) (tcs_line (lines_at j.enclaves e) t) (tcs_line_is j e t v)
+      ∙ next_is e (saved_frames past (page_at e t)) (tcs_line (lines_at j.enclaves e) t) (tcs_line_is j e t v)
       (saved_within past p (page_at e t) (tcs_line (lines_at j.enclaves e) t) (o.room p (page_at e t)))
 
   pub resume_save_is : (e t : ℕ) → last_save_of e (look.tcs (page_at e t)) ≡ save_to_resume j past e t
   resume_save_is e t =
       ap (last_save_of e) (seen.saves (page_at e t))
-      ∙ last_is e (saved past (page_at e t)) (tcs_line (lines_at j.enclaves e) t) (tcs_line_is j e t v)
+      ∙ last_is e (saved_frames past (page_at e t)) (tcs_line (lines_at j.enclaves e) t) (tcs_line_is j e t v)
       (saved_within past p (page_at e t) (tcs_line (lines_at j.enclaves e) t) (o.room p (page_at e t)))
 
   enter_is : (e t : ℕ) → due_in j past (enters_by look.frame (page_at e t) (next_save_of e (look.tcs (page_at e t)))) ≡ enters j past e t

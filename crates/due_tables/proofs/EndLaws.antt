@@ -31,7 +31,8 @@ use Rattle.job_grammar.specs.declared.jobs.Op.{Op}
 use Rattle.job_grammar.specs.declared.jobs.Op.TheVariants as ops
 use Rattle.job_grammar.specs.Jobs.{JobView}
 use Rattle.script_rules.specs.declared.steps.BuildStep.{BuildStep}
-use Rattle.script_rules.specs.Script.{action_of, build_of, built, enter_with, frame_at, is_interrupted, is_reply, is_turned_away}
+use Rattle.script_rules.specs.Script.{action_of, build_of, built, enter_with, is_interrupted, is_reply, is_turned_away}
+use Rattle.sgx_types.specs.Pages.{frame_at}
 use Rattle.script_rules.specs.Script.{replied}
 use Rattle.script_rules.specs.Script.{resume_with, script_of, step_due}
 use Rattle.driver_rules.specs.declared.waits.Why.{Why}

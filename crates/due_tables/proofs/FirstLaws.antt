@@ -12,7 +12,7 @@ use Rattle.job_grammar.specs.declared.jobs.PageLine.TheVariants as lines
 use Rattle.job_grammar.specs.Jobs.{JobView, lines_at, tcs_line, va_pages}
 use Rattle.script_rules.specs.declared.steps.BuildStep.{BuildStep}
 use Rattle.script_rules.specs.declared.steps.BuildStep.TheVariants as builds
-use Rattle.script_rules.specs.Script.{enclaves_steps, is_reply_of, leaves_by, replied, saved}
+use Rattle.script_rules.specs.Script.{enclaves_steps, is_reply_of, leaves_by, replied, saved_frames}
 use Rattle.sgx_machine.specs.inner.Parts.{Parts}
 use Rattle.driver_rules.specs.Holds.{page_extended}
 use Rattle.driver_laws.specs.inner.Agrees.{drivers}
@@ -68,12 +68,12 @@ replied_few (e ∷ past) p = by_test (is_reply_of past e p) (replied_few past p)
     by_test true h = omega (arith, h)
     by_test false h = omega (arith, h)
 
-saved_few : (past : List Entry) (g : Page) → saved past g ≤ length past
+saved_few : (past : List Entry) (g : Page) → saved_frames past g ≤ length past
 saved_few [] g = omega arith
 saved_few (e ∷ past) g =
     let before = saved_few past g in
     ⊎_elim (λ low. omega (arith, low, before)) (λ more. (let grown = more.1 in omega (arith, grown, before)))
-    (saved_step e.event (leaves_by e.actor past g) g (saved past g))
+    (saved_step e.event (leaves_by e.actor past g) g (saved_frames past g))
 
 saved_fits : (line : Option PageLine) (n : ℕ) → n < 2 ^ 63 → IfSome (tcs_by line n) (λ turn. turn.saved < 2 ^ 63)
 saved_fits None n h = tt
@@ -89,6 +89,6 @@ counts_few j past t s few = record {
       omega (arith, none, few)))
       (cases_lt p (length t.cpus));
   saved = λ g. subst (λ o. IfSome o (λ (turn : TcsTurn). turn.saved < 2 ^ 63)) (sym (s.saves g))
-      (saved_fits (tcs_line (lines_at j.enclaves g.enclave) g.number) (saved past g)
+      (saved_fits (tcs_line (lines_at j.enclaves g.enclave) g.number) (saved_frames past g)
       (let most = saved_few past g in omega (arith, most, few)));
 }

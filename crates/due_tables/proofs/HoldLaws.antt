@@ -30,7 +30,7 @@ use Rattle.job_grammar.specs.declared.jobs.PageLine.{PageLine}
 use Rattle.job_grammar.specs.declared.jobs.PageLine.TheVariants as lines
 use Rattle.job_grammar.specs.Jobs.{JobView, lines_at, tcs_line}
 use Rattle.job_grammar.specs.inner.Valid.{IsValid, IsValidOp}
-use Rattle.script_rules.specs.Script.{action_of, build_of, built, is_interrupted, is_reply, saved, script_of}
+use Rattle.script_rules.specs.Script.{action_of, build_of, built, is_interrupted, is_reply, saved_frames, script_of}
 use Rattle.driver_list.specs.inner.Active.{ActiveList, without_holds}
 use Rattle.driver_list.specs.inner.Holds.{holds_page, joined, most_of, own_of}
 use Rattle.driver_list.specs.declared.page_states.PageState.{PageState}
@@ -41,7 +41,7 @@ use Rattle.due_tables.specs.inner.TcsTurns.{has_place, rows}
 use Rattle.machine_laws.specs.inner.Columns.{seat_of_stay}
 use Rattle.sgx_machine.specs.inner.Parts.{seat_of_mode}
 use Rattle.driver_rules.specs.Holds.{access_of_stay, brought_with, builder_holds, front_to, holds, holds_by, is_among, page_extended}
-use Rattle.driver_rules.specs.Holds.{page_in, page_of_stay, those_here, up_to}
+use Rattle.driver_rules.specs.Holds.{pages_there, page_of_stay, those_here, up_to}
 use Rattle.driver_rules.specs.Needs.{access_page, interruption, last_save, listed, needs, needs_by, next_op, save_to_enter}
 use Rattle.driver_rules.specs.Needs.{save_to_resume}
 use Rattle.driver_rules.specs.Places.{frame_here, is_here, place}
@@ -142,7 +142,7 @@ one_same (Some x) g = refl
 
 -- a frame in which a TCS or REG page stands holds that page
 page_in_is : (c : Content) (g x : Page) → is_own_page g ≡ true → stands c g ≡ true
-    → is_among (page_in c) x ≡ (same_page g x || false)
+    → is_among (pages_there c) x ≡ (same_page g x || false)
 page_in_is Free g x own h = cc
 page_in_is (IsLoading page) g x own h = cc
 page_in_is (IsVa number) g x own h =
@@ -153,7 +153,7 @@ page_in_is (Holds page kind perm) g x own h = ap (λ y. same_page y x || false) 
 
 -- .. and one in which another page stands holds none
 page_in_once : (c : Content) (g x : Page) → stands c g ≡ true
-    → (same_page g x || false) ≡ (same_page g x || is_among (page_in c) x)
+    → (same_page g x || false) ≡ (same_page g x || is_among (pages_there c) x)
 page_in_once Free g x h = cc
 page_in_once (IsLoading page) g x h = cc
 page_in_once (IsVa number) g x h = refl
@@ -279,7 +279,7 @@ module _ (j : JobView) (past : List Entry) (p : ℕ) (look : Looks) (v : IsValid
 
   resume_same : (e t : ℕ) (tf sf : Frame) → frame_here (place past (page_at e t)) ≡ Some tf.0
       → save_frame past (page_at e t) (save_to_resume j past e t) ≡ Some sf.0
-      → Same (page_at e t ∷ (listed (last_save_of e (look.tcs (page_at e t))) ++ [])) (page_at e t ∷ page_in (content past sf.0))
+      → Same (page_at e t ∷ (listed (last_save_of e (look.tcs (page_at e t))) ++ [])) (page_at e t ∷ pages_there (content past sf.0))
   resume_same e t tf sf is at g =
       ap (λ x. is_among (page_at e t ∷ (listed x ++ [])) g) (resume_save e t) ∙ by_save (save_to_resume j past e t) refl at
     where
@@ -289,11 +289,11 @@ module _ (j : JobView) (past : List Entry) (p : ℕ) (look : Looks) (v : IsValid
       own_save : (n : ℕ) (x : Page) → save_to_resume j past n t ≡ Some x → is_own_page x ≡ true
       own_save zero x k = cc
       own_save (suc n) x k =
-          last_own n (saved past (page_at (suc n) t)) (tcs_line (lines_at j.enclaves (suc n)) t) x (tcs_line_is j (suc n) t v)
+          last_own n (saved_frames past (page_at (suc n) t)) (tcs_line (lines_at j.enclaves (suc n)) t) x (tcs_line_is j (suc n) t v)
           (saved_within past p (page_at (suc n) t) (tcs_line (lines_at j.enclaves (suc n)) t) (o.room p (page_at (suc n) t))) k
 
       by_save : (x : Option Page) → save_to_resume j past e t ≡ x → save_frame past (page_at e t) x ≡ Some sf.0
-          → is_among (page_at e t ∷ (listed x ++ [])) g ≡ is_among (page_at e t ∷ page_in (content past sf.0)) g
+          → is_among (page_at e t ∷ (listed x ++ [])) g ≡ is_among (page_at e t ∷ pages_there (content past sf.0)) g
       by_save None named k = page_in_once (content past sf.0) (page_at e t) g (stood (page_at e t) k)
       by_save (Some x) named k =
           ap (λ b. same_page (page_at e t) g || b) (sym (page_in_is (content past sf.0) x g (own_save e x named) (stood x k)))

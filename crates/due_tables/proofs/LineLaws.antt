@@ -14,7 +14,7 @@ use Rattle.job_grammar.specs.declared.jobs.PageLine.TheVariants as lines
 use Rattle.job_grammar.specs.Jobs.{EnclaveView, JobView, covers, is_tcs_line, is_tcs_page, lines_at, lines_in, tcs_line}
 use Rattle.job_grammar.specs.inner.Valid.{IsValid, IsValidEnclave, IsValidLine, IsValidOp}
 use Rattle.job_grammar.proofs.EnclaveLaws.{lawful-size}
-use Rattle.script_rules.specs.Script.{is_seated_at, saved, script_of}
+use Rattle.script_rules.specs.Script.{is_seated_at, saved_frames, script_of}
 use Rattle.due_tables.specs.inner.Due.{IsWithin, in_use}
 
 found_has : {X : Type 0} (test : X → Bool) (P : X → Type 0) (xs : List X) (x : X) → All P xs → find test xs ≡ Some x → P x
@@ -71,8 +71,8 @@ least_le false n = omega arith
 
 -- those in use without the one that is about to be
 pub saved_within : (past : List Entry) (p : ℕ) (g : Page) (line : Option PageLine) → IsWithin (in_use past p g) line
-    → IsWithin (saved past g) line
-saved_within past p g line h = within_le (saved past g) (in_use past p g) line (least_le (is_seated_at g (stay past p)) (saved past g)) h
+    → IsWithin (saved_frames past g) line
+saved_within past p g line h = within_le (saved_frames past g) (in_use past p g) line (least_le (is_seated_at g (stay past p)) (saved_frames past g)) h
 
 -- ---- enclaves
 

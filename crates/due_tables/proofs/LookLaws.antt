@@ -11,7 +11,7 @@ use Rattle.sgx_rules.specs.Frames.{added, content, frame_of, least_free}
 use Rattle.sgx_rules.specs.Processors.{holds_number, stay, translations}
 use Rattle.sgx_rules.specs.Table.{is_lawful_access}
 use Rattle.job_grammar.specs.Jobs.{JobView, lines_at, tcs_line}
-use Rattle.script_rules.specs.Script.{is_initialised, saved}
+use Rattle.script_rules.specs.Script.{is_initialised, saved_frames}
 use Rattle.driver_list.specs.inner.Places.{IsPlaced}
 use Rattle.driver_list.specs.inner.States.{state_of as page_state}
 use Rattle.driver_list.specs.declared.page_states.PageState.{PageState}
@@ -36,7 +36,7 @@ use Rattle.due_tables.proofs.RowLaws.{placed_row, row_placed}
 pub record IsSeen (j : JobView) (past : List Entry) (p : ℕ) (look : Looks) : Type 0 where
   pub seat : seat_of_mode look.mode ≡ seat_of_stay (stay past p)
   pub frames : (g : Page) → number_of (look.frame g) ≡ frame_here (place past g)
-  pub saves : (g : Page) → look.tcs g ≡ tcs_by (tcs_line (lines_at j.enclaves g.enclave) g.number) (saved past g)
+  pub saves : (g : Page) → look.tcs g ≡ tcs_by (tcs_line (lines_at j.enclaves g.enclave) g.number) (saved_frames past g)
   pub inits : (e : ℕ) → e ≤ 8 → look.is_init e ≡ is_initialised past e
   pub lawful : (g : Page) (op : AccessOp) → look.is_lawful g op ≡ is_lawful_access (added past g) op
   pub holds : (n : ℕ) → look.holds n ≡ holds_number (translations past p) n

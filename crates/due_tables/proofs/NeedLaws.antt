@@ -26,14 +26,15 @@ use Rattle.sgx_types.proofs.Pages.{same_page-refl, same_pages}
 use Rattle.job_grammar.specs.declared.jobs.Op.{Op}
 use Rattle.job_grammar.specs.declared.jobs.Op.TheVariants as ops
 use Rattle.job_grammar.specs.Jobs.{JobView}
-use Rattle.script_rules.specs.Script.{action_of, enter_with, frame_at, is_interrupted, is_reply, is_reply_action, is_turned_away}
+use Rattle.script_rules.specs.Script.{action_of, enter_with, is_interrupted, is_reply, is_reply_action, is_turned_away}
+use Rattle.sgx_types.specs.Pages.{frame_at}
 use Rattle.script_rules.specs.Script.{resume_with}
 use Rattle.driver_rules.specs.declared.waits.Why.{Why}
 use Rattle.driver_rules.specs.declared.waits.Why.TheVariants as waits
 use Rattle.driver_rules.specs.Dues.{Due, Ends, Fetches, Finished, IsFetch, IsKickOf, IsLook, IsNext, IsTryOf, KicksAll, LooksAt}
 use Rattle.driver_rules.specs.Dues.{Asks, Fetch, Makes, WaitsFor}
 use Rattle.driver_rules.specs.Dues.{Reports, Stopped, TriesOut, Waits, makes_or}
-use Rattle.driver_rules.specs.Holds.{access_of_stay, front_to, holds_by, is_among, page_in, page_of_stay, those_here, up_to}
+use Rattle.driver_rules.specs.Holds.{access_of_stay, front_to, holds_by, is_among, pages_there, page_of_stay, those_here, up_to}
 use Rattle.driver_rules.specs.Needs.{Interruption, access_page, interruption, listed, needs, needs_after, needs_to_enter}
 use Rattle.driver_rules.specs.Needs.{needs_to_resume}
 use Rattle.driver_rules.specs.Needs.{next_op, save_to_enter, save_to_resume}
@@ -280,11 +281,11 @@ module _ (j : JobView) (past : List Entry) (p : ℕ) (sound : IsSound past) (h :
   fits_enter why e t (Some tf) None = tt
   fits_enter why e t (Some tf) (Some sf) = fits_reply (actions.Enter e t (frame_at tf) (frame_at sf)) (λ b. refl)
 
-  page_in_there : (g : Page) (n : ℕ) → frame_here (place past g) ≡ Some n → AllThere past (page_in (content past n))
+  page_in_there : (g : Page) (n : ℕ) → frame_here (place past g) ≡ Some n → AllThere past (pages_there (content past n))
   page_in_there g n is =
       held (content past n) (sound.places.frames g n ∙ stands_there (place past g) n is)
     where
-      held : (c : Content) → stands c g ≡ true → AllThere past (page_in c)
+      held : (c : Content) → stands c g ≡ true → AllThere past (pages_there c)
       held Free k = none_there past
       held (IsVa number) k = none_there past
       held (SecsOf enclave) k = none_there past
@@ -299,12 +300,12 @@ module _ (j : JobView) (past : List Entry) (p : ℕ) (sound : IsSound past) (h :
   fits_resume why e t save named (Some tf) None is at = tt
   fits_resume why e t save named (Some tf) (Some sf) is at = λ quiet. record {
     there =
-        more_there past (page_at e t) (page_in (content past sf))
+        more_there past (page_at e t) (pages_there (content past sf))
         (here_there (place past (page_at e t)) tf is) (used save at);
     exact = (is, ap (save_frame past (page_at e t)) (sym named) ∙ at);
   }
     where
-      used : (o : Option Page) → save_frame past (page_at e t) o ≡ Some sf → AllThere past (page_in (content past sf))
+      used : (o : Option Page) → save_frame past (page_at e t) o ≡ Some sf → AllThere past (pages_there (content past sf))
       used None k = page_in_there (page_at e t) sf k
       used (Some g) k = page_in_there g sf k
 

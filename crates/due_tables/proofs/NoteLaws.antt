@@ -29,7 +29,7 @@ use Rattle.job_grammar.specs.declared.jobs.PageLine.TheVariants as lines
 use Rattle.job_grammar.specs.Jobs.{JobView, lines_at, tcs_line}
 use Rattle.script_rules.specs.declared.cursor.BuildCursor.{BuildCursor}
 use Rattle.script_rules.specs.inner.Cursor.{IsCursor, left}
-use Rattle.script_rules.specs.Script.{build_of, built, is_initialised, is_interrupted, is_seated_at, replied, saved}
+use Rattle.script_rules.specs.Script.{build_of, built, is_initialised, is_interrupted, is_seated_at, replied, saved_frames}
 use Rattle.machine_laws.specs.inner.Columns.{seat_of_stay}
 use Rattle.sgx_machine.specs.inner.Parts.{seat_of_mode}
 use Rattle.driver_rules.specs.Needs.{Interruption, interrupted_by, interrupted_in, interruption, interruption_after}
@@ -332,14 +332,14 @@ left_shown t line count g (Inside e n tf sf epoch) (Some s) is h =
     same = cc
 
 saves_shown : (past : List Entry) (a : Actor) (ev : Event) (before : Mode) (t : List (List (Option TcsTurn)))
-    (line : Page → Option PageLine) → StoodSo past a before → Shows t line (saved past)
-    → Shows (saves_after ev (page_left a before) t) line (saved (entry_of a ev ∷ past))
+    (line : Page → Option PageLine) → StoodSo past a before → Shows t line (saved_frames past)
+    → Shows (saves_after ev (page_left a before) t) line (saved_frames (entry_of a ev ∷ past))
 saves_shown past actors.Builder (Did (actions.Aex cause) answer) before t line stood h g = h g
 saves_shown past actors.Reclaimer (Did (actions.Aex cause) answer) before t line stood h g = h g
 saves_shown past (actors.Cpu c) (Did (actions.Aex cause) answer) before t line stood h g =
-    left_shown t line (saved past) g before (stay past c.0) stood h
+    left_shown t line (saved_frames past) g before (stay past c.0) stood h
 saves_shown past a (Did (actions.Resume e n tf sf) answer) before t line stood h g =
-    changed_shown t line (saved past) (page_at e n) g one_less (λ k. k - 1) less_by h
+    changed_shown t line (saved_frames past) (page_at e n) g one_less (λ k. k - 1) less_by h
 saves_shown past a (Did action answer) before t line stood h g = h g
 saves_shown past a (Refused action refusal) before t line stood h g = h g
 saves_shown past a (Age page look) before t line stood h g = h g

@@ -27,7 +27,8 @@ use Rattle.sgx_rules.specs.Frames.{added, frame_of, vas_made}
 use Rattle.sgx_rules.specs.Processors.{Enters, Keeps, Leaves, Move, Stay, holds_number, is_by, move_by, stay, stay_after}
 use Rattle.sgx_rules.specs.Processors.{translations}
 use Rattle.sgx_rules.specs.Sights.{seat_of}
-use Rattle.sgx_rules.specs.Table.{first_of_row, is_lawful_access, is_reg, is_tcs, when}
+use Rattle.sgx_types.specs.Cases.{first_of_row, when}
+use Rattle.sgx_rules.specs.Table.{is_lawful_access, is_reg, is_tcs}
 use Rattle.sgx_rules.specs.Slots.{open_slot, slot_of}
 use Rattle.sgx_types.specs.Pages.{is_own_page, secs_page, va_page}
 use Rattle.sgx_types.proofs.Pages.{same_pages}
@@ -38,7 +39,8 @@ use Rattle.job_grammar.specs.declared.jobs.PageLine.{PageLine}
 use Rattle.job_grammar.specs.declared.jobs.PageLine.TheVariants as lines
 use Rattle.job_grammar.specs.Jobs.{JobView, lines_at, tcs_line}
 use Rattle.job_grammar.specs.inner.Valid.{IsValid}
-use Rattle.script_rules.specs.Script.{enter_with, frame_at, is_seated_at, is_turned_away, leaves_by, resume_with, saved}
+use Rattle.script_rules.specs.Script.{enter_with, is_seated_at, is_turned_away, leaves_by, resume_with, saved_frames}
+use Rattle.sgx_types.specs.Pages.{frame_at}
 use Rattle.script_rules.specs.Script.{saved_after}
 use Rattle.machine_laws.specs.inner.State.{State, enter_sight, row_of}
 use Rattle.machine_laws.specs.inner.Steps.{CanApply, IsDone, IsStep, answer_of, refused_by}
@@ -157,7 +159,7 @@ LineOf j g = tcs_line (lines_at j.enclaves g.enclave) g.number
 
 -- an entry by two frames finds a state save page that is not in use
 abbrev FindsRoom : JobView → List Entry → Action → Type 0
-FindsRoom j past (actions.Enter e t tf sf) = tf.0 ≢ sf.0 → IsWithin (saved past (page_at e t) + 1) (LineOf j (page_at e t))
+FindsRoom j past (actions.Enter e t tf sf) = tf.0 ≢ sf.0 → IsWithin (saved_frames past (page_at e t) + 1) (LineOf j (page_at e t))
 FindsRoom j past _ = Unit {0}
 
 abbrev DueFinds : JobView → List Entry → Due → Type 0
@@ -197,7 +199,7 @@ less_within n e (Some (lines.Tcs page ossa nssa plain)) g h is = by_test (n == n
     by_test false same k = let other = eqb-false n nssa same in omega (arith, h, other)
 
 find_enter : (j : JobView) (past : List Entry) (why : Why) (e t : ℕ) (save : Option Page)
-    → next_save e (saved past (page_at e t)) (LineOf j (page_at e t)) ≡ save → IsWithin (saved past (page_at e t)) (LineOf j (page_at e t))
+    → next_save e (saved_frames past (page_at e t)) (LineOf j (page_at e t)) ≡ save → IsWithin (saved_frames past (page_at e t)) (LineOf j (page_at e t))
     → DueFinds j past (makes_or why (enter_with e t (frame_here (place past (page_at e t))) (save_frame past (page_at e t) save)))
 find_enter j past why e t None is few = alone (frame_here (place past (page_at e t)))
   where
@@ -209,9 +211,9 @@ find_enter j past why e t (Some g) is few = both (frame_here (place past (page_a
     both : (o q : Option ℕ) → DueFinds j past (makes_or why (enter_with e t o q))
     both None q = tt
     both (Some f) None = tt
-    both (Some f) (Some h) = λ other. less_within (saved past (page_at e t)) e (LineOf j (page_at e t)) g few is
+    both (Some f) (Some h) = λ other. less_within (saved_frames past (page_at e t)) e (LineOf j (page_at e t)) g few is
 
-module _ (j : JobView) (past : List Entry) (few : (g : Page) → IsWithin (saved past g) (LineOf j g)) where
+module _ (j : JobView) (past : List Entry) (few : (g : Page) → IsWithin (saved_frames past g) (LineOf j g)) where
   find_fills : (n : ℕ) (o : Option ℕ) → DueFinds j past (fills n o)
   find_fills n None = tt
   find_fills n (Some f) = tt
@@ -348,16 +350,16 @@ other_stay Keeps past s = refl
 
 module _ (j : JobView) (past : List Entry) (v : IsValid j) (apart : TcsAreApart j) (own : (p : ℕ) → NamesOwn j past p)
     (room : (p : ℕ) (g : Page) → IsWithin (in_use past p g) (LineOf j g)) where
-  few : (g : Page) → IsWithin (saved past g) (LineOf j g)
+  few : (g : Page) → IsWithin (saved_frames past g) (LineOf j g)
   few g = saved_within past 0 g (LineOf j g) (room 0 g)
 
   -- a count that does not grow, of a processor that stays as it is
-  still : (p n : ℕ) (g : Page) (s : Option Stay) → s ≡ stay past p → n ≤ saved past g
+  still : (p n : ℕ) (g : Page) (s : Option Stay) → s ≡ stay past p → n ≤ saved_frames past g
       → IsWithin (more_if (is_seated_at g s) n) (LineOf j g)
   still p n g s same low =
       within_le (more_if (is_seated_at g s) n) (in_use past p g) (LineOf j g)
       (subst (λ o. more_if (is_seated_at g o) n ≤ in_use past p g) (sym same)
-      (more_le (is_seated_at g (stay past p)) n (saved past g) low)) (room p g)
+      (more_le (is_seated_at g (stay past p)) n (saved_frames past g) low)) (room p g)
 
   seated : (p : ℕ) (g : Page) (s : Option Stay) → stay past p ≡ s → is_seated_at g s ≡ true → names_tcs j p g ≡ true
   seated p g None is h = cc
@@ -377,38 +379,38 @@ module _ (j : JobView) (past : List Entry) (v : IsValid j) (apart : TcsAreApart 
   -- by another actor's entry
   room_other : (a : Actor) (ev : Event) (p : ℕ) (g : Page) → is_by p a ≡ false
       → ((l : Bool) → leaves_by a past g ≡ l → l ≡ true → is_seated_at g (stay past p) ≡ false)
-      → ((l : Bool) → leaves_by a past g ≡ l → l ≡ true → IsWithin (saved past g + 1) (LineOf j g))
+      → ((l : Bool) → leaves_by a past g ≡ l → l ≡ true → IsWithin (saved_frames past g + 1) (LineOf j g))
       → IsWithin (in_use (entry_of a ev ∷ past) p g) (LineOf j g)
   room_other a ev p g other free leaves =
-      ⊎_elim (λ low. still p (saved (entry_of a ev ∷ past) g) g (stay (entry_of a ev ∷ past) p) stays low) grows
-      (saved_step ev (leaves_by a past g) g (saved past g))
+      ⊎_elim (λ low. still p (saved_frames (entry_of a ev ∷ past) g) g (stay (entry_of a ev ∷ past) p) stays low) grows
+      (saved_step ev (leaves_by a past g) g (saved_frames past g))
     where
       stays : stay (entry_of a ev ∷ past) p ≡ stay past p
       stays = ap (λ b. stay_after (move_by ev) b past (stay past p)) other ∙ other_stay (move_by ev) past (stay past p)
 
-      grows : (leaves_by a past g ≡ true) × (saved (entry_of a ev ∷ past) g ≡ saved past g + 1)
+      grows : (leaves_by a past g ≡ true) × (saved_frames (entry_of a ev ∷ past) g ≡ saved_frames past g + 1)
           → IsWithin (in_use (entry_of a ev ∷ past) p g) (LineOf j g)
       grows k =
           let none : is_seated_at g (stay (entry_of a ev ∷ past) p) ≡ false = ap (is_seated_at g) stays ∙ free true k.0 refl in
           subst (λ n. IsWithin n (LineOf j g))
-          (sym (ap (λ b. more_if b (saved (entry_of a ev ∷ past) g)) none ∙ k.1)) (leaves true k.0 refl)
+          (sym (ap (λ b. more_if b (saved_frames (entry_of a ev ∷ past) g)) none ∙ k.1)) (leaves true k.0 refl)
 
   -- by its own
   room_own : (c : Cpu) (ev : Event) (g : Page)
       → ((action : Action) (answer : Answer) → ev ≡ Did action answer → FindsRoom j past action) → EntersApart ev
       → IsWithin (more_if (is_seated_at g (stay_after (move_by ev) true past (stay past c.0)))
-      (saved_after ev (is_seated_at g (stay past c.0)) g (saved past g))) (LineOf j g)
+      (saved_after ev (is_seated_at g (stay past c.0)) g (saved_frames past g))) (LineOf j g)
   room_own c (Did (actions.Enter e t tf sf) answer) g finds names = by_test (same_page (page_at e t) g) refl
     where
-      by_test : (b : Bool) → same_page (page_at e t) g ≡ b → IsWithin (more_if b (saved past g)) (LineOf j g)
+      by_test : (b : Bool) → same_page (page_at e t) g ≡ b → IsWithin (more_if b (saved_frames past g)) (LineOf j g)
       by_test true is =
-          subst (λ x. IsWithin (saved past x + 1) (LineOf j x)) (same_pages (page_at e t) g is)
+          subst (λ x. IsWithin (saved_frames past x + 1) (LineOf j x)) (same_pages (page_at e t) g is)
           (finds (actions.Enter e t tf sf) answer refl names)
       by_test false is = few g
   room_own c (Did (actions.Resume e t tf sf) answer) g finds names = by_test (same_page (page_at e t) g)
     where
-      by_test : (b : Bool) → IsWithin (more_if b (if b then saved past g - 1 else saved past g)) (LineOf j g)
-      by_test true = again_within (saved past g) (LineOf j g) (tcs_line_is j g.enclave g.number v) (few g)
+      by_test : (b : Bool) → IsWithin (more_if b (if b then saved_frames past g - 1 else saved_frames past g)) (LineOf j g)
+      by_test true = again_within (saved_frames past g) (LineOf j g) (tcs_line_is j g.enclave g.number v) (few g)
       by_test false = few g
   room_own c (Did actions.Exit answer) g finds names = few g
   room_own c (Did (actions.Aex cause) answer) g finds names = room c.0 g
@@ -429,11 +431,11 @@ module _ (j : JobView) (past : List Entry) (v : IsValid j) (apart : TcsAreApart 
       by_test : (b : Bool) → (c.0 == p) ≡ b → IsWithin (in_use (entry_of (actors.Cpu c) ev ∷ past) p g) (LineOf j g)
       by_test false other =
           room_other (actors.Cpu c) ev p g other (λ l is h. alone c.0 p g other (is ∙ h))
-          (λ l is h. subst (λ b. IsWithin (more_if b (saved past g)) (LineOf j g)) (is ∙ h) (room c.0 g))
+          (λ l is h. subst (λ b. IsWithin (more_if b (saved_frames past g)) (LineOf j g)) (is ∙ h) (room c.0 g))
       by_test true same =
           subst (λ q. IsWithin (in_use (entry_of (actors.Cpu c) ev ∷ past) q g) (LineOf j g)) (eqb-true c.0 p same)
           (subst (λ b. IsWithin (more_if (is_seated_at g (stay_after (move_by ev) b past (stay past c.0)))
-          (saved_after ev (is_seated_at g (stay past c.0)) g (saved past g))) (LineOf j g)) (sym (eq-eqb c.0 c.0 refl))
+          (saved_after ev (is_seated_at g (stay past c.0)) g (saved_frames past g))) (LineOf j g)) (sym (eq-eqb c.0 c.0 refl))
           (room_own c ev g
           (λ action answer is. finds j past few (cpu_due j past c.0) action answer (find_due j past few c.0)
           (subst (IsNext (cpu_due j past c.0)) is script.next.1)) names))

@@ -1,7 +1,8 @@
 //! Loads, stores and exchanges of a processor inside an enclave.
 
 ghost use Rattle.std.specs.Prelude.{◌≡◌, length, IfOk, OnOk, OnErr};
-ghost use Rattle.sgx_rules.specs.Table.{first_of_row, load_row, store_row, xadd_row};
+ghost use Rattle.sgx_types.specs.Cases.{first_of_row};
+ghost use Rattle.sgx_rules.specs.Table.{load_row, store_row, xadd_row};
 ghost use Rattle.sgx_rules.specs.inner.Table.{refusal_in};
 ghost use Rattle.sgx_rules.specs.Flat.{sum_of};
 ghost use Rattle.cached_translations.specs.inner.Modes.{is_inside};

@@ -1,7 +1,8 @@
 //! The fill of a translation: the one place where an access looks at the EPCM.
 
 ghost use Rattle.std.specs.Prelude.{◌≡◌, None, OnOk, OnErr};
-ghost use Rattle.sgx_rules.specs.Table.{first_of_row, fill_row, perm_in};
+ghost use Rattle.sgx_types.specs.Cases.{first_of_row};
+ghost use Rattle.sgx_rules.specs.Table.{fill_row, perm_in};
 ghost use Rattle.sgx_rules.specs.inner.Table.{refusal_in};
 ghost use Rattle.epcm_entry.specs.inner.Sights.{sight_in};
 ghost use Rattle.cached_translations.specs.inner.Modes.{enclave_inside};

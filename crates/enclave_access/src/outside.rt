@@ -1,7 +1,8 @@
 //! Accesses to an enclave's memory from outside, which reach nothing of it.
 
 ghost use Rattle.std.specs.Prelude.{◌≡◌, IfOk};
-ghost use Rattle.sgx_rules.specs.Table.{first_of_row, outside_row};
+ghost use Rattle.sgx_types.specs.Cases.{first_of_row};
+ghost use Rattle.sgx_rules.specs.Table.{outside_row};
 ghost use Rattle.sgx_rules.specs.inner.Table.{refusal_in};
 ghost use Rattle.sgx_rules.specs.Flat.{all_ones};
 ghost use Rattle.cached_translations.specs.inner.Modes.{is_inside};

@@ -1,7 +1,8 @@
 //! The way from an offset to a frame, by the translations alone.
 
 ghost use Rattle.std.specs.Prelude.{◌≡◌, ◌/◌, ◌<◌, Some, IfOk};
-ghost use Rattle.sgx_rules.specs.Table.{first_of_row, allows};
+ghost use Rattle.sgx_types.specs.Cases.{first_of_row};
+ghost use Rattle.sgx_rules.specs.Table.{allows};
 ghost use Rattle.sgx_rules.specs.inner.Table.{refusal_in};
 ghost use Rattle.sgx_rules.specs.Flat.{word_index};
 ghost use Rattle.cached_translations.specs.inner.Modes.{is_inside};

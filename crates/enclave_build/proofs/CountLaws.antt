@@ -14,12 +14,13 @@ use Rattle.sgx_rules.specs.declared.refusals.Refusal.{Refusal}
 use Rattle.sgx_rules.specs.declared.refusals.Refusal.TheVariants as why
 use Rattle.sgx_rules.specs.Frames.{Content, Free, children, is_child, is_secs_of}
 use Rattle.sgx_types.specs.Lawful.{is_addable, is_lawful_perm, is_within}
-use Rattle.sgx_rules.specs.Table.{Case, EnclaveSight, FrameSight, SecsSight, add_row, allowed, first_of_row, is_busy, is_valid}
-use Rattle.sgx_rules.specs.Table.{when, ◌otherwise◌}
+use Rattle.sgx_types.specs.Cases.{allowed, first_of_row}
+use Rattle.sgx_rules.specs.Table.{EnclaveSight, FrameSight, Row, SecsSight, add_row, is_busy, is_valid}
+use Rattle.sgx_types.specs.Cases.{when, ◌otherwise◌}
 use Rattle.sgx_rules.proofs.Contents.{free_there}
 use Rattle.sgx_types.proofs.CountLaws.{count_below-agrees, count_below-le, count_below-put, one_if}
 use Rattle.sgx_types.proofs.LeastLaws.{least_agrees}
-use Rattle.sgx_rules.proofs.Rows.{none_holds}
+use Rattle.sgx_rules.proofs.Rows.{first_longer, none_holds}
 use Rattle.sgx_types.proofs.Truths.{not_false}
 use Rattle.epcm_entry.specs.declared.entry_view.EntryView.TheVariants as views
 use Rattle.epcm_entry.specs.declared.entry_view.EntryView.{EntryView}
@@ -29,44 +30,9 @@ use Rattle.epcm_entry.specs.inner.Epc.{EpcFrame, entry_at}
 use Rattle.epcm_entry.specs.inner.Sights.{content_of, held, held_in, sight_in}
 use Rattle.secs_state.specs.inner.Resident.{IsCountedIn}
 use Rattle.secs_state.specs.inner.Secs.{SecsState}
+use Rattle.secs_state.proofs.Counted.{counted_put}
 use Rattle.enclave_build.specs.inner.Build.{secs_row, with_added}
 use Rattle.enclave_build.proofs.Columns.{entry_at-with_added, length-with_added}
-
--- a frame comes to hold something else, where no SECS comes or goes
-pub counted_put : (frames : ℕ) (old new : ℕ → Content) (f : ℕ) (c : Content) (e : ℕ) (x y : SecsState) → f < frames
-    → ((n : ℕ) → new n ≡ cond (f == n) c (old n)) → is_secs_of (old f) e ≡ false → is_secs_of c e ≡ false
-    → y.frame ≡ x.frame → y.children + one_if (is_child (old f) e) ≡ x.children + one_if (is_child c e)
-    → IsCountedIn frames old e x → IsCountedIn frames new e y
-counted_put frames old new f c e x y low put none no_secs frame children_are h = record {
-  children =
-      let now : children frames new e ≡ _ = count_below-agrees (λ n. is_child (new n) e)
-      (λ n. cond (f == n) (is_child c e) (is_child (old n) e))
-      (λ n. ap (λ v. is_child v e) (put n) ∙ moved (λ v. is_child v e) (f == n) (old n)) frames in
-      let one = count_below-put (λ n. is_child (old n) e) frames f (is_child c e) low in
-      omega (arith, now, one, h.children, children_are);
-  frame = ap (option_map (λ (f : Frame). f.0)) frame ∙ h.frame
-      ∙ sym (least_agrees (λ n. is_secs_of (new n) e) (λ n. is_secs_of (old n) e) frames
-      (λ n less. ap (λ v. is_secs_of v e) (put n) ∙ same n));
-}
-  where
-    moved : (test : Content → Bool) (b : Bool) (v : Content) → test (cond b c v) ≡ cond b (test c) (test v)
-    moved test true v = refl
-    moved test false v = refl
-
-    same : (n : ℕ) → is_secs_of (cond (f == n) c (old n)) e ≡ is_secs_of (old n) e
-    same n = cond_both (f == n) c (old n) (λ v. is_secs_of v e ≡ is_secs_of (old n) e)
-        (λ here. no_secs ∙ sym none ∙ ap (λ m. is_secs_of (old m) e) (eqb-true f n here)) (λ _. refl)
-
--- a case of the first rows is one of a longer row
-first_longer : (cases rest : List Case) (r : Refusal) → first_of_row cases ≡ Some r → first_of_row (cases ++ rest) ≡ Some r
-first_longer [] rest r is = cc is
-first_longer (c ∷ cases) rest r is = by_test c.holds is (first_longer cases rest r)
-  where
-    by_test : (b : Bool) → cond b (Some c.why) (first_of_row cases) ≡ Some r
-        → (first_of_row cases ≡ Some r → first_of_row (cases ++ rest) ≡ Some r)
-        → cond b (Some c.why) (first_of_row (cases ++ rest)) ≡ Some r
-    by_test true k more = k
-    by_test false k more = more k
 
 -- the cases of the SECS come first behind the range
 pub secs_first : (number : ℕ) (kind : Kind) (perm : Perm) (init : PageInit) (enclave : EnclaveSight) (secs : SecsSight) (added : Bool)

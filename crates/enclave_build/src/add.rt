@@ -4,7 +4,8 @@ ghost use Rattle.std.specs.Prelude.{◌≡◌, ◌<◌, ◌≤◌, ◌-◌, ◌^
 ghost use Rattle.sgx_types.specs.Pages.{page_at};
 ghost use Rattle.sgx_types.specs.Layouts.{flags_of};
 ghost use Rattle.sgx_types.specs.Lawful.{is_addable, is_lawful_perm, is_within};
-ghost use Rattle.sgx_rules.specs.Table.{first_of_row, add_row};
+ghost use Rattle.sgx_types.specs.Cases.{first_of_row};
+ghost use Rattle.sgx_rules.specs.Table.{add_row};
 ghost use Rattle.sgx_rules.specs.inner.Table.{refusal_in};
 ghost use Rattle.epcm_entry.specs.inner.EntryView.{is_valid};
 ghost use Rattle.epcm_entry.specs.inner.Epc.{entry_at};

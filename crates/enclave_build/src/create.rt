@@ -2,7 +2,8 @@
 
 ghost use Rattle.std.specs.Prelude.{◌≡◌, None, OnOk, OnErr, IfOk};
 ghost use Rattle.sgx_types.specs.Lawful.{is_enclave};
-ghost use Rattle.sgx_rules.specs.Table.{first_of_row, create_row};
+ghost use Rattle.sgx_types.specs.Cases.{first_of_row};
+ghost use Rattle.sgx_rules.specs.Table.{create_row};
 ghost use Rattle.epcm_entry.specs.inner.Sights.{sight_in};
 ghost use Rattle.secs_state.specs.inner.Secs.{created, with_frame};
 ghost use Rattle.measure_log.specs.Blocks.{ecreate_block};

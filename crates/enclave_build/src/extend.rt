@@ -2,7 +2,8 @@
 
 ghost use Rattle.std.specs.Prelude.{◌≡◌, ◌<◌, ◌==◌, None, IfSome, OnOk, OnErr, false};
 ghost use Rattle.sgx_rules.specs.Frames.{enclave_in};
-ghost use Rattle.sgx_rules.specs.Table.{first_of_row, extend_row};
+ghost use Rattle.sgx_types.specs.Cases.{first_of_row};
+ghost use Rattle.sgx_rules.specs.Table.{extend_row};
 ghost use Rattle.sgx_rules.specs.inner.Table.{refusal_in};
 ghost use Rattle.epcm_entry.specs.inner.Sights.{sight_in};
 ghost use Rattle.measure_log.specs.Blocks.{chunk_of};

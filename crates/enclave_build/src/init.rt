@@ -1,7 +1,8 @@
 //! EINIT: an enclave is initialised, and its measurement is final.
 
 ghost use Rattle.std.specs.Prelude.{◌≡◌, length, List, ℕ, Some, OnOk, OnErr, IfOk};
-ghost use Rattle.sgx_rules.specs.Table.{first_of_row, init_row};
+ghost use Rattle.sgx_types.specs.Cases.{first_of_row};
+ghost use Rattle.sgx_rules.specs.Table.{init_row};
 ghost use Rattle.sgx_rules.specs.inner.Table.{refusal_in};
 ghost use Rattle.secs_state.specs.inner.Secs.{with_init};
 ghost use Rattle.measure_log.specs.Measure.{measurement_of};

@@ -1,7 +1,8 @@
 //! EENTER and ERESUME: a processor comes inside.
 
 ghost use Rattle.std.specs.Prelude.{◌≡◌, ◌<◌, true, false, length, IfOk, OnOk, OnErr};
-ghost use Rattle.sgx_rules.specs.Table.{first_of_row, enter_row, resume_row};
+ghost use Rattle.sgx_types.specs.Cases.{first_of_row};
+ghost use Rattle.sgx_rules.specs.Table.{enter_row, resume_row};
 ghost use Rattle.sgx_rules.specs.inner.Table.{refusal_in};
 ghost use Rattle.epcm_entry.specs.inner.Epc.{word_at};
 ghost use Rattle.epcm_entry.specs.inner.Sights.{sight_in};

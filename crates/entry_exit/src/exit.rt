@@ -1,7 +1,8 @@
 //! EEXIT and the asynchronous exit: a processor leaves its enclave.
 
 ghost use Rattle.std.specs.Prelude.{◌≡◌, ◌<◌, true, false, length, Contains, IsSome, OnOk, OnErr};
-ghost use Rattle.sgx_rules.specs.Table.{first_of_row, inside_row};
+ghost use Rattle.sgx_types.specs.Cases.{first_of_row};
+ghost use Rattle.sgx_rules.specs.Table.{inside_row};
 ghost use Rattle.sgx_rules.specs.inner.Table.{refusal_in};
 ghost use Rattle.secs_state.specs.inner.Secs.{added_at, with_busy};
 ghost use Rattle.cached_translations.specs.inner.Modes.{is_inside};

@@ -1,7 +1,8 @@
 //! What the two ways into an enclave share: the cases of their rows, and the seat.
 
 ghost use Rattle.std.specs.Prelude.{◌≡◌, ◌<◌, true, false, length, IsSome};
-ghost use Rattle.sgx_rules.specs.Table.{first_of_row, ssa_row};
+ghost use Rattle.sgx_types.specs.Cases.{first_of_row};
+ghost use Rattle.sgx_rules.specs.Table.{ssa_row};
 ghost use Rattle.epcm_entry.specs.inner.Sights.{sight_in};
 ghost use Rattle.secs_state.specs.inner.Secs.{added_at, with_busy};
 ghost use Rattle.track_epoch.specs.inner.Tracking.{entered};

@@ -17,7 +17,7 @@ use Rattle.sgx_types.specs.declared.names.Frame.{Frame}
 use Rattle.sgx_rules.specs.inner.Enclaves.{created, created_by}
 use Rattle.sgx_rules.specs.Epochs.{is_track}
 use Rattle.sgx_rules.specs.inner.Epochs.{noted}
-use Rattle.sgx_rules.specs.Flat.{FlatEnclave, marked}
+use Rattle.sgx_rules.specs.Flat.{FlatEnclave, as_initialised}
 use Rattle.sgx_rules.specs.Rules.{Along}
 use Rattle.sgx_rules.specs.Processors.{Enters, Keeps, Leaves, Move, Seat, Stay, is_by, move_by, stay, stay_after}
 use Rattle.driver_laws.specs.inner.Tracking.{CanMoveFrom, CanTrack, StayTells, TrackTells, TrackingRule}
@@ -38,7 +38,7 @@ created_still (Did (actions.Create enclave f base size) answer) n o h = by_test 
     by_test false = h
 created_still (Did (actions.Init enclave expect) answer) n o h = by_test (n == enclave) o h
   where
-    by_test : (b : Bool) (x : Option FlatEnclave) → is_some x ≡ true → is_some (if b then marked x else x) ≡ true
+    by_test : (b : Bool) (x : Option FlatEnclave) → is_some x ≡ true → is_some (if b then as_initialised x else x) ≡ true
     by_test true (Some x) k = refl
     by_test true None k = k
     by_test false x k = k

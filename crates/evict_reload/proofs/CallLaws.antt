@@ -13,7 +13,8 @@ use Rattle.sgx_types.specs.declared.names.Perm.{Perm}
 use Rattle.sgx_types.specs.declared.names.SlotAt.{SlotAt}
 use Rattle.sgx_rules.specs.declared.refusals.Refusal.{Refusal}
 use Rattle.sgx_rules.specs.declared.refusals.Refusal.TheVariants as why
-use Rattle.sgx_rules.specs.Table.{DrainSight, LoadSight, UseSight, first_of_row, is_va, is_valid, is_out_of_range}
+use Rattle.sgx_types.specs.Cases.{first_of_row}
+use Rattle.sgx_rules.specs.Table.{DrainSight, LoadSight, UseSight, is_va, is_valid, is_out_of_range}
 use Rattle.sgx_rules.specs.inner.Table.{refusal_in}
 use Rattle.sgx_rules.specs.Table.{ewbstart_row, eldstart_row}
 use Rattle.epcm_entry.specs.declared.entry_view.EntryView.TheVariants as views

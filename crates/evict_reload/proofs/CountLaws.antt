@@ -6,7 +6,8 @@ use Rattle.std.proofs.lemmas.Bool.{cond_both, eqb-true, eqb-false, eq-eqb, false
 use Rattle.std.proofs.lemmas.List.{get_or_past}
 use Rattle.std.specs.Option.{option_and_then}
 use Rattle.sgx_types.specs.declared.names.TheConstants.{MOST_FRAMES, SECS_NUMBER}
-use Rattle.sgx_rules.specs.Table.{FrameSight, LoadSight, SlotSight, eldstart_row, first_of_row, is_busy}
+use Rattle.sgx_types.specs.Cases.{first_of_row}
+use Rattle.sgx_rules.specs.Table.{FrameSight, LoadSight, SlotSight, eldstart_row, is_busy}
 use Rattle.sgx_rules.proofs.Contents.{free_there}
 use Rattle.sgx_rules.proofs.Rows.{none_holds}
 use Rattle.sgx_types.proofs.Truths.{neither, not_false}
@@ -31,34 +32,10 @@ use Rattle.secs_state.specs.inner.Resident.{IsCountedIn}
 use Rattle.secs_state.specs.inner.Secs.{SecsState, added_at, with_children, with_frame}
 use Rattle.secs_state.specs.inner.Table.{enclave_at, with_enclave}
 use Rattle.secs_state.proofs.Columns.{enclave_at-with_enclave}
+use Rattle.secs_state.proofs.Counted.{counted_put}
 use Rattle.evict_reload.specs.inner.Effects.{SameBeside, beside, with_child, with_child_of, with_frame_of, with_kind}
 use Rattle.evict_reload.specs.inner.Effects.{with_page_of, without_child, without_child_of, without_page_of}
 use Rattle.evict_reload.specs.inner.Sights.{AreCountedIn, is_added, is_kind_own, is_known, load_sight}
-
--- a frame comes to hold something else, where no SECS comes or goes
-pub counted_put : (frames : ℕ) (old new : ℕ → Content) (f : ℕ) (c : Content) (e : ℕ) (x y : SecsState) → f < frames
-    → ((n : ℕ) → new n ≡ cond (f == n) c (old n)) → is_secs_of (old f) e ≡ false → is_secs_of c e ≡ false
-    → y.frame ≡ x.frame → y.children + one_if (is_child (old f) e) ≡ x.children + one_if (is_child c e)
-    → IsCountedIn frames old e x → IsCountedIn frames new e y
-counted_put frames old new f c e x y low put none no_secs frame children_are h = record {
-  children =
-      let now : children frames new e ≡ _ = count_below-agrees (λ n. is_child (new n) e)
-      (λ n. cond (f == n) (is_child c e) (is_child (old n) e))
-      (λ n. ap (λ v. is_child v e) (put n) ∙ moved (λ v. is_child v e) (f == n) (old n)) frames in
-      let one = count_below-put (λ n. is_child (old n) e) frames f (is_child c e) low in
-      omega (arith, now, one, h.children, children_are);
-  frame = ap (option_map (λ (f : Frame). f.0)) frame ∙ h.frame
-      ∙ sym (least_agrees (λ n. is_secs_of (new n) e) (λ n. is_secs_of (old n) e) frames
-      (λ n less. ap (λ v. is_secs_of v e) (put n) ∙ same n));
-}
-  where
-    moved : (test : Content → Bool) (b : Bool) (v : Content) → test (cond b c v) ≡ cond b (test c) (test v)
-    moved test true v = refl
-    moved test false v = refl
-
-    same : (n : ℕ) → is_secs_of (cond (f == n) c (old n)) e ≡ is_secs_of (old n) e
-    same n = cond_both (f == n) c (old n) (λ v. is_secs_of v e ≡ is_secs_of (old n) e)
-        (λ here. no_secs ∙ sym none ∙ ap (λ m. is_secs_of (old m) e) (eqb-true f n here)) (λ _. refl)
 
 -- what frames hold once one of them waits for a page
 held-loading : (epc : List EpcFrame) (f : ℕ) (page : Page) → f < length epc → (n : ℕ)

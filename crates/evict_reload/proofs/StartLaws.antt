@@ -4,9 +4,11 @@ use Rattle.sgx_rules.specs.declared.refusals.Refusal.{Refusal}
 use Rattle.sgx_rules.specs.declared.refusals.Refusal.TheVariants as why
 use Rattle.sgx_rules.specs.Frames.{is_free}
 use Rattle.evict_reload.specs.inner.Sights.{page_row, stay_row}
-use Rattle.sgx_rules.specs.Table.{Case, DrainSight, FrameSight, LoadSight, SlotSight, UseSight, allowed, when, ◌otherwise◌}
+use Rattle.sgx_types.specs.Cases.{allowed, when, ◌otherwise◌}
+use Rattle.sgx_rules.specs.Table.{DrainSight, FrameSight, LoadSight, Row, SlotSight, UseSight}
 use Rattle.sgx_rules.specs.Table.{is_busy, is_loading, is_out_of_range}
-use Rattle.sgx_rules.specs.Table.{is_va, is_valid, first_of_row, eldstart_row, ewbstart_row}
+use Rattle.sgx_types.specs.Cases.{first_of_row}
+use Rattle.sgx_rules.specs.Table.{is_va, is_valid, eldstart_row, ewbstart_row}
 use Rattle.epcm_entry.specs.declared.entry_view.EntryView.{EntryView}
 use Rattle.epcm_entry.specs.declared.entry_view.EntryView.TheVariants as views
 use Rattle.epcm_entry.specs.inner.EntryView.{claim_answer, goes_out}
@@ -14,7 +16,7 @@ use Rattle.epcm_entry.specs.inner.EntryView.{is_free as holds_nothing, is_busy a
 use Rattle.sgx_types.specs.declared.names.Kind.TheVariants as kinds
 use Rattle.epcm_entry.specs.inner.Epc.{EpcFrame, entry_at}
 use Rattle.epcm_entry.specs.inner.Sights.{sight_in, held}
-use Rattle.sgx_rules.proofs.Rows.{none_holds}
+use Rattle.sgx_rules.proofs.Rows.{first_longer, none_holds}
 use Rattle.sgx_types.proofs.Truths.{neither}
 
 -- a frame that is not busy can be claimed
@@ -38,17 +40,6 @@ seals epc f uses slot drain spent row =
     claimed (entry_at epc f) (neither (is_busy (sight_in epc f)) slot.is_busy
     (neither (is_busy (sight_in epc f) || slot.is_busy) uses.is_in_use
     (none_holds (ewbstart_row (sight_in epc f) uses slot drain spent) row).1.0).0).0
-
--- a case of the first rows is one of a longer row
-pub first_longer : (cases rest : List Case) (r : Refusal) → first_of_row cases ≡ Some r → first_of_row (cases ++ rest) ≡ Some r
-first_longer [] rest r is = cc is
-first_longer (c ∷ cases) rest r is = by_test c.holds is (first_longer cases rest r)
-  where
-    by_test : (b : Bool) → cond b (Some c.why) (first_of_row cases) ≡ Some r
-        → (first_of_row cases ≡ Some r → first_of_row (cases ++ rest) ≡ Some r)
-        → cond b (Some c.why) (first_of_row (cases ++ rest)) ≡ Some r
-    by_test true k more = k
-    by_test false k more = more k
 
 -- the cases of the page come behind those of the range
 pub page_first : (s : FrameSight) (load : LoadSight) (slot : SlotSight) (r : Refusal) → is_out_of_range s slot ≡ false

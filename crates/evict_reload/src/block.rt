@@ -1,7 +1,8 @@
 //! EBLOCK: no new translation of a page is made.
 
 ghost use Rattle.std.specs.Prelude.{◌≡◌, OnOk, OnErr};
-ghost use Rattle.sgx_rules.specs.Table.{first_of_row, block_row};
+ghost use Rattle.sgx_types.specs.Cases.{first_of_row};
+ghost use Rattle.sgx_rules.specs.Table.{block_row};
 ghost use Rattle.sgx_rules.specs.inner.Table.{refusal_in};
 ghost use Rattle.epcm_entry.specs.inner.Sights.{sight_in};
 ghost use Rattle.evict_reload.specs.inner.Sights.{IsNumbered};

@@ -2,7 +2,8 @@
 
 ghost use Rattle.sgx_types.specs.declared.names.TheConstants.{MOST_FRAMES};
 ghost use Rattle.std.specs.Prelude.{is_some, IfSome, ◌≤◌, ◌≡◌, ◌<◌, true, false, Some, IfOk, OnOk, OnErr, length};
-ghost use Rattle.sgx_rules.specs.Table.{first_of_row, eldstart_row};
+ghost use Rattle.sgx_types.specs.Cases.{first_of_row};
+ghost use Rattle.sgx_rules.specs.Table.{eldstart_row};
 ghost use Rattle.sgx_rules.specs.inner.Table.{refusal_in};
 ghost use Rattle.epcm_entry.specs.inner.EntryView.{is_valid};
 ghost use Rattle.epcm_entry.specs.inner.Epc.{entry_at, with_loading, cleared};

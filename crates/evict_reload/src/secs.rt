@@ -1,7 +1,7 @@
 //! The cases of a row that an enclave's SECS gives.
 
 ghost use Rattle.std.specs.Prelude.{◌≡◌, length};
-ghost use Rattle.sgx_rules.specs.Table.{first_of_row};
+ghost use Rattle.sgx_types.specs.Cases.{first_of_row};
 ghost use Rattle.epcm_entry.specs.inner.Sights.{held_in};
 ghost use Rattle.secs_state.specs.inner.Resident.{IsCountedIn};
 ghost use Rattle.evict_reload.specs.inner.Sights.{secs_row, secs_sight};

@@ -1,7 +1,8 @@
 //! ETRACK: an enclave's next epoch begins.
 
 ghost use Rattle.std.specs.Prelude.{◌≡◌, ◌+◌, IfOk, OnOk, OnErr};
-ghost use Rattle.sgx_rules.specs.Table.{first_of_row, track_row};
+ghost use Rattle.sgx_types.specs.Cases.{first_of_row};
+ghost use Rattle.sgx_rules.specs.Table.{track_row};
 ghost use Rattle.sgx_rules.specs.inner.Table.{refusal_in};
 ghost use Rattle.track_epoch.specs.inner.Tracks.{track_of};
 ghost use Rattle.evict_reload.specs.inner.Sights.{AreCountedIn, track_sight};

@@ -1,7 +1,8 @@
 //! EWB by a start and a commit: a page goes out.
 
 ghost use Rattle.std.specs.Prelude.{◌≡◌, ◌≢◌, ◌+◌, ◌<◌, ◌&&◌, length, true, Some, IfOk, OnOk, OnErr};
-ghost use Rattle.sgx_rules.specs.Table.{first_of_row, ewbstart_row};
+ghost use Rattle.sgx_types.specs.Cases.{first_of_row};
+ghost use Rattle.sgx_rules.specs.Table.{ewbstart_row};
 ghost use Rattle.sgx_rules.specs.inner.Table.{refusal_in};
 ghost use Rattle.epcm_entry.specs.inner.Epc.{entry_at, with_sealing, cleared};
 ghost use Rattle.epcm_entry.specs.inner.Sights.{sight_in};

@@ -12,8 +12,9 @@ use Rattle.sgx_types.specs.declared.lawful.PageInit.TheVariants as inits
 use Rattle.sgx_types.specs.Pages.{same_page, page_at}
 use Rattle.sgx_rules.specs.Table as table
 use Rattle.sgx_types.specs.Lawful as limits
-use Rattle.sgx_rules.specs.Table.{first_of_row, create_row, add_row}
-use Rattle.sgx_rules.specs.Flat.{settled, FlatMemory, FlatPage, FlatEnclave, open_frame, enclave_sight_of, marked, initialised}
+use Rattle.sgx_types.specs.Cases.{first_of_row}
+use Rattle.sgx_rules.specs.Table.{create_row, add_row}
+use Rattle.sgx_rules.specs.Flat.{settled, FlatMemory, FlatPage, FlatEnclave, open_frame, enclave_sight_of, as_initialised, initialised}
 use Rattle.sgx_rules.specs.Flat.{with_enclave}
 use Rattle.sgx_rules.specs.Flat.{with_page, with_busy, with_cpu, with_words, rewritten, left, is_inside_by}
 use Rattle.flat_machine.specs.declared.table.PlainPage.{PlainPage}
@@ -45,14 +46,14 @@ memory_init d e x is = λ t. record (memory_of d) { enclaves = λ n. each n t }
     now = record x { is_init = true }
 
     each : (n : ℕ) → enclave_of (get_or (set d.enclaves e (Some (record x { is_init = true }))) n None) ≡ cond (n == e)
-        (marked (enclave_of (get_or d.enclaves n None))) (enclave_of (get_or d.enclaves n None))
+        (as_initialised (enclave_of (get_or d.enclaves n None))) (enclave_of (get_or d.enclaves n None))
     each n = rw (get_or-set_if d.enclaves e n (Some (record x { is_init = true })) None (place_of d.enclaves e _ is), eqb-swap e n)
         (by_test (n == e) refl)
       where
         by_test : (b : Bool) → (n == e) ≡ b
             → enclave_of (cond b (Some (record x { is_init = true })) (get_or d.enclaves n None)) ≡ cond b
-            (marked (enclave_of (get_or d.enclaves n None))) (enclave_of (get_or d.enclaves n None))
-        by_test true same = sym (ap marked (ap (λ k. enclave_of (get_or d.enclaves k None)) (eqb-true n e same) ∙ is))
+            (as_initialised (enclave_of (get_or d.enclaves n None))) (enclave_of (get_or d.enclaves n None))
+        by_test true same = sym (ap as_initialised (ap (λ k. enclave_of (get_or d.enclaves k None)) (eqb-true n e same) ∙ is))
         by_test false other = refl
 
 -- ---- create

@@ -2,7 +2,8 @@
 
 ghost use Rattle.std.specs.Prelude.{◌≡◌, ◌<◌, ◌==◌, ◌&&◌, ◌^◌, ◌/◌, ◌%◌, ◌+◌, is_some, Some};
 ghost use Rattle.sgx_rules.specs.declared.entries.Answer.TheVariants as answers;
-ghost use Rattle.sgx_rules.specs.Table.{first_of_row, access_row, load_row, store_row, xadd_row, inside_row, pf_row};
+ghost use Rattle.sgx_types.specs.Cases.{first_of_row};
+ghost use Rattle.sgx_rules.specs.Table.{access_row, load_row, store_row, xadd_row, inside_row, pf_row};
 ghost use Rattle.sgx_rules.specs.Table.{outside_row, allows, is_lawful_access, fault_of};
 ghost use Rattle.sgx_rules.specs.declared.entries.AccessOp.TheVariants as accesses;
 ghost use Rattle.sgx_rules.specs.Flat.{flat_translation, added_at_offset, word_seen, stored, sum_of, all_ones, with_acc};

@@ -3,7 +3,8 @@
 ghost use Rattle.std.specs.Prelude.{◌≡◌, ◌<◌, false, is_some, IfOk, OnOk, OnErr};
 ghost use Rattle.sgx_rules.specs.declared.entries.Answer.TheVariants as answers;
 ghost use Rattle.sgx_types.specs.Pages.{page_at};
-ghost use Rattle.sgx_rules.specs.Table.{first_of_row, create_row, add_row, extend_row, init_row};
+ghost use Rattle.sgx_types.specs.Cases.{first_of_row};
+ghost use Rattle.sgx_rules.specs.Table.{create_row, add_row, extend_row, init_row};
 ghost use Rattle.sgx_rules.specs.Flat.{open_frame, settled, some_page, enclave_sight, first_words, with_enclave, with_page, initialised};
 ghost use Rattle.flat_machine.specs.inner.Parts.{memory_of};
 ghost use Rattle.flat_machine.specs.inner.Step.{replied, taken};

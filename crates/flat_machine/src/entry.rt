@@ -3,7 +3,8 @@
 ghost use Rattle.std.specs.Prelude.{◌≡◌, ◌<◌, ◌+◌, ◌-◌, ◌==◌, ◌^◌, ◌%◌, ◌/◌, true, is_some, Some};
 ghost use Rattle.sgx_rules.specs.declared.entries.Answer.TheVariants as answers;
 ghost use Rattle.sgx_types.specs.Pages.{page_at};
-ghost use Rattle.sgx_rules.specs.Table.{first_of_row, when, entry_row, ssa_row, inside_row};
+ghost use Rattle.sgx_types.specs.Cases.{first_of_row, when};
+ghost use Rattle.sgx_rules.specs.Table.{entry_row, ssa_row, inside_row};
 ghost use Rattle.sgx_rules.specs.Flat.{flat_frame, flat_enter_sight, flat_enter_row, flat_resume_row, fields_in};
 ghost use Rattle.sgx_rules.specs.Flat.{with_words, with_cssa, entered, left, saved, resumed, resumed_word};
 ghost use Rattle.flat_machine.specs.inner.Parts.{memory_of, fields_of, seat};

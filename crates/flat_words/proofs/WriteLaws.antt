@@ -20,14 +20,15 @@ use Rattle.sgx_rules.specs.declared.entries.Entry.{Entry}
 use Rattle.sgx_rules.specs.declared.entries.Event.{Event}
 use Rattle.sgx_rules.specs.declared.entries.Event.TheVariants.{Did}
 use Rattle.sgx_rules.specs.declared.refusals.Refusal.{Refusal}
-use Rattle.sgx_rules.specs.Table.{EnclaveSight, first_of_row, add_row}
+use Rattle.sgx_types.specs.Cases.{first_of_row}
+use Rattle.sgx_rules.specs.Table.{EnclaveSight, add_row}
 use Rattle.sgx_rules.proofs.Rows.{none_holds}
 use Rattle.sgx_rules.specs.Flat.{FlatMemory, FlatPage, Inside, accepts, memory_after, event_after, cpu_after, with_words, with_cssa}
 use Rattle.sgx_rules.specs.Flat.{rewritten}
 use Rattle.sgx_rules.specs.Flat.{word_index, fields_in, stored, saved, first_words, open_frame, settled, enclave_sight}
 use Rattle.flat_words.specs.declared.writes.NewPage.{NewPage}
 use Rattle.flat_words.specs.Words.{word_of, word_in}
-use Rattle.flat_words.specs.Writes.{is_touched, writes_of, cpu_writes, touched, new_page, added_by, word_with, save_words, word_at_offset}
+use Rattle.flat_words.specs.Writes.{is_touched, writes_of, cpu_writes, touched, new_page, page_added, word_with, save_words, word_at_offset}
 
 -- ---- one word written
 
@@ -104,12 +105,12 @@ taken_if true m actor action g k apart = by_actor m actor action g k apart
 taken_if false m actor action g k apart = refl
 
 after : (m : FlatMemory) (actor : Actor) (event : Event) (g : Page) (k : ℕ) → is_touched (touched m actor event) g k ≡ false
-    → word_in (event_after actor event m) g k ≡ word_with (added_by m actor event) g k (word_in m g k)
+    → word_in (event_after actor event m) g k ≡ word_with (page_added m actor event) g k (word_in m g k)
 after m actor (Did action answer) g k apart = taken_if (accepts m actor action) m actor action g k apart
 after m actor event g k apart = refl
 
 pub words_after : (m : FlatMemory) (e : Entry) (g : Page) (k : ℕ) → is_touched (touched m e.actor e.event) g k ≡ false
-    → word_in (event_after e.actor e.event m) g k ≡ word_with (added_by m e.actor e.event) g k (word_in m g k)
+    → word_in (event_after e.actor e.event m) g k ≡ word_with (page_added m e.actor e.event) g k (word_in m g k)
 words_after m e g k apart = after m e.actor e.event g k apart
 
 -- ---- which pages there are
@@ -173,12 +174,12 @@ added_if_taken true m actor action g k = added_by_actor m actor action g k
 added_if_taken false m actor action g k = refl
 
 added_by_event : (m : FlatMemory) (actor : Actor) (event : Event) (g : Page) (k : ℕ)
-    → is_some (word_in (event_after actor event m) g k) ≡ is_some (word_with (added_by m actor event) g k (word_in m g k))
+    → is_some (word_in (event_after actor event m) g k) ≡ is_some (word_with (page_added m actor event) g k (word_in m g k))
 added_by_event m actor (Did action answer) g k = added_if_taken (accepts m actor action) m actor action g k
 added_by_event m actor event g k = refl
 
 pub added_or_kept : (m : FlatMemory) (e : Entry) (g : Page) (k : ℕ)
-    → is_some (word_in (event_after e.actor e.event m) g k) ≡ is_some (word_with (added_by m e.actor e.event) g k (word_in m g k))
+    → is_some (word_in (event_after e.actor e.event m) g k) ≡ is_some (word_with (page_added m e.actor e.event) g k (word_in m g k))
 added_or_kept m e g k = added_by_event m e.actor e.event g k
 
 -- ---- pages
@@ -212,12 +213,12 @@ new_if : (b : Bool) (m : FlatMemory) (actor : Actor) (action : Action) (x : NewP
 new_if true m actor action x taken is = taken_new m actor action x taken is
 new_if false m actor action x taken is = absurd (false≢true (ap is_some is))
 
-new_by_event : (m : FlatMemory) (actor : Actor) (event : Event) (x : NewPage) → added_by m actor event ≡ Some x
+new_by_event : (m : FlatMemory) (actor : Actor) (event : Event) (x : NewPage) → page_added m actor event ≡ Some x
     → m.pages (page_at x.enclave x.number) ≡ None
 new_by_event m actor (Did action answer) x is = new_if (accepts m actor action) m actor action x refl is
 new_by_event m actor event x is = absurd (false≢true (ap is_some is))
 
-pub none_before : (m : FlatMemory) (e : Entry) (x : NewPage) → added_by m e.actor e.event ≡ Some x
+pub none_before : (m : FlatMemory) (e : Entry) (x : NewPage) → page_added m e.actor e.event ≡ Some x
     → m.pages (page_at x.enclave x.number) ≡ None
 none_before m e x is = new_by_event m e.actor e.event x is
 
@@ -240,4 +241,4 @@ elsewhere m (Some x) g k before none there =
 pub added_words_stay : (m : FlatMemory) (e : Entry) (g : Page) (k : ℕ) → is_some (m.pages g) ≡ true
     → is_touched (touched m e.actor e.event) g k ≡ false → word_in (event_after e.actor e.event m) g k ≡ word_in m g k
 added_words_stay m e g k there apart =
-    words_after m e g k apart ∙ elsewhere m (added_by m e.actor e.event) g k (word_in m g k) (none_before m e) there
+    words_after m e g k apart ∙ elsewhere m (page_added m e.actor e.event) g k (word_in m g k) (none_before m e) there

@@ -73,9 +73,9 @@ new_page (Add enclave number f kind perm init) = Some (record { enclave = enclav
 new_page _ = None
 
 -- the page that an entry adds
-abbrev pub added_by : FlatMemory → Actor → Event → Option NewPage
-added_by m actor (Did action answer) = if accepts m actor action then new_page action else None
-added_by m actor _ = None
+abbrev pub page_added : FlatMemory → Actor → Event → Option NewPage
+page_added m actor (Did action answer) = if accepts m actor action then new_page action else None
+page_added m actor _ = None
 
 -- a word that is not written, where this page is added
 abbrev pub word_with : Option NewPage → Page → ℕ → Option ℕ → Option ℕ

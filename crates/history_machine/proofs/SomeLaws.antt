@@ -6,7 +6,7 @@ use Rattle.job_grammar.specs.Jobs.{JobView}
 use Rattle.driver_rules.specs.Scripts.{ScriptRule}
 use Rattle.history_rules.specs.declared.rules.Rule.{Rule}
 use Rattle.history_rules.specs.declared.rules.Rule.TheVariants as rules
-use Rattle.history_rules.specs.Histories.{Before, FailsHere, History, IsPlace, Keeps, Says, Throughout, rank}
+use Rattle.history_rules.specs.Histories.{Before, FailsHere, History, IsPlace, Keeps, RuleSays, Throughout, rank}
 use Rattle.history_rules.specs.inner.Histories.{is_machines}
 use Rattle.history_machine.specs.Histories.{FailsAmong, FailsFirstAmong, MachineHistory}
 
@@ -48,7 +48,7 @@ said_at says whole past (Some e) cut h = said_before says cut.0 past e (subst (B
 pub fails_nowhere : (j : JobView) (whole : List Entry) (place : ℕ) (rule : Rule) → FailsFirstAmong is_machines j whole place rule
     → MachineHistory j whole → ⊥
 fails_nowhere j whole place rule fault h =
-    fault.here.fails (said_at (Says j rule) whole fault.past fault.next fault.is_place (keeps_own j whole h rule fault.here.own))
+    fault.here.fails (said_at (RuleSays j rule) whole fault.past fault.next fault.is_place (keeps_own j whole h rule fault.here.own))
 
 -- ---- behind Script the first of the processor's rules is the first of all
 
@@ -69,10 +69,10 @@ pub first_of_all : (j : JobView) (past : List Entry) (e : Entry) (rule : Rule) �
     → FailsAmong is_machines j past (Some e) rule → FailsHere j past (Some e) rule
 first_of_all j past e rule script h = record { earlier = earlier; fails = h.fails }
   where
-    earlier : (r : Rule) → rank r < rank rule → Says j r past (Some e)
+    earlier : (r : Rule) → rank r < rank rule → RuleSays j r past (Some e)
     earlier r low = by_test (tested (is_machines r))
       where
-        by_test : (is_machines r ≡ true) ⊎ (is_machines r ≡ false) → Says j r past (Some e)
+        by_test : (is_machines r ≡ true) ⊎ (is_machines r ≡ false) → RuleSays j r past (Some e)
         by_test (inl own) = h.earlier r own low
         by_test (inr other) =
-            subst (λ x. Says j x past (Some e)) (sym (earlier_own r rule h.own low other)) script
+            subst (λ x. RuleSays j x past (Some e)) (sym (earlier_own r rule h.own low other)) script

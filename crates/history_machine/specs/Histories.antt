@@ -5,7 +5,7 @@ use Rattle.sgx_rules.specs.declared.entries.Entry.{Entry}
 use Rattle.job_grammar.specs.Jobs.{JobView}
 use Rattle.history_rules.specs.declared.rules.Rule.{Rule}
 use Rattle.history_rules.specs.declared.rules.Rule.TheVariants as rules
-use Rattle.history_rules.specs.Histories.{Before, IsPlace, Keeps, Says, rank}
+use Rattle.history_rules.specs.Histories.{Before, IsPlace, Keeps, RuleSays, rank}
 
 -- a trace keeps the processor's rules, whoever made it
 pub record MachineHistory (j : JobView) (past : List Entry) : Type 0 where
@@ -23,8 +23,8 @@ pub record MachineHistory (j : JobView) (past : List Entry) : Type 0 where
 -- at a place this one of some rules fails, and none of them that is named before it
 pub record FailsAmong (among : Rule → Bool) (j : JobView) (past : List Entry) (next : Option Entry) (rule : Rule) : Type 0 where
   pub own : among rule ≡ true
-  pub earlier : (r : Rule) → among r ≡ true → rank r < rank rule → Says j r past next
-  pub fails : Says j rule past next → ⊥
+  pub earlier : (r : Rule) → among r ≡ true → rank r < rank rule → RuleSays j r past next
+  pub fails : RuleSays j rule past next → ⊥
 
 -- .. and at no earlier place any of them fails
 pub record FailsFirstAmong (among : Rule → Bool) (j : JobView) (whole : List Entry) (place : ℕ) (rule : Rule) : Type 0 where
@@ -32,5 +32,5 @@ pub record FailsFirstAmong (among : Rule → Bool) (j : JobView) (whole : List E
   pub next : Option Entry
   pub is_place : IsPlace whole past next
   pub placed : length past ≡ place
-  pub before : (r : Rule) → among r ≡ true → Before (Says j r) past
+  pub before : (r : Rule) → among r ≡ true → Before (RuleSays j r) past
   pub here : FailsAmong among j past next rule

@@ -14,7 +14,7 @@ use Rattle.driver_laws.proofs.HistoryLaws.{driven_pages, driven_sound}
 use Rattle.driver_laws.proofs.TcsLaws.{driven_apart}
 use Rattle.history_rules.specs.declared.rules.Rule.{Rule}
 use Rattle.history_rules.specs.declared.rules.Rule.TheVariants as rules
-use Rattle.history_rules.specs.Histories.{AtEntry, Before, FailsFirst, History, IsPlace, Keeps, Says, Throughout}
+use Rattle.history_rules.specs.Histories.{AtEntry, Before, FailsFirst, History, IsPlace, Keeps, RuleSays, Throughout}
 use Rattle.history_rules.specs.inner.Histories.{GoesOn}
 
 -- ---- the rules of a history
@@ -77,7 +77,7 @@ said_at says whole past (Some e) cut h = said_before says cut.0 past e (subst (B
 
 pub no_history : (j : JobView) (whole : List Entry) (place : ℕ) (rule : Rule) → FailsFirst j whole place rule → History j whole → ⊥
 no_history j whole place rule fault h =
-    fault.here.fails (said_at (Says j rule) whole fault.past fault.next fault.is_place (keeps_rule j whole h rule))
+    fault.here.fails (said_at (RuleSays j rule) whole fault.past fault.next fault.is_place (keeps_rule j whole h rule))
 
 -- ---- the driver's laws
 
@@ -91,7 +91,7 @@ placed_along : (rule : List Entry → Entry → Type 0) (P : List Entry → Type
 placed_along rule P [] h = tt
 placed_along rule P (e ∷ past) h = (h.0.0, placed_along rule P past h.1)
 
-script_along : (j : JobView) (past : List Entry) → Before (Says j rules.Script) past → Along (λ p e. Says j rules.Script p (Some e)) past
+script_along : (j : JobView) (past : List Entry) → Before (RuleSays j rules.Script) past → Along (λ p e. RuleSays j rules.Script p (Some e)) past
 script_along j [] h = tt
 script_along j (e ∷ past) h = (h.0, script_along j past h.1)
 

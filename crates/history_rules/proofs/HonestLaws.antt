@@ -43,7 +43,7 @@ use Rattle.history_rules.specs.Calls.{CallsAre, ComesWith, IsFailed, IsGiven, Is
 use Rattle.history_rules.specs.Given.{gift, gift_after, got_last}
 use Rattle.history_rules.specs.Honest.{IsHonest, gift_of, last_put}
 use Rattle.history_rules.specs.inner.Honest.{GiftsAreLast, IsLastPut}
-use Rattle.history_rules.specs.Stored.{PutsSealed, StoreCalls, Tells}
+use Rattle.history_rules.specs.Stored.{PutsSealed, StoreCalls, TellsOfStore}
 
 -- ---- the last record put of a page
 
@@ -136,7 +136,7 @@ put_before key e past calls g version c out was = record {
 
 -- how one entry more leaves it
 sealed_by : (key : List ℕ) (past : List Entry) (actor : Actor) (ev : Event) (calls : List Call) (g : Page) (o : Out) → ComesWith ev calls
-    → Tells key past (gift past (before ev calls)) ev calls
+    → TellsOfStore key past (gift past (before ev calls)) ev calls
     → (last_out past g ≡ Some o → IsLastPut key past (before ev calls) g o.version) → out_after ev g (last_out past g) ≡ Some o
     → IsLastPut key (entry_of actor ev ∷ past) calls g o.version
 sealed_by key past actor (Did (Ewb f) (Moved page version tag)) calls g o c t was k = by_page (same_page page g) refl k

@@ -12,12 +12,12 @@ use Rattle.driver_rules.specs.Ages.{AgeRule, KickRule}
 use Rattle.driver_rules.specs.Scripts.{ScriptRule}
 use Rattle.history_rules.specs.declared.rules.Rule.{Rule}
 use Rattle.history_rules.specs.declared.rules.Rule.TheVariants as rules
-use Rattle.history_rules.specs.Histories.{Says}
+use Rattle.history_rules.specs.Histories.{RuleSays}
 use Rattle.history_rules.specs.inner.Histories.{GoesOn, is_machines, is_note}
 
 -- what a rule of the machine says of the place is all that it says of such an entry
 pub note_says : (j : JobView) (past : List Entry) (a : Actor) (ev : Event) (rule : Rule) → is_note ev ≡ true → is_machines rule ≡ true
-    → Says j rule past None → Says j rule past (Some (record { actor = a; event = ev }))
+    → RuleSays j rule past None → RuleSays j rule past (Some (record { actor = a; event = ev }))
 note_says j past a (Age page look) rules.Refusal note own h = tt
 note_says j past a (Age page look) rules.Flat note own h = tt
 note_says j past a (Age page look) rules.Fits note own h = (tt, h.1)

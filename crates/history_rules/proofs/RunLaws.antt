@@ -15,14 +15,14 @@ use Rattle.io_edges.specs.declared.plans.PlanLine.{PlanLine}
 use Rattle.job_grammar.specs.Jobs.{JobView}
 use Rattle.backing_store.specs.Calls.{Call}
 use Rattle.history_rules.specs.Calls.{before}
-use Rattle.history_rules.specs.Given.{UnforgedRun, gift, given_in, given_more, looked_at, made_in, made_more}
+use Rattle.history_rules.specs.Given.{UnforgedRun, gift, given_in, given_more, record_looked_at, made_in, made_more}
 use Rattle.history_rules.specs.Stored.{StoreCalls, StoreTrue}
 
 -- a given record tells a number of records, which had been made
 abbrev TellsUpTo : List Made → GivenRecord → Type 0
 TellsUpTo records one = one.made ≤ length records
 
-looked_early : (start : Option Start) (records : List Made) (rec : Option Sealed) → All (TellsUpTo records) (looked_at start records rec)
+looked_early : (start : Option Start) (records : List Made) (rec : Option Sealed) → All (TellsUpTo records) (record_looked_at start records rec)
 looked_early None records rec = All-nil _
 looked_early (Some start) records None = All-nil _
 looked_early (Some start) records (Some rec) = All-push (TellsUpTo records) [] _ (All-nil _) (omega arith)

@@ -43,14 +43,14 @@ gift [] calls n = None
 gift (e ∷ past) calls n = gift_after e.event calls n (gift past (before e.event calls) n)
 
 -- a record that the end of a load looks at, under the version that its start found, with how many records were made before
-abbrev pub looked_at : Option Start → List Made → Option Sealed → List GivenRecord
-looked_at (Some start) made (Some rec) =
+abbrev pub record_looked_at : Option Start → List Made → Option Sealed → List GivenRecord
+record_looked_at (Some start) made (Some rec) =
     record { made = length made; version = start.version; header = rec.header; cipher = rec.cipher; tag = rec.tag } ∷ []
-looked_at _ made _ = []
+record_looked_at _ made _ = []
 
 abbrev pub given_more : Event → (ℕ → Option Start) → List Made → (ℕ → Option Sealed) → List GivenRecord
-given_more (Did (Eld f) answer) opened made gifts = looked_at (opened f.0) made (gifts f.0)
-given_more (Refused (Eld f) why) opened made gifts = looked_at (opened f.0) made (gifts f.0)
+given_more (Did (Eld f) answer) opened made gifts = record_looked_at (opened f.0) made (gifts f.0)
+given_more (Refused (Eld f) why) opened made gifts = record_looked_at (opened f.0) made (gifts f.0)
 given_more _ opened made gifts = []
 
 -- the records that the ends of loads looked at, in order

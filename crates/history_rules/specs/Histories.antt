@@ -38,18 +38,18 @@ abbrev pub SaysScript : JobView → List Entry → Option Entry → Type 0
 SaysScript j past None = IsEnded j past
 SaysScript j past (Some e) = ScriptRule j past e
 
-abbrev pub Says : JobView → Rule → List Entry → Option Entry → Type 0
-Says j rules.Script past next = SaysScript j past next
-Says j rules.Refusal past next = AtEntry (RefusalRule (machine_of j)) past next
-Says j rules.Flat past next = AtEntry FlatRule past next
-Says j rules.Fits past next = AtEntry (FitsRule j.epc) past next × NoPageTwice past
-Says j rules.Stale past next = AtEntry StaleRule past next × NoneStale past
-Says j rules.Evict past next = AtEntry EvictRule past next
-Says j rules.Fresh past next = AtEntry (FreshRule j.start_version) past next
-Says j rules.Sealed past next = AtEntry (SealedRule j.key) past next
-Says j rules.Measure past next = AtEntry MeasureRule past next
-Says j rules.Age past next = AtEntry (AgeRule j) past next
-Says j rules.Kick past next = AtEntry (KickRule j) past next
+abbrev pub RuleSays : JobView → Rule → List Entry → Option Entry → Type 0
+RuleSays j rules.Script past next = SaysScript j past next
+RuleSays j rules.Refusal past next = AtEntry (RefusalRule (machine_of j)) past next
+RuleSays j rules.Flat past next = AtEntry FlatRule past next
+RuleSays j rules.Fits past next = AtEntry (FitsRule j.epc) past next × NoPageTwice past
+RuleSays j rules.Stale past next = AtEntry StaleRule past next × NoneStale past
+RuleSays j rules.Evict past next = AtEntry EvictRule past next
+RuleSays j rules.Fresh past next = AtEntry (FreshRule j.start_version) past next
+RuleSays j rules.Sealed past next = AtEntry (SealedRule j.key) past next
+RuleSays j rules.Measure past next = AtEntry MeasureRule past next
+RuleSays j rules.Age past next = AtEntry (AgeRule j) past next
+RuleSays j rules.Kick past next = AtEntry (KickRule j) past next
 
 -- ---- along a trace
 
@@ -64,7 +64,7 @@ Throughout says past = says past None × Before says past
 
 -- a trace keeps a rule
 abbrev pub Keeps : JobView → Rule → List Entry → Type 0
-Keeps j rule past = Throughout (Says j rule) past
+Keeps j rule past = Throughout (RuleSays j rule) past
 
 -- a trace is a history of the job
 pub record History (j : JobView) (past : List Entry) : Type 0 where
@@ -89,8 +89,8 @@ IsPlace whole past (Some e) = (later : List Entry) × (whole ≡ later ++ e ∷ 
 
 -- at a place this rule fails, and none that is named before it
 pub record FailsHere (j : JobView) (past : List Entry) (next : Option Entry) (rule : Rule) : Type 0 where
-  pub earlier : (r : Rule) → rank r < rank rule → Says j r past next
-  pub fails : Says j rule past next → ⊥
+  pub earlier : (r : Rule) → rank r < rank rule → RuleSays j r past next
+  pub fails : RuleSays j rule past next → ⊥
 
 -- .. and at no earlier place any rule fails
 pub record FailsFirst (j : JobView) (whole : List Entry) (place : ℕ) (rule : Rule) : Type 0 where
@@ -98,5 +98,5 @@ pub record FailsFirst (j : JobView) (whole : List Entry) (place : ℕ) (rule : R
   pub next : Option Entry
   pub is_place : IsPlace whole past next
   pub placed : length past ≡ place
-  pub before : (r : Rule) → Before (Says j r) past
+  pub before : (r : Rule) → Before (RuleSays j r) past
   pub here : FailsHere j past next rule

@@ -42,18 +42,18 @@ IsUnfit key start (why.MacFail given computed) rec = (given ≡ rec.tag) × (com
 IsUnfit key start (why.BadHeader enclave address flags) rec = rec.header ≡ record { enclave = enclave; address = address; flags = flags }
 IsUnfit key start _ rec = ⊥
 
-abbrev pub Tells : List ℕ → List Entry → (ℕ → Option Sealed) → Event → List Call → Type 0
-Tells key past gifts (Did (Ewb f) (Moved page version told)) calls = PutsSealed key past page version calls
-Tells key past gifts (Did (Eld f) (Moved page version told)) calls = IsSomeAnd (gifts f.0) (IsBackBy past page told)
-Tells key past gifts (Refused (Eld f) refusal) calls =
+abbrev pub TellsOfStore : List ℕ → List Entry → (ℕ → Option Sealed) → Event → List Call → Type 0
+TellsOfStore key past gifts (Did (Ewb f) (Moved page version told)) calls = PutsSealed key past page version calls
+TellsOfStore key past gifts (Did (Eld f) (Moved page version told)) calls = IsSomeAnd (gifts f.0) (IsBackBy past page told)
+TellsOfStore key past gifts (Refused (Eld f) refusal) calls =
     IsSomeAnd (open_start past f.0) (λ start. IsSomeAnd (gifts f.0) (IsUnfit key start refusal))
-Tells key past gifts _ calls = Unit {0}
+TellsOfStore key past gifts _ calls = Unit {0}
 
 -- each entry tells what is so of the record of its call
 abbrev pub RecordsAre : List ℕ → List Entry → List Call → Type 0
 RecordsAre key [] calls = Unit {0}
 RecordsAre key (e ∷ past) calls =
-    Tells key past (gift past (before e.event calls)) e.event calls × RecordsAre key past (before e.event calls)
+    TellsOfStore key past (gift past (before e.event calls)) e.event calls × RecordsAre key past (before e.event calls)
 
 -- the store's calls are those of which the trace tells, and no others, in their order, with their answers and records
 pub record StoreCalls (key : List ℕ) (past : List Entry) (calls : List Call) : Type 0 where

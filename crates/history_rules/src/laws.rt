@@ -24,7 +24,7 @@ ghost use Rattle.backing_store.specs.Calls.{Call};
 ghost use Rattle.history_rules.specs.Calls.{CallsAre, before};
 ghost use Rattle.history_rules.specs.declared.rules.Rule.{Rule};
 ghost use Rattle.history_rules.specs.Given.{UnforgedRun};
-ghost use Rattle.history_rules.specs.Histories.{FailsFirst, History, Keeps, Says};
+ghost use Rattle.history_rules.specs.Histories.{FailsFirst, History, Keeps, RuleSays};
 ghost use Rattle.history_rules.specs.inner.Histories.{GoesOn, is_machines, is_note};
 ghost use Rattle.history_rules.specs.Honest.{IsHonest};
 ghost use Rattle.history_rules.specs.inner.Honest.{GiftsAreLast, IsLastPut};
@@ -78,7 +78,7 @@ pub fn flat_memory_has_the_pages()
 /// is one with such an entry too, where the entry keeps these three.
 pub fn entries_of_no_instruction()
     ensures says { (j : JobView) (past : List Entry) (a : Actor) (ev : Event) (rule : Rule) → is_note ev ≡ true → is_machines rule ≡ true
-        → Says j rule past None → Says j rule past (Some (record { actor = a; event = ev })) }
+        → RuleSays j rule past None → RuleSays j rule past (Some (record { actor = a; event = ev })) }
     ensures goes_on { (j : JobView) (past : List Entry) (a : Actor) (ev : Event) → is_note ev ≡ true
         → ScriptRule j past (record { actor = a; event = ev }) → AgeRule j past (record { actor = a; event = ev })
         → KickRule j past (record { actor = a; event = ev }) → GoesOn j past → GoesOn j (record { actor = a; event = ev } ∷ past) }

@@ -11,7 +11,7 @@ use Rattle.job_lines.specs.declared.keywords.Keyword.{Keyword}
 use Rattle.job_lines.specs.declared.keywords.Keyword.TheVariants as keywords
 use Rattle.job_lines.specs.declared.keywords.PlanWord.{PlanWord}
 use Rattle.job_lines.specs.declared.keywords.PlanWord.TheVariants as plan_words
-use Rattle.job_lines.specs.Statements.{Says, plan_of, row, epc_row, marks_row, key_row, start_row, enclave_row, tcs_row, reg_row}
+use Rattle.job_lines.specs.Statements.{LineSays, plan_of, row, epc_row, marks_row, key_row, start_row, enclave_row, tcs_row, reg_row}
 use Rattle.job_lines.specs.Statements.{expect_row, fail_row, drop_row, flip_row, replay_row, swap_row, plan_row, cpu_row}
 use Rattle.job_lines.specs.Statements.{outload_row}
 use Rattle.job_lines.specs.Statements.{outstore_row, statement_of}
@@ -58,7 +58,7 @@ is_skipped-take [] = refl
 is_skipped-take (word ∷ words) = refl
 
 -- what is made of a word in its place, where it is one of the choices, is the same
-bind-same : {K : Type 0} (o : Option K) (f g : K → Says) → ((k : K) → f k ≡ g k) → (ok_or o Word >>= f) ≡ (ok_or o Word >>= g)
+bind-same : {K : Type 0} (o : Option K) (f g : K → LineSays) → ((k : K) → f k ≡ g k) → (ok_or o Word >>= f) ≡ (ok_or o Word >>= g)
 bind-same None f g same = refl
 bind-same (Some k) f g same = same k
 

@@ -3,7 +3,7 @@ use Rattle.std.proofs.Common.{◌≡◌, ℕ, ◌+◌, ◌*◌, ◌/◌, ◌%◌
 use Rattle.std.proofs.Common.{arith}
 use Rattle.std.proofs.lemmas.Bool.{le-ltb, lt-ltb, ne_eqb}
 use Rattle.job_grammar.specs.declared.jobs.Op.TheVariants as ops
-use Rattle.job_make.specs.Generator.{after, draw, next_state}
+use Rattle.job_make.specs.Generator.{state_after, draw, next_state}
 use Rattle.job_make.specs.MadeOps.{made_op, op_of, own_offset, shared_offset}
 
 -- the product may be taken mod 2^64 first
@@ -24,9 +24,9 @@ module _ (kind own shared value : ℕ) where
   unfolding op_of
   op-adds le = rw (le-ltb kind 2 (omega arith), ne_eqb kind 2 (λ e. omega arith)) refl
 
-module _ (size cpu x kind page word first second third off : ℕ) (kind_is : kind ≡ draw 1 4 x) (first_is : first ≡ after 1 x)
-    (page_is : page ≡ draw 1 (size / 4) first) (second_is : second ≡ after 1 first) (word_is : word ≡ draw 1 512 second)
-    (third_is : third ≡ after 1 second) (off_is : off ≡ own_offset cpu page word) where
+module _ (size cpu x kind page word first second third off : ℕ) (kind_is : kind ≡ draw 1 4 x) (first_is : first ≡ state_after 1 x)
+    (page_is : page ≡ draw 1 (size / 4) first) (second_is : second ≡ state_after 1 first) (word_is : word ≡ draw 1 512 second)
+    (third_is : third ≡ state_after 1 second) (off_is : off ≡ own_offset cpu page word) where
   made-by : op_of kind off (shared_offset size) (draw 1 1000000 third) ≡ made_op size cpu x
   made-by = rw (off_is, word_is, page_is, kind_is, third_is, second_is, first_is) refl
 

@@ -10,10 +10,10 @@ unfoldable pub number_below : ℕ → ℕ → ℕ
 number_below bound x = x / 2 ^ 33 % bound
 
 -- the state behind so many draws
-abbrev pub after : ℕ → ℕ → ℕ
-after zero x = x
-after (suc n) x = next_state (after n x)
+abbrev pub state_after : ℕ → ℕ → ℕ
+state_after zero x = x
+state_after (suc n) x = next_state (state_after n x)
 
 -- what the nth draw from a state on answers, counted from 1
 abbrev pub draw : ℕ → ℕ → ℕ → ℕ
-draw n bound x = number_below bound (after n x)
+draw n bound x = number_below bound (state_after n x)

@@ -3,7 +3,7 @@ use Rattle.std.specs.Prelude.{ℕ, zero, suc, ◌+◌, ◌*◌, ◌/◌, ◌==�
 use Rattle.std.specs.Prelude.{nat_lt}
 use Rattle.job_grammar.specs.declared.jobs.Op.{Op}
 use Rattle.job_grammar.specs.declared.jobs.Op.TheVariants.{Enter, Exit, Load, Store, Xadd}
-use Rattle.job_make.specs.Generator.{after, draw}
+use Rattle.job_make.specs.Generator.{state_after, draw}
 
 -- ---- one operation
 
@@ -29,7 +29,7 @@ made_op size cpu x =
 
 -- a value is drawn for a store alone
 abbrev pub state_behind_op : ℕ → ℕ
-state_behind_op x = if draw 1 4 x == 2 then after 4 x else after 3 x
+state_behind_op x = if draw 1 4 x == 2 then state_after 4 x else state_after 3 x
 
 -- ---- scripts
 

@@ -16,7 +16,8 @@ use Rattle.job_lines.specs.declared.statements.Operation.TheVariants as ops
 use Rattle.job_lines.specs.declared.statements.Operation.{Operation}
 use Rattle.job_lines.specs.Words.{is_skipped, lines_of, without_empty_last, without_return, words_of}
 use Rattle.job_text.specs.Drafts.{Draft, has_some, keep}
-use Rattle.job_text.specs.Faults.{faults, first_of, is_out_of_order}
+use Rattle.sgx_types.specs.Cases.{first_of_row}
+use Rattle.job_text.specs.Faults.{faults, is_out_of_order}
 use Rattle.job_text.specs.inner.Faults.{HasNoFault}
 use Rattle.job_text.specs.Reading.{read_line}
 use Rattle.job_print.specs.JobText.{statement_text, statement_words, statements_text}
@@ -126,7 +127,7 @@ stands (says.Operation op) = op-stands op
 
 -- ---- a line is read
 
-none-first : (d : Draft) (s : Statement) → HasNoFault d s → first_of (faults d s) ≡ None
+none-first : (d : Draft) (s : Statement) → HasNoFault d s → first_of_row (faults d s) ≡ None
 unfolding faults
 none-first d s h = rw (h.order, h.once, h.range, h.few, h.stands, h.own) refl
 

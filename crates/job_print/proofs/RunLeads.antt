@@ -21,7 +21,7 @@ use Rattle.job_grammar.specs.inner.Valid.{IsOpAmong, IsOuterOffset, IsPlanAmong,
 use Rattle.job_grammar.specs.inner.Valid.{IsValidOffset}
 use Rattle.job_grammar.proofs.EnclaveLaws.{lawful-size}
 use Rattle.job_lines.specs.declared.statements.Statement.TheVariants as says
-use Rattle.job_lines.specs.Statements.{page_of}
+use Rattle.job_lines.specs.Statements.{page_by}
 use Rattle.job_text.specs.Drafts.{Draft, keep, kept_op, kept_plan}
 use Rattle.job_text.specs.Faults.{is_in_range, is_missing, is_op_in_range, is_out_of_order, is_outer_offset, is_plan_in_range}
 use Rattle.job_text.specs.Faults.{is_shared}
@@ -112,7 +112,7 @@ module _ (j : JobView) (valid : IsValid j) where
         omega (arith, small),
       )
 
-  tcs-named : (enclave tcs : ℕ) → is_tcs_page (lines_at j.enclaves enclave) tcs ≡ true → IsPageName (page_of enclave tcs)
+  tcs-named : (enclave tcs : ℕ) → is_tcs_page (lines_at j.enclaves enclave) tcs ≡ true → IsPageName (page_by enclave tcs)
   tcs-named enclave tcs is =
       let any = any-weaker tcs (lines_at j.enclaves enclave) is in
       let small = added-small j.enclaves enclave tcs valid.enclaves any in

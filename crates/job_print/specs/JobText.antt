@@ -18,7 +18,7 @@ use Rattle.job_lines.specs.declared.statements.Operation.{Operation}
 use Rattle.job_lines.specs.declared.statements.Operation.TheVariants as ops
 use Rattle.job_lines.specs.declared.statements.Statement.{Statement}
 use Rattle.job_lines.specs.declared.statements.Statement.TheVariants as says
-use Rattle.job_lines.specs.Statements.{page_of}
+use Rattle.job_lines.specs.Statements.{page_by}
 
 -- ---- the words of a line
 
@@ -87,7 +87,7 @@ abbrev pub enclave_says : ℕ → EnclaveView → List Statement
 enclave_says n e = says.Enclave n e.base e.size ∷ map page_says e.lines ++ expect_says e.expect
 
 abbrev pub named : Page → NamedPage
-named page = page_of page.enclave page.number
+named page = page_by page.enclave page.number
 
 abbrev pub plan_says : PlanLine → Plan
 plan_says (kept_plans.FailRoom k) = plans.FailRoom k
@@ -99,8 +99,8 @@ plan_says (kept_plans.Replay page g w) = plans.Replay (named page) g w
 plan_says (kept_plans.Swap one other) = plans.Swap (named one) (named other)
 
 abbrev pub op_says : Op → Operation
-op_says (kept_ops.Enter enclave tcs) = ops.Enter (page_of enclave tcs)
-op_says (kept_ops.Resume enclave tcs) = ops.Resume (page_of enclave tcs)
+op_says (kept_ops.Enter enclave tcs) = ops.Enter (page_by enclave tcs)
+op_says (kept_ops.Resume enclave tcs) = ops.Resume (page_by enclave tcs)
 op_says kept_ops.Exit = ops.Exit
 op_says kept_ops.Timer = ops.Timer
 op_says (kept_ops.Load off) = ops.Load off

@@ -1,7 +1,7 @@
 //! What the lines of a job's parts say.
 
 ghost use Rattle.std.specs.Prelude.{◌≡◌};
-ghost use Rattle.job_lines.specs.Statements.{page_of};
+ghost use Rattle.job_lines.specs.Statements.{page_by};
 ghost use Rattle.job_print.specs.JobText.{named, op_says, page_says, plan_says};
 
 use io_edges::plans::PlanLine;
@@ -80,7 +80,7 @@ pub(crate) fn plan_statement(line: PlanLine) -> Plan
 }
 
 fn named_tcs(enclave: u16, tcs: u32) -> NamedPage
-    ensures { result ≡ page_of enclave tcs }
+    ensures { result ≡ page_by enclave tcs }
 {
     NamedPage {
         enclave,

@@ -5,8 +5,8 @@ ghost use Rattle.sgx_types.specs.Lawful.{is_lawful};
 ghost use Rattle.job_text.specs.Faults.{part_of, is_between, is_plan_in_range, latest_part, is_any_added, lines_here, has_digest};
 ghost use Rattle.job_text.specs.Faults.{is_misplaced, is_out_of_order, is_twice, is_in_range, is_outer_offset, is_op_in_range};
 ghost use Rattle.job_text.specs.Faults.{is_too_many};
-ghost use Rattle.job_text.specs.Faults.{is_added, is_tcs, plan_stands, op_stands, is_missing, is_named_before, is_shared, faults};
-ghost use Rattle.job_text.specs.Faults.{first_of};
+ghost use Rattle.job_text.specs.Faults.{is_added, is_tcs_of, plan_stands, op_stands, is_missing, is_named_before, is_shared, faults};
+ghost use Rattle.sgx_types.specs.Cases.{first_of_row};
 ghost use Rattle.job_text.specs.inner.Faults.{HasNoFault};
 ghost use Rattle.job_grammar.specs.Jobs.{enclave_at};
 ghost use Rattle.job_text.specs.Drafts.{last};
@@ -164,7 +164,7 @@ impl JobDraft {
     }
 
     fn is_tcs(&self, page: NamedPage) -> bool
-        ensures { result ≡ is_tcs self.now.enclaves page }
+        ensures { result ≡ is_tcs_of self.now.enclaves page }
     {
         match self.enclave(usize::from(page.enclave)) {
             Some(enclave) => enclave.is_tcs(page.number),
@@ -208,7 +208,7 @@ impl JobDraft {
     }
 
     fn is_named_before(&self, tcs: NamedPage) -> bool
-        requires { is_tcs self.now.enclaves tcs ≡ true }
+        requires { is_tcs_of self.now.enclaves tcs ≡ true }
         ensures { result ≡ is_named_before self.now tcs }
     {
         self.scripts.names_before(self.page_of(tcs))
@@ -229,7 +229,7 @@ impl JobDraft {
     /// The first fault of a line, by what stands before it.
     #[tactic(auto, unfolding(crate::specs::Faults::faults))]
     pub(crate) fn fault_of(&self, statement: Statement) -> Option<JobKind>
-        ensures first { result ≡ first_of (faults self.now statement) }
+        ensures first { result ≡ first_of_row (faults self.now statement) }
         ensures none { result ≡ None → HasNoFault self.now statement }
     {
         if self.is_out_of_order(statement) {

@@ -13,7 +13,7 @@ use Rattle.std.proofs.lemmas.List.{length-append, append-nil}
 use Rattle.sgx_types.specs.declared.names.Page.{Page}
 use Rattle.sgx_types.specs.Pages.{same_page}
 use Rattle.sgx_types.proofs.Pages.{same_pages, same_page-refl}
-use Rattle.least_reloads.specs.Plans.{StepView, has, kept, after}
+use Rattle.least_reloads.specs.Plans.{StepView, has, kept, held_behind}
 use Rattle.least_reloads.specs.inner.Farthest.{stays, comes, swaps, IsUsedLast, Hit, Fill, Swap, Holds, next_use, Keeps, Chosen}
 use Rattle.least_reloads.proofs.Soon.{without, length-without}
 use Rattle.least_reloads.proofs.Held.{has-append}
@@ -40,7 +40,7 @@ chosen_hit frames i page coming pages look look' count count' q holds keeps is c
     let q_is : q ≡ page = used_now page coming q (omega (arith, keeps.used i q is)) in
     let is_page : look i ≡ Some page = is ∙ ap (λ p. Some p) q_is in
     let held = keeps.holds i page is_page in
-    let stay : after pages stays ≡ pages = append-nil (kept pages stays) ∙ all_kept pages [] in
+    let stay : held_behind pages stays ≡ pages = append-nil (kept pages stays) ∙ all_kept pages [] in
     record {
       best = Hit held;
       others = without page pages;
@@ -67,7 +67,7 @@ pub chosen_fill : (frames i : ℕ) (page : Page) (coming pages : List Page) (loo
     → Chosen frames i page coming pages (comes page) look count
 chosen_fill frames i page coming pages look count keeps none room =
     let absent = missed i page coming pages look count keeps none in
-    let come : after pages (comes page) ≡ pages ++ page ∷ [] = ap (λ l. l ++ page ∷ []) (all_kept pages (page ∷ [])) in
+    let come : held_behind pages (comes page) ≡ pages ++ page ∷ [] = ap (λ l. l ++ page ∷ []) (all_kept pages (page ∷ [])) in
     record {
       best = Fill absent (omega (arith, keeps.size, room));
       others = pages;

@@ -8,7 +8,7 @@ use Rattle.sgx_types.specs.declared.names.Page.{Page}
 use Rattle.sgx_types.specs.Pages.{same_page}
 use Rattle.sgx_types.proofs.Pages.{same_page-refl}
 use Rattle.sgx_types.proofs.CountLaws.{one_if}
-use Rattle.least_reloads.specs.Plans.{StepView, PlanView, has, kept, after, IsStep, IsRun, loads_of, IsLawful}
+use Rattle.least_reloads.specs.Plans.{StepView, PlanView, has, kept, held_behind, IsStep, IsRun, loads_of, IsLawful}
 use Rattle.least_reloads.specs.inner.Plans.{IsLeast}
 use Rattle.least_reloads.specs.inner.Farthest.{stays, comes, swaps, IsUsedLast, IsBest, Hit, Fill, Swap, IsBestRun, Holds}
 use Rattle.least_reloads.proofs.Pages.{none_distinct, one_distinct}
@@ -26,7 +26,7 @@ all_kept [] load = refl
 all_kept (h ∷ held) load = ap (λ l. h ∷ l) (all_kept held load)
 
 -- a step of any plan makes room for at most what it loads
-soon-after : (t : ℕ) (coming held : List Page) (step : StepView) → soon t coming (after held step) ≤ soon t coming held + length step.load
+soon-after : (t : ℕ) (coming held : List Page) (step : StepView) → soon t coming (held_behind held step) ≤ soon t coming held + length step.load
 soon-after t coming held step =
     omega (
       arith,
@@ -44,7 +44,7 @@ soon-used t page coming held is = count-or_is_held (has (take t coming)) page he
 -- what a step of ours and one of theirs leave of the difference: as much as ours loads more
 pub record Next (page : Page) (coming theirs ours : List Page) (d : ℕ) (their_step our_step : StepView) : Type 0 where
   pub left : ℕ
-  pub behind : Behind coming (after theirs their_step) (after ours our_step) left
+  pub behind : Behind coming (held_behind theirs their_step) (held_behind ours our_step) left
   pub paid : length our_step.load + left ≤ length their_step.load + d
 
 next_hit : (frames : ℕ) (page : Page) (coming theirs ours : List Page) (d : ℕ) (step : StepView)
@@ -53,11 +53,11 @@ next_hit : (frames : ℕ) (page : Page) (coming theirs ours : List Page) (d : �
 next_hit frames page coming theirs ours d step distinct is_step behind held = record {
   left = length step.load + d;
   behind = λ t.
-      let same : after ours stays ≡ ours = append-nil (kept ours stays) ∙ all_kept ours [] in
+      let same : held_behind ours stays ≡ ours = append-nil (kept ours stays) ∙ all_kept ours [] in
       omega (
         arith,
         ap (soon t coming) same,
-        soon-used t page coming (after theirs step) is_step.accessed_held,
+        soon-used t page coming (held_behind theirs step) is_step.accessed_held,
         soon-after (suc t) (page ∷ coming) theirs step,
         behind (suc t),
         count-or_is_once (has (take t coming)) page ours distinct held,
@@ -71,8 +71,8 @@ ahead : (frames : ℕ) (page : Page) (coming theirs ours : List Page) (d : ℕ) 
 ahead frames page coming theirs ours d step is_step behind absent =
     omega (
       arith,
-      soon-used 0 page coming (after theirs step) is_step.accessed_held,
-      none_soon coming (after theirs step),
+      soon-used 0 page coming (held_behind theirs step) is_step.accessed_held,
+      none_soon coming (held_behind theirs step),
       soon-after 1 (page ∷ coming) theirs step,
       behind 1,
       count-or_is_absent (has (take 0 coming)) page ours absent,
@@ -92,7 +92,7 @@ next_fill frames page coming theirs ours d step is_step behind absent =
             one_ahead,
             ap (count (has (take t coming))) (all_kept ours (page ∷ [])),
             count-append (has (take t coming)) (kept ours (comes page)) (page ∷ []),
-            soon-used t page coming (after theirs step) is_step.accessed_held,
+            soon-used t page coming (held_behind theirs step) is_step.accessed_held,
             soon-after (suc t) (page ∷ coming) theirs step,
             behind (suc t),
             count-or_is_absent (has (take t coming)) page ours absent,
@@ -113,7 +113,7 @@ next_swap frames page coming theirs ours d step old distinct is_step behind abse
     }
   where
     by_use : (t : ℕ) (b : Bool) → has (take t coming) old ≡ b
-        → soon t coming (after theirs step) ≤ soon t coming (after ours (swaps old page)) + (length step.load + d - 1)
+        → soon t coming (held_behind theirs step) ≤ soon t coming (held_behind ours (swaps old page)) + (length step.load + d - 1)
     by_use t true used =
         omega (
           arith,
@@ -121,8 +121,8 @@ next_swap frames page coming theirs ours d step old distinct is_step behind abse
           count-all (has (take t coming)) ours (farthest t used),
           count-without (has (take t coming)) old ours distinct held,
           count-append (has (take t coming)) (kept ours (swaps old page)) (page ∷ []),
-          soon-used t page coming (after theirs step) is_step.accessed_held,
-          count-le (has (take (suc t) (page ∷ coming))) (after theirs step),
+          soon-used t page coming (held_behind theirs step) is_step.accessed_held,
+          count-le (has (take (suc t) (page ∷ coming))) (held_behind theirs step),
           is_step.fits,
         )
     by_use t false unused =
@@ -132,7 +132,7 @@ next_swap frames page coming theirs ours d step old distinct is_step behind abse
           ahead frames page coming theirs ours d step is_step behind absent,
           count-without (has (take t coming)) old ours distinct held,
           count-append (has (take t coming)) (kept ours (swaps old page)) (page ∷ []),
-          soon-used t page coming (after theirs step) is_step.accessed_held,
+          soon-used t page coming (held_behind theirs step) is_step.accessed_held,
           soon-after (suc t) (page ∷ coming) theirs step,
           behind (suc t),
           count-or_is_absent (has (take t coming)) page ours absent,
@@ -153,7 +153,7 @@ next frames page coming theirs ours d their_step _ distinct is_step behind (Swap
 best_step : (frames : ℕ) (page : Page) (coming ours : List Page) (step : StepView) → 1 ≤ frames → Holds frames ours
     → IsBest frames ours page coming step → IsStep frames ours page step
 best_step frames page coming ours _ some holds (Hit held) =
-    let same : after ours stays ≡ ours = append-nil (kept ours stays) ∙ all_kept ours [] in
+    let same : held_behind ours stays ≡ ours = append-nil (kept ours stays) ∙ all_kept ours [] in
     record {
       out_held = λ p h. absurd (false≢true h);
       out_once = none_distinct;
@@ -182,7 +182,7 @@ best_step frames page coming ours _ some holds (Swap old absent full held farthe
 
 pub holds_next : (frames : ℕ) (page : Page) (coming ours : List Page) (step : StepView) → 1 ≤ frames → Holds frames ours
     → IsBest frames ours page coming step
-    → IsStep frames ours page step × Holds frames (after ours step)
+    → IsStep frames ours page step × Holds frames (held_behind ours step)
 holds_next frames page coming ours step some holds best =
     let is_step = best_step frames page coming ours step some holds best in
     (is_step, record { distinct = distinct-after ours step holds.distinct is_step.load_once is_step.load_absent; fits = is_step.fits })
@@ -200,7 +200,7 @@ fewest_from frames some (page ∷ coming) theirs ours d (their ∷ their_steps) 
     omega (
       arith,
       n.paid,
-      fewest_from frames some coming (after theirs their) (after ours our) n.left their_steps our_steps
+      fewest_from frames some coming (held_behind theirs their) (held_behind ours our) n.left their_steps our_steps
           (holds_next frames page coming ours our some holds best.0).1 n.behind run.1 best.1,
     )
 
@@ -211,7 +211,7 @@ lawful_from frames some [] ours (t ∷ ts) holds best = absurd best
 lawful_from frames some (page ∷ coming) ours [] holds best = absurd best
 lawful_from frames some (page ∷ coming) ours (step ∷ steps) holds best =
     let n = holds_next frames page coming ours step some holds best.0 in
-    (n.0, lawful_from frames some coming (after ours step) steps n.1 best.1)
+    (n.0, lawful_from frames some coming (held_behind ours step) steps n.1 best.1)
 
 pub holds_none : (frames : ℕ) → Holds frames []
 holds_none frames = record { distinct = none_distinct; fits = omega arith }

@@ -8,7 +8,7 @@ use Rattle.std.proofs.lemmas.Map.Views.{any-filter_same}
 use Rattle.sgx_types.specs.declared.names.Page.{Page}
 use Rattle.sgx_types.specs.Pages.{same_page}
 use Rattle.sgx_types.proofs.Pages.{same_pages, same_page-refl}
-use Rattle.least_reloads.specs.Plans.{StepView, has, kept, after}
+use Rattle.least_reloads.specs.Plans.{StepView, has, kept, held_behind}
 use Rattle.least_reloads.proofs.Pages.{distinct_parts, distinct_cons, none_distinct}
 
 pub has-filter : (q : Page → Bool) (pages : List Page) (p : Page) → has (filter q pages) p ≡ (q p && has pages p)
@@ -21,7 +21,7 @@ pub has-append : (xs ys : List Page) (p : Page) → has (xs ++ ys) p ≡ (has xs
 has-append xs ys p = list_any-append (same_page p) xs ys
 
 pub has-after : (held : List Page) (step : StepView) (p : Page)
-    → has (after held step) p ≡ ((not (has step.out p) && has held p) || has step.load p)
+    → has (held_behind held step) p ≡ ((not (has step.out p) && has held p) || has step.load p)
 has-after held step p = has-append (kept held step) step.load p ∙ ap (λ b. b || has step.load p) (has-kept held step p)
 
 pub distinct-filter : (q : Page → Bool) (pages : List Page) → IsDistinct same_page pages → IsDistinct same_page (filter q pages)
@@ -48,7 +48,7 @@ distinct-append (x ∷ xs) ys first second disjoint =
 
 -- the pages that are held after a step are distinct, if those that are loaded were not held
 pub distinct-after : (held : List Page) (step : StepView) → IsDistinct same_page held → IsDistinct same_page step.load
-    → ((p : Page) → has step.load p ≡ true → has (kept held step) p ≡ false) → IsDistinct same_page (after held step)
+    → ((p : Page) → has step.load p ≡ true → has (kept held step) p ≡ false) → IsDistinct same_page (held_behind held step)
 distinct-after held step distinct once absent =
     distinct-append (kept held step) step.load (distinct-filter (λ x. not (has step.out x)) held distinct) once absent
 
@@ -56,5 +56,5 @@ pub has_one : (page p : Page) → has (page ∷ []) p ≡ true → page ≡ p
 has_one page p h = ⊎_elim (λ s. sym (same_pages p page s)) (λ e. absurd (false≢true e)) (or_cases (same_page p page) false h)
 
 -- a page that is loaded is held
-pub loaded : (held : List Page) (step : StepView) (p : Page) → has step.load p ≡ true → has (after held step) p ≡ true
+pub loaded : (held : List Page) (step : StepView) (p : Page) → has step.load p ≡ true → has (held_behind held step) p ≡ true
 loaded held step p h = has-append (kept held step) step.load p ∙ or_right (has (kept held step) p) (has step.load p) h

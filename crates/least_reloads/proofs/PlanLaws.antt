@@ -3,7 +3,7 @@ use Rattle.std.proofs.Common.{◌≡◌, ℕ, ◌+◌, ◌<◌, ◌≤◌, List,
 use Rattle.std.proofs.Common.{get_or, Some, is_some, cond, arith, refl, sym, subst, append_assoc}
 use Rattle.std.proofs.lemmas.List.{drop_more, drop_all, append-nil, length-append}
 use Rattle.sgx_types.specs.declared.names.Page.{Page}
-use Rattle.least_reloads.specs.Plans.{StepView, PlanView, after, loads_of, IsLawful}
+use Rattle.least_reloads.specs.Plans.{StepView, PlanView, held_behind, loads_of, IsLawful}
 use Rattle.least_reloads.specs.inner.Plans.{IsLeast}
 use Rattle.least_reloads.specs.inner.Farthest.{IsBest, Hit, Fill, Swap, IsBestRun, Holds, IsUseAt, Keeps, Chosen}
 use Rattle.least_reloads.proofs.FarthestLaws.{holds_next, holds_none, reached, least}
@@ -69,9 +69,9 @@ made_more frames accesses old now new steps loads i u d step some low so_far cho
     let keeps = keeps_next i page coming chosen.others (at now) (at new) (length now) (length new) u chosen.keeps chosen.absent
     (subst Uses there use_at) changes more in
     record {
-      pages = after so_far.pages step;
+      pages = held_behind so_far.pages step;
       holds = next.1;
-      keeps = keeps_like (i + 1) coming (chosen.others ++ page ∷ []) (after so_far.pages step) (at new) (length new) keeps chosen.same
+      keeps = keeps_like (i + 1) coming (chosen.others ++ page ∷ []) (held_behind so_far.pages step) (at new) (length new) keeps chosen.same
           (omega (arith, chosen.size, length-append chosen.others (page ∷ [])));
       onward = λ rest run.
           let on = so_far.onward (step ∷ rest) (rw there (chosen.best, run)) in

@@ -8,7 +8,7 @@ use Rattle.std.proofs.lemmas.List.{take_more, drop_more, drop_all}
 use Rattle.std.proofs.lemmas.Map.Made.{length-from_same_keys}
 use Rattle.sgx_types.specs.declared.names.Page.{Page}
 use Rattle.sgx_types.specs.Pages.{same_page}
-use Rattle.least_reloads.specs.Plans.{StepView, has, kept, after, loads_of, IsStep, IsRun}
+use Rattle.least_reloads.specs.Plans.{StepView, has, kept, held_behind, loads_of, IsStep, IsRun}
 use Rattle.least_reloads.specs.inner.Sets.{AreOf, CanLeave, CanJoin, Leave, Join}
 use Rattle.least_reloads.proofs.Pages.{page_laws, none_distinct}
 use Rattle.least_reloads.proofs.Held.{has-kept, has-after, distinct-after}
@@ -43,26 +43,26 @@ step_joins frames pages old left page step of leave is_step =
 
 -- the set after the pages of a step left it and joined it
 pub record Moved (pages new : List Page) (step : StepView) : Type 0 where
-  pub of : AreOf new (after pages step)
-  pub size : length new ≡ length (after pages step)
+  pub of : AreOf new (held_behind pages step)
+  pub size : length new ≡ length (held_behind pages step)
 
 pub moved : (pages old left new : List Page) (step : StepView) → AreOf old pages → Leave old step.out left → CanJoin left step.load
     → Join left step.load new → IsDistinct same_page new → Moved pages new step
 moved pages old left new step of leave can join unique =
-    let same : (p : Page) → has new p ≡ has (after pages step) p = λ p.
+    let same : (p : Page) → has new p ≡ has (held_behind pages step) p = λ p.
     join p
     ∙ ap (λ b. b || has step.load p) (leave p ∙ ap (λ b. not (has step.out p) && b) (of.same p))
     ∙ sym (has-after pages step p) in
     let distinct = distinct-after pages step of.distinct can.once (λ p h. sym (left_is pages old left step of leave p) ∙ can.absent p h) in
     record {
       of = record { same = same; distinct = distinct };
-      size = length-from_same_keys page_laws new (after pages step) unique distinct same;
+      size = length-from_same_keys page_laws new (held_behind pages step) unique distinct same;
     }
 
 pub step_served : (frames : ℕ) (pages old left new : List Page) (page : Page) (step : StepView) → AreOf old pages → CanLeave old step.out
     → Leave old step.out left → CanJoin left step.load → Join left step.load new
     → IsDistinct same_page new → length new ≤ frames → (b : Bool) → b ≡ has new page
-    → MatchBool b (IsStep frames pages page step × AreOf new (after pages step)) (IsStep frames pages page step → ⊥)
+    → MatchBool b (IsStep frames pages page step × AreOf new (held_behind pages step)) (IsStep frames pages page step → ⊥)
 step_served frames pages old left new page step of can_leave leave can_join join unique fits true is =
     let m = moved pages old left new step of leave can_join join unique in (
       record {
@@ -105,10 +105,10 @@ run_none frames accesses steps set none = record {
 pub run_more : (frames : ℕ) (accesses : List Page) (steps : List StepView) (set new : List Page) (i : ℕ) (p : Page) (t : StepView)
     → i < length accesses → i < length steps
     → (so_far : RunSoFar frames accesses steps set i) → IsStep frames so_far.pages (get_or accesses i p) (get_or steps i t)
-    → AreOf new (after so_far.pages (get_or steps i t))
+    → AreOf new (held_behind so_far.pages (get_or steps i t))
     → RunSoFar frames accesses steps new (i + 1)
 run_more frames accesses steps set new i p t low low' so_far is_step of = record {
-  pages = after so_far.pages (get_or steps i t);
+  pages = held_behind so_far.pages (get_or steps i t);
   of = of;
   onward = λ run. so_far.onward (rw (drop_more accesses i p low, drop_more steps i t low') (is_step, run));
   back = λ run. (rw (drop_more accesses i p low, drop_more steps i t low') at so_far.back run).1;
@@ -131,4 +131,4 @@ pub run_length : (frames : ℕ) (pages accesses : List Page) (steps : List StepV
 run_length frames pages [] [] run = refl
 run_length frames pages [] (t ∷ steps) run = absurd run
 run_length frames pages (p ∷ accesses) [] run = absurd run
-run_length frames pages (p ∷ accesses) (t ∷ steps) run = omega (arith, run_length frames (after pages t) accesses steps run.1)
+run_length frames pages (p ∷ accesses) (t ∷ steps) run = omega (arith, run_length frames (held_behind pages t) accesses steps run.1)

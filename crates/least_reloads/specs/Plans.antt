@@ -23,8 +23,8 @@ abbrev pub kept : List Page → StepView → List Page
 kept held step = filter (λ page. not (has step.out page)) held
 
 -- the held pages after a step
-abbrev pub after : List Page → StepView → List Page
-after held step = kept held step ++ step.load
+abbrev pub held_behind : List Page → StepView → List Page
+held_behind held step = kept held step ++ step.load
 
 -- Where these pages are held, the step can be done and serves an access to this page: the pages that go out are held, those that are
 -- loaded are not held any more or never were, neither list names a page twice, and afterwards the held pages fit and the accessed one
@@ -34,13 +34,13 @@ pub record IsStep (frames : ℕ) (held : List Page) (accessed : Page) (step : St
   pub out_once : IsDistinct same_page step.out
   pub load_absent : (page : Page) → has step.load page ≡ true → has (kept held step) page ≡ false
   pub load_once : IsDistinct same_page step.load
-  pub fits : length (after held step) ≤ frames
-  pub accessed_held : has (after held step) accessed ≡ true
+  pub fits : length (held_behind held step) ≤ frames
+  pub accessed_held : has (held_behind held step) accessed ≡ true
 
 -- one such step for each access, each from the pages that are held after the one before it
 abbrev pub IsRun : ℕ → List Page → List Page → List StepView → Type 0
 IsRun frames held [] [] = Unit {0}
-IsRun frames held (page ∷ coming) (step ∷ steps) = IsStep frames held page step × IsRun frames (after held step) coming steps
+IsRun frames held (page ∷ coming) (step ∷ steps) = IsStep frames held page step × IsRun frames (held_behind held step) coming steps
 IsRun frames held _ _ = ⊥
 
 -- how many loads the steps make

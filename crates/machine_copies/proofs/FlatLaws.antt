@@ -17,7 +17,7 @@ use Rattle.sgx_types.specs.declared.names.Perm.{Perm}
 use Rattle.sgx_types.specs.declared.record.Header.{Header}
 use Rattle.sgx_rules.specs.Flat.{FlatEnclave, FlatMemory, FlatPage, Inside, accepts, added_as, at_offset, build_after, cpu_after}
 use Rattle.sgx_rules.specs.Flat.{enclave_sight, event_after, fields_in, first_words, flat, flat_build_row, header_by, header_in}
-use Rattle.sgx_rules.specs.Flat.{marked}
+use Rattle.sgx_rules.specs.Flat.{as_initialised}
 use Rattle.sgx_rules.specs.Flat.{memory_after, open_frame, rewritten, saved, settled, stored, sum_of, with_cssa, with_words}
 use Rattle.sgx_rules.specs.Flat.{word_index, word_seen}
 use Rattle.sgx_rules.specs.inner.Enclaves.{created}
@@ -26,7 +26,8 @@ use Rattle.sgx_rules.specs.Frames.{added}
 use Rattle.sgx_rules.specs.PageBytes.{header_at, secs_header, va_header}
 use Rattle.sgx_rules.specs.Rules.{Along, FlatRule}
 use Rattle.sgx_types.specs.Sealed.{header_of}
-use Rattle.sgx_rules.specs.Table.{EnclaveSight, FrameSight, SecsSight, add_row, first_of_row}
+use Rattle.sgx_types.specs.Cases.{first_of_row}
+use Rattle.sgx_rules.specs.Table.{EnclaveSight, FrameSight, SecsSight, add_row}
 use Rattle.sgx_types.proofs.Pages.{same_page-swap, same_pages}
 use Rattle.sgx_rules.proofs.Rows.{NoneHolds, none_holds}
 use Rattle.machine_copies.proofs.OpenStarts.{entry_of}
@@ -200,10 +201,10 @@ build_bases (Create enclave f base size) m n row there =
     (λ v. base_of v ≡ base_of (m.enclaves n))
     (λ same. absurd (false≢true (sym k.1.0 ∙ ap (λ e. is_some (m.enclaves e)) (sym (eqb-true n enclave same)) ∙ there))) (λ _. refl)
 build_bases (Init enclave expect) m n row there =
-    cond_both (n == enclave) (marked (m.enclaves n)) (m.enclaves n) (λ v. base_of v ≡ base_of (m.enclaves n))
+    cond_both (n == enclave) (as_initialised (m.enclaves n)) (m.enclaves n) (λ v. base_of v ≡ base_of (m.enclaves n))
     (λ _. marked_base (m.enclaves n)) (λ _. refl)
   where
-    marked_base : (o : Option FlatEnclave) → base_of (marked o) ≡ base_of o
+    marked_base : (o : Option FlatEnclave) → base_of (as_initialised o) ≡ base_of o
     marked_base None = refl
     marked_base (Some x) = refl
 build_bases _ m n row there = refl

@@ -19,7 +19,7 @@ use Rattle.sgx_types.specs.declared.names.Page.{Page}
 use Rattle.sgx_types.specs.declared.names.Perm.{Perm}
 use Rattle.sgx_types.specs.declared.names.TheConstants.{SECS_NUMBER}
 use Rattle.sgx_rules.specs.inner.Enclaves.{created, created_by, is_there}
-use Rattle.sgx_rules.specs.Flat.{FlatEnclave, FlatPage, added_as, enclave_sight, enclave_sight_of, flat, flat_build_row, marked}
+use Rattle.sgx_rules.specs.Flat.{FlatEnclave, FlatPage, added_as, enclave_sight, enclave_sight_of, flat, flat_build_row, as_initialised}
 use Rattle.sgx_rules.specs.Flat.{open_frame, settled}
 use Rattle.sgx_types.specs.Pages.{is_secs_page, is_va_page, page_at, same_page, secs_page, va_page}
 use Rattle.sgx_rules.specs.Frames.{added, added_by, vas_after, vas_made}
@@ -142,7 +142,7 @@ made_lawful true new old x n first before is = subst (IsLawful n) (let same : ne
 made_lawful false new old x n first before is = before x is
 
 marked_lawful : (b : Bool) (old : Option FlatEnclave) (x : FlatEnclave) (n : ℕ)
-    → ((y : FlatEnclave) → old ≡ Some y → IsLawful n y) → cond b (marked old) old ≡ Some x → IsLawful n x
+    → ((y : FlatEnclave) → old ≡ Some y → IsLawful n y) → cond b (as_initialised old) old ≡ Some x → IsLawful n x
 marked_lawful true None x n before is = cc is
 marked_lawful true (Some y) x n before is =
     let was = before y refl in
@@ -182,7 +182,7 @@ marked_there past a enclave expect answer g =
     ap (λ b. cond (is_va_page g) (nat_lt g.number (vas_made past)) (cond (is_secs_page g) b (is_some (added past g))))
     (same (g.enclave == enclave) (created past g.enclave))
   where
-    same : (b : Bool) (o : Option FlatEnclave) → is_some (cond b (marked o) o) ≡ is_some o
+    same : (b : Bool) (o : Option FlatEnclave) → is_some (cond b (as_initialised o) o) ≡ is_some o
     same true None = refl
     same true (Some x) = refl
     same false o = refl
@@ -212,7 +212,7 @@ there_still past e g = by_name (is_va_page g) (is_secs_page g)
     kept true x o is = refl
     kept false x o is = is
 
-    mark : (b : Bool) (o : Option FlatEnclave) → is_some o ≡ true → is_some (cond b (marked o) o) ≡ true
+    mark : (b : Bool) (o : Option FlatEnclave) → is_some o ≡ true → is_some (cond b (as_initialised o) o) ≡ true
     mark true None is = cc is
     mark true (Some x) is = refl
     mark false o is = is

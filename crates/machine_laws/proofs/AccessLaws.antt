@@ -17,7 +17,8 @@ use Rattle.sgx_rules.specs.Frames.{Content, Holds, is_page, SecsOf, Free, IsVa, 
 use Rattle.sgx_rules.specs.Processors.{Seat, Stay, stay, holds_number, translations}
 use Rattle.sgx_rules.specs.Table.{FrameSight, is_busy, is_loading, is_reg, perm_in, allows_read, allows_write, allows_update}
 use Rattle.sgx_rules.specs.Table.{access_row}
-use Rattle.sgx_rules.specs.Table.{fill_row, first_of_row}
+use Rattle.sgx_types.specs.Cases.{first_of_row}
+use Rattle.sgx_rules.specs.Table.{fill_row}
 use Rattle.sgx_rules.specs.Flat.{flat, flat_translation, memory_after, stored, sum_of, with_words, word_index, word_seen}
 use Rattle.sgx_rules.specs.Sights.{translation_at}
 use Rattle.cached_translations.specs.declared.cache.Translation.{Translation}

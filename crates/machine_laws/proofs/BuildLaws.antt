@@ -16,10 +16,11 @@ use Rattle.sgx_types.specs.Pages.{page_at, same_page}
 use Rattle.sgx_rules.specs.Frames.{Content, Free, IsVa, SecsOf, Holds, content}
 use Rattle.sgx_types.specs.Lawful.{is_enclave, is_lawful}
 use Rattle.sgx_rules.specs.Table.{FrameSight, is_busy, is_valid, epa_row, create_row, add_row, EnclaveSight, SecsSight}
-use Rattle.sgx_rules.specs.Table.{first_of_row, init_row}
+use Rattle.sgx_types.specs.Cases.{first_of_row}
+use Rattle.sgx_rules.specs.Table.{init_row}
 use Rattle.sgx_rules.specs.Flat.{FlatEnclave, FlatPage, FlatMemory, added_as, flat, open_frame, enclave_sight_of, first_words}
 use Rattle.sgx_rules.specs.Flat.{with_page}
-use Rattle.sgx_rules.specs.Flat.{marked, settled}
+use Rattle.sgx_rules.specs.Flat.{as_initialised, settled}
 use Rattle.sgx_types.specs.Layouts.{flags_of}
 use Rattle.sgx_rules.proofs.Contents.{free_there}
 use Rattle.sgx_rules.proofs.Rows.{none_holds, none_refused}
@@ -265,7 +266,7 @@ init_brings s past a enclave expect digest allowed measured stands =
       memory = record {
         enclaves = λ i. record (k.enclaves i) {
           enclaves =
-              λ e. cond (e == enclave) (marked ((k.enclaves i).enclaves e)) ((k.enclaves i).enclaves e);
+              λ e. cond (e == enclave) (as_initialised ((k.enclaves i).enclaves e)) ((k.enclaves i).enclaves e);
         };
         cpus = k.cpus;
         words = k.words;

@@ -11,7 +11,7 @@ use Rattle.sgx_types.specs.declared.lawful.PageInit.{PageInit}
 use Rattle.sgx_types.specs.declared.names.Kind.{Kind}
 use Rattle.sgx_types.specs.declared.names.Perm.{Perm}
 use Rattle.sgx_rules.specs.inner.Enclaves.{created}
-use Rattle.sgx_rules.specs.Flat.{FlatEnclave, enclave_sight, enclave_sight_of, flat, marked}
+use Rattle.sgx_rules.specs.Flat.{FlatEnclave, enclave_sight, enclave_sight_of, flat, as_initialised}
 use Rattle.sgx_rules.specs.Frames.{Content, Free, IsVa, SecsOf, Holds, IsLoading, content, enclave_in}
 use Rattle.sgx_types.specs.Layouts.{zeros}
 use Rattle.sgx_types.specs.Making.{Making}
@@ -61,7 +61,7 @@ module _ (k : Making) (past : List Entry) (a : Actor) (e : ℕ) (refusals : Alon
       subst (λ r. digest_after (Did (Init other expect) r) e (digest_of past e) ≡ measurement past e) (sym measure.0)
       (by_test (other == e) refl (e == other) refl is)
     where
-      by_test : (b : Bool) → (other == e) ≡ b → (d : Bool) → (e == other) ≡ d → cond d (marked (created past e)) (created past e) ≡ Some x
+      by_test : (b : Bool) → (other == e) ≡ b → (d : Bool) → (e == other) ≡ d → cond d (as_initialised (created past e)) (created past e) ≡ Some x
           → cond b (measurement past other) (digest_of past e) ≡ measurement past e
       by_test true same d other_way made = ap (measurement past) (eqb-true other e same)
       by_test false not_this true same made = absurd (false≢true (sym not_this ∙ eq-eqb other e (sym (eqb-true e other same))))
@@ -137,7 +137,7 @@ module _ (k : Making) (past : List Entry) (a : Actor) (e : ℕ) (refusals : Alon
       (by_test (other == e) refl (e == other) refl (created past e) refl still)
     where
       by_test : (b : Bool) → (other == e) ≡ b → (d : Bool) → (e == other) ≡ d → (o : Option FlatEnclave) → created past e ≡ o
-          → is_initialised (cond d (marked o) o) ≡ false → cond b refusal.1.0 (digest_of past e) ≡ zeros 32
+          → is_initialised (cond d (as_initialised o) o) ≡ false → cond b refusal.1.0 (digest_of past e) ≡ zeros 32
       by_test true same d back None made still =
           let none : (flat past).enclaves other ≡ None = ap (flat past).enclaves (eqb-true other e same)
           ∙ sym (created_there k past refusals e) ∙ made in

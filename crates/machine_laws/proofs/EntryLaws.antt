@@ -17,10 +17,13 @@ use Rattle.sgx_rules.specs.declared.refusals.Refusal.TheVariants as why
 use Rattle.sgx_types.specs.Pages.{page_at, same_page}
 use Rattle.sgx_rules.specs.Frames.{Content, Holds, is_page}
 use Rattle.sgx_rules.specs.Processors.{Seat, stay, stay_from}
-use Rattle.sgx_rules.specs.Table.{Case, when, FrameSight, EnterSight, TcsSight, EnclaveSight, is_busy, is_loading, is_tcs}
+use Rattle.sgx_rules.specs.declared.refusals.Refusal.{Refusal}
+use Rattle.sgx_types.specs.Cases.{Case, when}
+use Rattle.sgx_rules.specs.Table.{EnclaveSight, EnterSight, FrameSight, Row, TcsSight, is_busy, is_loading, is_tcs}
 use Rattle.sgx_rules.specs.Table.{is_reg, is_made}
-use Rattle.sgx_rules.specs.Table.{is_ready, perm_in, allows_update, entry_row, enter_row, resume_row, first_of_row}
-use Rattle.sgx_rules.specs.Flat.{FlatCpu, page_words, flat_content, flat, enclave_sight_of, tcs_fields, fields_in, with_cssa}
+use Rattle.sgx_types.specs.Cases.{first_of_row}
+use Rattle.sgx_rules.specs.Table.{is_ready, perm_in, allows_update, entry_row, enter_row, resume_row}
+use Rattle.sgx_rules.specs.Flat.{FlatCpu, flat_page_words, flat_content, flat, enclave_sight_of, tcs_fields, fields_in, with_cssa}
 use Rattle.sgx_rules.specs.Flat.{with_words}
 use Rattle.sgx_rules.specs.Flat.{words_of, flat_enter_sight, resumed_word, entered, memory_after, FlatMemory}
 use Rattle.sgx_rules.specs.Sights.{seat_of}
@@ -41,7 +44,7 @@ use Rattle.sgx_types.proofs.Truths.{neither, not_false}
 
 -- ---- what an entry by a TCS page needs of what it sees
 
-pub record Enters (enclave tcs : ℕ) (v : EnterSight) (saves : Case) (saved : ℕ) : Type 0 where
+pub record Enters (enclave tcs : ℕ) (v : EnterSight) (saves : Case Refusal) (saved : ℕ) : Type 0 where
   pub outside : v.is_inside ≡ false
   pub tcs_within : v.tcs.is_beyond ≡ false
   pub ssa_within : v.ssa.is_beyond ≡ false
@@ -59,7 +62,7 @@ pub record Enters (enclave tcs : ℕ) (v : EnterSight) (saves : Case) (saved : �
   pub ssa_open : v.ssa.is_blocked ≡ false
   pub ssa_perm : not (allows_update (perm_in v.ssa.content)) ≡ false
 
-pub enters : (enclave tcs : ℕ) (v : EnterSight) (saves : Case) (saved : ℕ) → first_of_row (entry_row enclave tcs v saves saved) ≡ None
+pub enters : (enclave tcs : ℕ) (v : EnterSight) (saves : Case Refusal) (saved : ℕ) → first_of_row (entry_row enclave tcs v saves saved) ≡ None
     → Enters enclave tcs v saves saved
 enters enclave tcs v saves saved allowed =
     let none = none_holds (entry_row enclave tcs v saves saved) allowed in
@@ -85,7 +88,7 @@ enters enclave tcs v saves saved allowed =
       ssa_perm = save.1.1.1.1.0;
     }
 
-enters_none : (enclave tcs : ℕ) (v : EnterSight) (saves : Case) (saved : ℕ) → Enters enclave tcs v saves saved
+enters_none : (enclave tcs : ℕ) (v : EnterSight) (saves : Case Refusal) (saved : ℕ) → Enters enclave tcs v saves saved
     → first_of_row (entry_row enclave tcs v saves saved) ≡ None
 enters_none enclave tcs v saves saved h =
     none_refused (entry_row enclave tcs v saves saved) (
@@ -135,7 +138,7 @@ opened c = record { is_beyond = false; content = c; is_sealing = false; is_block
 abbrev opened_sight : EnterSight → EnterSight
 opened_sight v = record v { tcs = opened v.tcs.content; ssa = opened v.ssa.content }
 
-enters_opened : (enclave tcs : ℕ) (v : EnterSight) (saves : Case) (saved : ℕ) → Enters enclave tcs v saves saved
+enters_opened : (enclave tcs : ℕ) (v : EnterSight) (saves : Case Refusal) (saved : ℕ) → Enters enclave tcs v saves saved
     → Enters enclave tcs (opened_sight v) saves saved
 enters_opened enclave tcs v saves saved h = record {
   outside = h.outside;
@@ -163,10 +166,10 @@ usable_there {c} {sealing} holds idle = record { ours = rw holds refl; settled =
 -- ---- what an entry that its row allows finds in the machine and in flat memory
 
 -- a row by a TCS page: what it asks of the fields, and which state save page it takes by them
-abbrev pub by_fields : (TcsSight → Case) → (TcsSight → ℕ) → ℕ → ℕ → EnterSight → List Case
+abbrev pub by_fields : (TcsSight → Case Refusal) → (TcsSight → ℕ) → ℕ → ℕ → EnterSight → Row
 by_fields saves saved enclave tcs v = entry_row enclave tcs v (saves v.fields) (saved v.fields)
 
-pub record FindsPages (s : State) (past : List Entry) (p : ℕ) (seat : Seat) (saves : TcsSight → Case) (saved : TcsSight → ℕ) : Type 0 where
+pub record FindsPages (s : State) (past : List Entry) (p : ℕ) (seat : Seat) (saves : TcsSight → Case Refusal) (saved : TcsSight → ℕ) : Type 0 where
   pub needs : Enters seat.enclave seat.tcs (enter_sight s p seat) (saves (tcs_fields (s.words seat.tcs_frame)))
       (saved (tcs_fields (s.words seat.tcs_frame)))
   pub tcs : IsKindOf (s.content seat.tcs_frame) (page_at seat.enclave seat.tcs) kinds.Tcs
@@ -179,7 +182,7 @@ pub record FindsPages (s : State) (past : List Entry) (p : ℕ) (seat : Seat) (s
   pub by_flat : first_of_row (by_fields saves saved seat.enclave seat.tcs
       (flat_enter_sight (flat past) p seat.enclave seat.tcs (saved (fields_in (flat past) seat.enclave seat.tcs)))) ≡ None
 
-pub finds_pages : (s : State) (past : List Entry) (p : ℕ) (seat : Seat) (saves : TcsSight → Case) (saved : TcsSight → ℕ) → Stands s past
+pub finds_pages : (s : State) (past : List Entry) (p : ℕ) (seat : Seat) (saves : TcsSight → Case Refusal) (saved : TcsSight → ℕ) → Stands s past
     → first_of_row (by_fields saves saved seat.enclave seat.tcs (enter_sight s p seat)) ≡ None → FindsPages s past p seat saves saved
 finds_pages s past p seat saves saved stands allowed =
     let m = flat past in
@@ -190,7 +193,7 @@ finds_pages s past p seat saves saved stands allowed =
     let k = enters enclave seat.tcs v (saves f) (saved f) allowed in
     let tcs_held = tcs_there (s.content seat.tcs_frame) g (not_false _ k.tcs_page) (not_false _ k.tcs_kind) in
     let tcs_flat = stands.memory.words seat.tcs_frame g kinds.Tcs tcs_held.perm tcs_held.holds in
-    let same_fields : f ≡ fields_in m enclave seat.tcs = ap (λ x. tcs_fields (page_words x)) (sym tcs_flat) in
+    let same_fields : f ≡ fields_in m enclave seat.tcs = ap (λ x. tcs_fields (flat_page_words x)) (sym tcs_flat) in
     let save = page_at enclave (saved f) in
     let ssa_held = reg_there (s.content seat.ssa_frame) save (not_false _ k.ssa_page) (not_false _ k.ssa_kind) in
     let ssa_flat = stands.memory.words seat.ssa_frame save kinds.Reg ssa_held.perm ssa_held.holds in
@@ -211,7 +214,7 @@ finds_pages s past p seat saves saved stands allowed =
     }
 
 -- .. so it may sit, where the state save page that CSSA names afterwards is the one in its frame
-seated_there : (s : State) (p : ℕ) (seat : Seat) (saves : Case) (saved : ℕ) (words : ℕ → List ℕ)
+seated_there : (s : State) (p : ℕ) (seat : Seat) (saves : Case Refusal) (saved : ℕ) (words : ℕ → List ℕ)
     → Enters seat.enclave seat.tcs (enter_sight s p seat) saves saved
     → page_at seat.enclave saved ≡ next_save seat.enclave (tcs_fields (words seat.tcs_frame))
     → IsSeated s.content s.is_sealing words [] seat
@@ -248,7 +251,7 @@ taken seat x = record x { is_busy = λ q. cond (same_page q (page_at seat.enclav
 
 -- ---- enter
 
-abbrev pub enter_saves : TcsSight → Case
+abbrev pub enter_saves : TcsSight → Case Refusal
 enter_saves f = when (f.cssa == f.nssa) why.NoFrame
 
 abbrev pub enter_saved : TcsSight → ℕ
@@ -285,7 +288,7 @@ enter_brings s past p enclave tcs tf sf low allowed stands =
 
 -- ---- resume
 
-abbrev pub resume_saves : TcsSight → Case
+abbrev pub resume_saves : TcsSight → Case Refusal
 resume_saves f = when (f.cssa == 0) why.NoSaved
 
 abbrev pub resume_saved : TcsSight → ℕ
@@ -345,7 +348,7 @@ resume_brings s past p enclave tcs tf sf low allowed stands once =
     let same_change : (λ (words : List ℕ). with_cssa words ((fields_in m enclave tcs).cssa - 1)) ≡ change =
     ap (λ (f : TcsSight). λ (words : List ℕ). with_cssa words (f.cssa - 1)) (sym k.fields) in
     let word : saved_word s sf.0 ≡ resumed_word m enclave tcs =
-    ap (λ x. slice_index (page_words x) 0) (sym k.ssa_flat)
+    ap (λ x. slice_index (flat_page_words x) 0) (sym k.ssa_flat)
     ∙ ap (λ (f : TcsSight). slice_index (words_of m (page_at enclave (f.ossa + f.cssa - 1))) 0) k.fields in
     let changed = shows_changed s past m tf.0 g change stands.memory (once_in_state s past stands once) (not_false _ k.needs.tcs_page) in
     let after : memory_after (actors.Cpu p) (Resume enclave tcs tf sf) m ≡ entered (with_words m g change) p.0 enclave tcs

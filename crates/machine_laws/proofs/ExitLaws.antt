@@ -12,8 +12,9 @@ use Rattle.sgx_types.specs.declared.names.Cpu.{Cpu}
 use Rattle.sgx_types.specs.declared.names.Kind.TheVariants as kinds
 use Rattle.sgx_types.specs.Pages.{page_at}
 use Rattle.sgx_rules.specs.Processors.{Seat, Stay, stay}
-use Rattle.sgx_rules.specs.Table.{TcsSight, inside_row, first_of_row}
-use Rattle.sgx_rules.specs.Flat.{FlatCpu, Inside, flat, fields_in, left, saved, tcs_fields, with_cssa, with_words, page_words}
+use Rattle.sgx_types.specs.Cases.{first_of_row}
+use Rattle.sgx_rules.specs.Table.{TcsSight, inside_row}
+use Rattle.sgx_rules.specs.Flat.{FlatCpu, Inside, flat, fields_in, left, saved, tcs_fields, with_cssa, with_words, flat_page_words}
 use Rattle.sgx_rules.specs.Flat.{memory_after}
 use Rattle.sgx_rules.specs.Flat.{FlatMemory, is_inside_by}
 use Rattle.machine_laws.specs.inner.State.{State, row_of, cssa_in, rewritten, with_saved, after_exit, after_aex, is_seated_by}
@@ -137,7 +138,7 @@ aex_brings s past p cause low allowed sound stands no_page_twice = record {
         let tcs_held = tcs_there (s.content seat.tcs_frame) g k.tcs_page k.tcs_kind in
         let tcs_flat = stands.memory.words seat.tcs_frame g kinds.Tcs tcs_held.perm tcs_held.holds in
         let fields : tcs_fields (s.words seat.tcs_frame) ≡ fields_in m seat.enclave seat.tcs =
-        ap (λ x. tcs_fields (page_words x)) (sym tcs_flat) in
+        ap (λ x. tcs_fields (flat_page_words x)) (sym tcs_flat) in
         let save = next_save seat.enclave (tcs_fields (s.words seat.tcs_frame)) in
         let i : Inside = record { enclave = seat.enclave; tcs = seat.tcs } in
         let inside : (m.cpus p.0).inside ≡ Some i = inside_flat stands p.0 ∙ ap inside_of_stay there

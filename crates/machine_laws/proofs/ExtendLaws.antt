@@ -13,8 +13,9 @@ use Rattle.sgx_types.specs.declared.names.Page.{Page}
 use Rattle.sgx_types.specs.declared.names.TheConstants.{SECS_NUMBER}
 use Rattle.sgx_types.specs.Pages.{is_own_page, is_va_page}
 use Rattle.sgx_rules.specs.Frames.{Content, Free, IsVa, SecsOf, Holds, IsLoading, enclave_in, page_of}
-use Rattle.sgx_rules.specs.Table.{extend_row, first_of_row}
-use Rattle.sgx_rules.specs.Flat.{some_page, page_words, flat_bytes}
+use Rattle.sgx_types.specs.Cases.{first_of_row}
+use Rattle.sgx_rules.specs.Table.{extend_row}
+use Rattle.sgx_rules.specs.Flat.{some_page, flat_page_words, flat_bytes}
 use Rattle.sgx_rules.proofs.Rows.{none_holds, none_refused}
 use Rattle.sgx_types.proofs.Truths.{neither}
 use Rattle.sgx_types.specs.Layouts.{bytes_of}
@@ -22,7 +23,7 @@ use Rattle.measure_log.specs.declared.measure.Measure.{Measure}
 use Rattle.measure_log.specs.Blocks.{eextend_block, chunk_of}
 use Rattle.measure_log.specs.inner.Measure.{TakesIn}
 use Rattle.measure_log.specs.Log.{Logged, logged_chunk}
-use Rattle.measure_log.specs.Rule.{page_in, log}
+use Rattle.measure_log.specs.Rule.{page_in_frame, log}
 use Rattle.machine_laws.specs.inner.State.{State, sight, is_closed, row_of, after_extend}
 use Rattle.machine_laws.specs.inner.Guarded.{IsNamedRight}
 use Rattle.machine_laws.specs.inner.Stands.{HasEnclaves, Stands}
@@ -35,20 +36,20 @@ use Rattle.machine_laws.proofs.ColumnLaws.{content_is}
 
 -- the block of a chunk of the words that a frame holds is the one that the entries log
 logs : (s : State) (past : List Entry) (f chunk : ℕ) (g : Page) → Stands s past → page_of (s.content f) ≡ Some g
-    → logged_chunk page_in flat_bytes past chunk (page_in past f) ≡ Some
+    → logged_chunk page_in_frame flat_bytes past chunk (page_in_frame past f) ≡ Some
     (record { enclave = g.enclave; block = eextend_block (4096 * g.number + 256 * chunk) (chunk_of (bytes_of (s.words f)) chunk) })
 logs s past f chunk g stands is = by_content (s.content f) refl is
   where
     by_content : (c : Content) → s.content f ≡ c → page_of c ≡ Some g
-        → logged_chunk page_in flat_bytes past chunk (page_in past f) ≡ Some
+        → logged_chunk page_in_frame flat_bytes past chunk (page_in_frame past f) ≡ Some
         (record { enclave = g.enclave; block = eextend_block (4096 * g.number + 256 * chunk) (chunk_of (bytes_of (s.words f)) chunk) })
     by_content (Holds page kind perm) e k =
         let same : page ≡ g = cc in
-        let here : page_in past f ≡ Some page = ap page_of (sym (content_is stands.columns f) ∙ e) in
-        ap (logged_chunk page_in flat_bytes past chunk) here
+        let here : page_in_frame past f ≡ Some page = ap page_of (sym (content_is stands.columns f) ∙ e) in
+        ap (logged_chunk page_in_frame flat_bytes past chunk) here
         ∙ ap (λ x. Some (let l : Logged = record {
           enclave = page.enclave;
-          block = eextend_block (4096 * page.number + 256 * chunk) (chunk_of (flat_map (to_le_bytes w64) (page_words x)) chunk);
+          block = eextend_block (4096 * page.number + 256 * chunk) (chunk_of (flat_map (to_le_bytes w64) (flat_page_words x)) chunk);
         } in l))
         (stands.memory.words f page kind perm e)
         ∙ ap (λ (q : Page). Some (let l : Logged =

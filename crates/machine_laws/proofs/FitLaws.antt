@@ -27,7 +27,8 @@ use Rattle.sgx_rules.specs.Starts.{Start, open_start, slot_found}
 use Rattle.sgx_rules.specs.inner.Starts.{BareStart, bare_start, is_load_of}
 use Rattle.sgx_rules.specs.Rules.{FitsRule, NoPageTwice}
 use Rattle.sgx_rules.specs.inner.Rules.{LoadsAwayRule}
-use Rattle.sgx_rules.specs.Table.{is_loading, is_made, first_of_row}
+use Rattle.sgx_types.specs.Cases.{first_of_row}
+use Rattle.sgx_rules.specs.Table.{is_loading, is_made}
 use Rattle.sgx_rules.proofs.Rows.{none_holds}
 use Rattle.sgx_types.proofs.Truths.{apart, both_true, neither, not_false}
 use Rattle.sgx_types.specs.Sealed.{Sealed}

@@ -16,7 +16,7 @@ use Rattle.sgx_rules.specs.Rules.{Along, FitsRule}
 use Rattle.sgx_types.specs.Sealed.{Sealed}
 use Rattle.sgx_rules.specs.Starts.{Start, open_start, opened_by}
 use Rattle.sgx_rules.specs.inner.Starts.{BareStart}
-use Rattle.sgx_rules.specs.Table.{first_of_row}
+use Rattle.sgx_types.specs.Cases.{first_of_row}
 use Rattle.seal_record.specs.Cipher.{cipher}
 use Rattle.machine_laws.specs.inner.Columns.{HasColumns}
 use Rattle.machine_laws.specs.inner.State.{State, row_of, after_eld, after_failed_eld}

@@ -10,7 +10,7 @@ use Rattle.sgx_types.specs.declared.names.Page.{Page}
 use Rattle.sgx_types.specs.declared.names.Perm.{Perm}
 use Rattle.sgx_types.specs.declared.names.SlotAt.{SlotAt}
 use Rattle.sgx_rules.specs.Epochs.{epoch_of}
-use Rattle.sgx_rules.specs.Flat.{FlatEnclave, enclave_sight_of, marked}
+use Rattle.sgx_rules.specs.Flat.{FlatEnclave, enclave_sight_of, as_initialised}
 use Rattle.sgx_types.specs.Pages.{is_own_page, is_secs_page, is_va_page, same_page}
 use Rattle.sgx_rules.specs.Frames.{Content, Free, IsVa, SecsOf, Holds, IsLoading, enclave_in, is_child, is_secs_of, secs_frame}
 use Rattle.sgx_rules.specs.Sights.{secs_seen}
@@ -223,11 +223,11 @@ guarded_made s made more h =
 pub guarded_init : (s : State) (enclave : ℕ) → IsGuarded s → IsGuarded (after_init s enclave)
 guarded_init s enclave h =
     guarded_beside s s.words (after_init s enclave).enclaves s.measure s.acc s.version_in s.next_version
-    (λ e. cond_both (e == enclave) (marked (s.enclaves e)) (s.enclaves e)
+    (λ e. cond_both (e == enclave) (as_initialised (s.enclaves e)) (s.enclaves e)
     (λ o. is_made (enclave_sight_of (s.enclaves e)) ≡ true → is_made (enclave_sight_of o) ≡ true) (λ _. still (s.enclaves e)) (λ _ is. is))
     h
   where
-    still : (o : Option FlatEnclave) → is_made (enclave_sight_of o) ≡ true → is_made (enclave_sight_of (marked o)) ≡ true
+    still : (o : Option FlatEnclave) → is_made (enclave_sight_of o) ≡ true → is_made (enclave_sight_of (as_initialised o)) ≡ true
     still None is = cc is
     still (Some x) is = refl
 

@@ -20,7 +20,8 @@ use Rattle.sgx_types.specs.inner.Places.{same_place}
 use Rattle.sgx_rules.specs.Starts.{slot_in}
 use Rattle.sgx_rules.specs.inner.Starts.{BareStart}
 use Rattle.sgx_rules.specs.Table.{is_loading, is_made, is_out_of_range, is_own, is_va, is_valid, block_row, track_row, ewbstart_row}
-use Rattle.sgx_rules.specs.Table.{eldstart_row, first_of_row}
+use Rattle.sgx_types.specs.Cases.{first_of_row}
+use Rattle.sgx_rules.specs.Table.{eldstart_row}
 use Rattle.sgx_rules.proofs.Contents.{free_there}
 use Rattle.sgx_rules.proofs.Rows.{none_holds}
 use Rattle.sgx_types.proofs.Truths.{apart, both_true, neither, not_false}

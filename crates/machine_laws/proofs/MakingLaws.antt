@@ -14,7 +14,7 @@ use Rattle.sgx_rules.specs.declared.refusals.Refusal.TheVariants as why
 use Rattle.sgx_rules.specs.Processors.{Seat}
 use Rattle.sgx_types.specs.Sealed.{Sealed}
 use Rattle.sgx_rules.specs.Frames.{reloaded}
-use Rattle.sgx_rules.specs.Table.{first_of_row}
+use Rattle.sgx_types.specs.Cases.{first_of_row}
 use Rattle.measure_log.specs.Rule.{IsExpected, IsOther}
 use Rattle.seal_record.specs.Cipher.{cipher}
 use Rattle.machine_laws.specs.inner.State.{State, after_eld, after_failed_eld, after_init, making_of, row_of, with_saved}

@@ -7,8 +7,9 @@ use Rattle.sgx_types.specs.declared.names.Actor.{Actor}
 use Rattle.sgx_rules.specs.declared.entries.Action.TheVariants.{Init}
 use Rattle.sgx_rules.specs.declared.refusals.Refusal.{Refusal}
 use Rattle.sgx_rules.specs.declared.refusals.Refusal.TheVariants as why
-use Rattle.sgx_rules.specs.Table.{EnclaveSight, SecsSight, first_of_row, init_row}
-use Rattle.sgx_rules.specs.Flat.{FlatEnclave, marked}
+use Rattle.sgx_types.specs.Cases.{first_of_row}
+use Rattle.sgx_rules.specs.Table.{EnclaveSight, SecsSight, init_row}
+use Rattle.sgx_rules.specs.Flat.{FlatEnclave, as_initialised}
 use Rattle.sgx_types.proofs.Truths.{eqb-swap}
 use Rattle.measure_log.specs.declared.measure.Measure.{Measure}
 use Rattle.measure_log.specs.Measure.{measurement_of}
@@ -45,7 +46,7 @@ goes_on e enclave o m longer block l made takes before = rw (eqb-swap enclave e)
 
 -- an enclave that is marked initialised has its measurement still
 pub stays : (b : Bool) (o : Option FlatEnclave) (m : Option Measure) (l : List ℕ) → IsMeasuring o m l
-    → IsMeasuring (cond b (marked o) o) m l
+    → IsMeasuring (cond b (as_initialised o) o) m l
 stays false o m l h = h
 stays true None m l h = h
 stays true (Some x) m l h = h

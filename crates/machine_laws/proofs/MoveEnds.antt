@@ -23,7 +23,7 @@ use Rattle.sgx_rules.specs.Frames.{page_there, reloaded}
 use Rattle.sgx_rules.specs.PageBytes.{header_at, secs_header, va_header}
 use Rattle.sgx_types.specs.Pages.{is_secs_page, is_va_page}
 use Rattle.sgx_types.specs.Sealed.{Sealed}
-use Rattle.sgx_rules.specs.Table.{first_of_row}
+use Rattle.sgx_types.specs.Cases.{first_of_row}
 use Rattle.sgx_rules.specs.inner.Starts.{BareStart}
 use Rattle.seal_record.specs.Cipher.{cipher, tag}
 use Rattle.seal_record.specs.inner.Row.{same_header}

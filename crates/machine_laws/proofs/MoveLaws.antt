@@ -11,14 +11,15 @@ use Rattle.sgx_types.specs.declared.names.Kind.{Kind}
 use Rattle.sgx_types.specs.declared.names.Page.{Page}
 use Rattle.sgx_types.specs.declared.names.Perm.{Perm}
 use Rattle.sgx_rules.specs.declared.refusals.Refusal.{Refusal}
-use Rattle.sgx_rules.specs.Flat.{FlatMemory, FlatPage, added_as, flat, page_words}
+use Rattle.sgx_rules.specs.Flat.{FlatMemory, FlatPage, added_as, flat, flat_page_words}
 use Rattle.sgx_rules.specs.Flat as flats
 use Rattle.sgx_types.specs.declared.names.TheConstants.{SECS_NUMBER}
 use Rattle.sgx_types.specs.Pages.{is_own_page}
 use Rattle.sgx_rules.specs.Frames.{Content, Free, Holds, IsLoading, IsVa, SecsOf, reloaded, reloaded_as}
 use Rattle.sgx_types.specs.Sealed.{Sealed}
 use Rattle.sgx_rules.specs.inner.Starts.{BareStart}
-use Rattle.sgx_rules.specs.Table.{SlotSight, first_of_row, is_own}
+use Rattle.sgx_types.specs.Cases.{first_of_row}
+use Rattle.sgx_rules.specs.Table.{SlotSight, is_own}
 use Rattle.epcm_entry.specs.inner.Words.{words_of, zero_words}
 use Rattle.seal_record.specs.Cipher.{cipher}
 use Rattle.machine_laws.specs.inner.Stands.{Stands, StandsWithRules, HasWords}
@@ -146,12 +147,12 @@ back_own page o g kind perm is = by_name (page.enclave == 0) refl (page.number =
 
 -- a page that is back has the words with which flat memory has it
 back_words : (pages : Page → Option FlatPage) (page : Page) (kind : Kind) (perm : Perm) (words : List ℕ)
-    → added_as (pages page) ≡ Some (kind, perm) → words ≡ page_words (pages page)
+    → added_as (pages page) ≡ Some (kind, perm) → words ≡ flat_page_words (pages page)
     → (g : Page) (kind' : Kind) (perm' : Perm) → Holds page kind perm ≡ Holds g kind' perm'
     → pages g ≡ Some (record { kind = kind'; perm = perm'; words = words })
 back_words pages page kind perm words added same g kind' perm' e = as_held (by_page (pages page) added same) e
   where
-    by_page : (o : Option FlatPage) → added_as o ≡ Some (kind, perm) → words ≡ page_words o
+    by_page : (o : Option FlatPage) → added_as o ≡ Some (kind, perm) → words ≡ flat_page_words o
         → o ≡ Some (record { kind = kind; perm = perm; words = words })
     by_page None is e = cc
     by_page (Some x) is e =

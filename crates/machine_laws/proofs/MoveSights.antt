@@ -23,7 +23,8 @@ use Rattle.sgx_rules.specs.Slots.{is_busy_of, is_of_va, is_va_in_use, next_versi
 use Rattle.sgx_rules.specs.Starts.{Start, open_start, slot_in}
 use Rattle.sgx_rules.specs.inner.Starts.{BareStart, bare_start, without_place}
 use Rattle.sgx_rules.specs.Table.{DrainSight, FrameSight, LoadSight, SlotSight, UseSight, block_row, eldstart_row, ewbstart_row}
-use Rattle.sgx_rules.specs.Table.{first_of_row, is_made, is_va}
+use Rattle.sgx_types.specs.Cases.{first_of_row}
+use Rattle.sgx_rules.specs.Table.{is_made, is_va}
 use Rattle.sgx_rules.specs.Table.{track_row}
 use Rattle.sgx_rules.proofs.Keystone.{epochs_tell}
 use Rattle.sgx_types.proofs.CountLaws.{any_below-found, any_below-some}

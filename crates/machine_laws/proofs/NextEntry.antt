@@ -10,7 +10,7 @@ use Rattle.sgx_rules.specs.Flat.{FlatMemory, flat, accepts, flat_answer, is_visi
 use Rattle.sgx_rules.specs.Rules.{FitsRule, FlatRule, HasForm, NamesFrames, NoPageTwice, RefusalRule, TakesFree, seen_answer}
 use Rattle.sgx_rules.specs.inner.Rules.{KeepsRules}
 use Rattle.sgx_rules.specs.Sights.{row_at}
-use Rattle.sgx_rules.specs.Table.{first_of_row}
+use Rattle.sgx_types.specs.Cases.{first_of_row}
 use Rattle.sgx_types.specs.Making.{Making}
 use Rattle.measure_log.specs.Rule.{MeasureRule}
 use Rattle.machine_laws.specs.inner.Columns.{HasAllVersions}

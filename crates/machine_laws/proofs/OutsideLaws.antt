@@ -29,8 +29,9 @@ use Rattle.sgx_types.specs.Pages.{is_own_page, is_va_page, page_at, same_page, s
 use Rattle.sgx_rules.specs.Frames.{Holds, content, is_page, vas_made}
 use Rattle.sgx_rules.specs.PageBytes.{bytes_at, va_words}
 use Rattle.sgx_rules.specs.Processors.{Stay, stay}
-use Rattle.sgx_rules.specs.Table.{TcsSight, first_of_row, allows_update, allows_write}
-use Rattle.sgx_rules.specs.Flat.{FlatMemory, accepts, fields_in, flat, memory_after, page_words, saved, stored, sum_of}
+use Rattle.sgx_types.specs.Cases.{first_of_row}
+use Rattle.sgx_rules.specs.Table.{TcsSight, allows_update, allows_write}
+use Rattle.sgx_rules.specs.Flat.{FlatMemory, accepts, fields_in, flat, memory_after, flat_page_words, saved, stored, sum_of}
 use Rattle.sgx_rules.specs.Flat.{tcs_fields}
 use Rattle.sgx_rules.specs.Flat.{with_cssa, with_words, word_seen, words_of}
 use Rattle.sgx_rules.specs.Sights.{seat_of}
@@ -250,7 +251,7 @@ aex_words s past p acc sound stands one g slot v there = by_stay (stay past p) r
         let tcs_held = tcs_there (s.content seat.tcs_frame) q k.tcs_page k.tcs_kind in
         let tcs_flat = stands.memory.words seat.tcs_frame q kinds.Tcs tcs_held.perm tcs_held.holds in
         let fields : tcs_fields (s.words seat.tcs_frame) ≡ fields_in m seat.enclave seat.tcs =
-        ap (λ x. tcs_fields (page_words x)) (sym tcs_flat) in
+        ap (λ x. tcs_fields (flat_page_words x)) (sym tcs_flat) in
         let save = next_save seat.enclave (fields_in m seat.enclave seat.tcs) in
         let tcs_framed : is_page (content past seat.tcs_frame) q ≡ true = rw (← content_is stands.columns seat.tcs_frame) k.tcs_page in
         let ssa_framed : is_page (content past seat.ssa_frame) save ≡ true =

@@ -11,7 +11,8 @@ use Rattle.sgx_types.specs.declared.names.SlotAt.{SlotAt}
 use Rattle.sgx_rules.specs.Frames.{Content, Free, Holds, IsLoading, IsVa, SecsOf, enclave_in}
 use Rattle.sgx_rules.specs.Processors.{Seat}
 use Rattle.sgx_rules.specs.inner.Starts.{BareStart}
-use Rattle.sgx_rules.specs.Table.{ewbstart_row, eldstart_row, first_of_row, is_own}
+use Rattle.sgx_types.specs.Cases.{first_of_row}
+use Rattle.sgx_rules.specs.Table.{ewbstart_row, eldstart_row, is_own}
 use Rattle.sgx_types.proofs.Truths.{apart}
 use Rattle.epcm_entry.specs.inner.Words.{words_of, zero_words}
 use Rattle.cached_translations.specs.declared.cache.Translation.{Translation}

@@ -12,7 +12,8 @@ use Rattle.sgx_types.specs.declared.names.Kind.{Kind}
 use Rattle.sgx_types.specs.declared.names.Perm.{Perm}
 use Rattle.sgx_types.specs.Pages.{page_at}
 use Rattle.sgx_rules.specs.Processors.{Stay, stay}
-use Rattle.sgx_rules.specs.Table.{outside_row, pf_row, fault_of, first_of_row}
+use Rattle.sgx_types.specs.Cases.{first_of_row}
+use Rattle.sgx_rules.specs.Table.{outside_row, pf_row, fault_of}
 use Rattle.sgx_rules.specs.Flat.{FlatCpu, FlatMemory, flat, added_at_offset, all_ones, sum_of, with_acc, memory_after}
 use Rattle.sgx_rules.specs.Sights.{added_at}
 use Rattle.machine_laws.specs.inner.State.{State, row_of, added_inside}

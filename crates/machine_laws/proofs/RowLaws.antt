@@ -23,13 +23,15 @@ use Rattle.sgx_rules.specs.inner.Enclaves.{EnclavesAreFlat}
 use Rattle.sgx_types.specs.Pages.{page_at}
 use Rattle.sgx_rules.specs.Frames.{enclave_in, is_page, Free, content}
 use Rattle.sgx_rules.specs.Processors.{stay, Seat}
-use Rattle.sgx_rules.specs.Table.{Case, FrameSight, EnterSight, TcsSight, is_tcs, is_ready, epa_row, create_row, add_row}
+use Rattle.sgx_types.specs.Cases.{Case}
+use Rattle.sgx_rules.specs.Table.{FrameSight, EnterSight, TcsSight, is_tcs, is_ready, epa_row, create_row, add_row}
 use Rattle.sgx_rules.specs.Table.{extend_row}
 use Rattle.sgx_rules.specs.Table.{init_row, inside_row, outside_row, fill_row, access_row, allows_read, allows_write}
 use Rattle.sgx_rules.specs.Table.{allows_update, pf_row}
 use Rattle.sgx_types.specs.Lawful.{is_enclave, is_lawful}
-use Rattle.sgx_rules.specs.Table.{first_of_row, EnclaveSight, SecsSight, is_loading, is_valid, entry_row}
-use Rattle.sgx_rules.specs.Flat.{FlatEnclave, flat, enclave_sight_of, tcs_fields, words_of, page_words}
+use Rattle.sgx_types.specs.Cases.{first_of_row}
+use Rattle.sgx_rules.specs.Table.{EnclaveSight, SecsSight, is_loading, is_valid, entry_row}
+use Rattle.sgx_rules.specs.Flat.{FlatEnclave, flat, enclave_sight_of, tcs_fields, words_of, flat_page_words}
 use Rattle.sgx_rules.specs.Sights.{stay_of, row_at, seat_of, translation_at}
 use Rattle.sgx_rules.specs.Sights as sights
 use Rattle.sgx_rules.specs.Sights.{enter_sight_at}
@@ -155,18 +157,18 @@ outside_agrees : (s : State) (past : List Entry) (p : Cpu) → Stands s past
 outside_agrees s past p stands = ap (λ b. first_of_row (outside_row b)) (mode_by_entries s past stands p.0)
 
 -- where the TCS page is not in its frame, the row does not come to its fields
-entry_elsewhere : (saves : TcsSight → Case) (saved : TcsSight → ℕ) (enclave tcs : ℕ) (v : EnterSight) (fields : TcsSight)
+entry_elsewhere : (saves : TcsSight → Case Refusal) (saved : TcsSight → ℕ) (enclave tcs : ℕ) (v : EnterSight) (fields : TcsSight)
     → is_page v.tcs.content (page_at enclave tcs) ≡ false
     → first_of_row (by_fields saves saved enclave tcs v) ≡ first_of_row (by_fields saves saved enclave tcs (record v { fields = fields }))
 entry_elsewhere saves saved enclave tcs v fields other = rw other refl
 
-entry_otherwise : (saves : TcsSight → Case) (saved : TcsSight → ℕ) (enclave tcs : ℕ) (v : EnterSight) (fields : TcsSight)
+entry_otherwise : (saves : TcsSight → Case Refusal) (saved : TcsSight → ℕ) (enclave tcs : ℕ) (v : EnterSight) (fields : TcsSight)
     → is_tcs v.tcs.content ≡ false
     → first_of_row (by_fields saves saved enclave tcs v) ≡ first_of_row (by_fields saves saved enclave tcs (record v { fields = fields }))
 entry_otherwise saves saved enclave tcs v fields other = rw other refl
 
 -- a row by a TCS page, in the state and by the entries, for who is inside as they say
-entry_agrees_by : (saves : TcsSight → Case) (saved : TcsSight → ℕ) (s : State) (past : List Entry) (b b' : Bool) (enclave tcs tf sf : ℕ)
+entry_agrees_by : (saves : TcsSight → Case Refusal) (saved : TcsSight → ℕ) (s : State) (past : List Entry) (b b' : Bool) (enclave tcs tf sf : ℕ)
     → b ≡ b' → Stands s past
     → first_of_row (by_fields saves saved enclave tcs (record (enter_sight s 0 (seat_of enclave tcs tf sf)) { is_inside = b }))
     ≡ first_of_row
@@ -195,10 +197,10 @@ entry_agrees_by saves saved s past b b' enclave tcs tf sf same stands =
     by_page (inl here) (inl is) =
         let k = tcs_there (s.content tf) g here is in
         let there = stands.memory.words tf g kinds.Tcs k.perm k.holds in
-        ap (λ x. first_of_row (by_fields saves saved enclave tcs (record v { fields = tcs_fields (page_words x) }))) (sym there)
+        ap (λ x. first_of_row (by_fields saves saved enclave tcs (record v { fields = tcs_fields (flat_page_words x) }))) (sym there)
 
 -- .. for a processor
-entry_agrees : (saves : TcsSight → Case) (saved : TcsSight → ℕ) (s : State) (past : List Entry) (p enclave tcs tf sf : ℕ) → Stands s past
+entry_agrees : (saves : TcsSight → Case Refusal) (saved : TcsSight → ℕ) (s : State) (past : List Entry) (p enclave tcs tf sf : ℕ) → Stands s past
     → first_of_row (by_fields saves saved enclave tcs (enter_sight s p (seat_of enclave tcs tf sf))) ≡ first_of_row
     (by_fields saves saved enclave tcs (enter_sight_at s.frames past (stay past p) (seat_of enclave tcs tf sf)))
 entry_agrees saves saved s past p enclave tcs tf sf stands =
@@ -338,7 +340,7 @@ start_names frames f slot other within =
     (leb-false _ _ both.0, leb-false _ _ both.1)
 
 -- the two frames of a seat
-seat_names : (s : State) (p : ℕ) (seat : Seat) (saves : Case) (saved : ℕ)
+seat_names : (s : State) (p : ℕ) (seat : Seat) (saves : Case Refusal) (saved : ℕ)
     → first_of_row (entry_row seat.enclave seat.tcs (enter_sight s p seat) saves saved) ≡ None
     → (seat.tcs_frame < s.frames) × (seat.ssa_frame < s.frames)
 seat_names s p seat saves saved allowed =

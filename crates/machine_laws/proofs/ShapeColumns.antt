@@ -24,7 +24,7 @@ use Rattle.sgx_types.specs.declared.names.SlotAt.{SlotAt}
 use Rattle.sgx_rules.specs.declared.refusals.Refusal.{Refusal}
 use Rattle.sgx_rules.specs.Epochs.{epoch, epoch_of}
 use Rattle.sgx_rules.specs.inner.Epochs.{noted}
-use Rattle.sgx_rules.specs.Flat.{marked}
+use Rattle.sgx_rules.specs.Flat.{as_initialised}
 use Rattle.sgx_types.specs.Pages.{is_secs_page, is_va_page, page_at, same_page, va_page}
 use Rattle.sgx_rules.specs.Frames.{Content, Free, IsVa, SecsOf, Holds, IsLoading, added, content, enclave_in, is_sealing}
 use Rattle.sgx_rules.specs.inner.Arrays.{came_back}
@@ -395,7 +395,7 @@ module _ (s : State) (past : List Entry) (h : HasColumns s past) where
     versions = h.versions;
     enclaves = λ i. record (h.enclaves i) {
       enclaves =
-          λ e. cond (e == enclave) (marked ((h.enclaves i).enclaves e)) ((h.enclaves i).enclaves e);
+          λ e. cond (e == enclave) (as_initialised ((h.enclaves i).enclaves e)) ((h.enclaves i).enclaves e);
     };
   }
 

@@ -37,7 +37,8 @@ use Rattle.sgx_rules.specs.inner.Starts.{BareStart}
 use Rattle.sgx_rules.specs.Table.{EnclaveSight, FrameSight, SecsSight, is_own, is_va, is_valid, access_row, add_row, allows_read}
 use Rattle.sgx_rules.specs.Table.{allows_update}
 use Rattle.sgx_rules.specs.Table.{allows_write}
-use Rattle.sgx_rules.specs.Table.{create_row, epa_row, first_of_row}
+use Rattle.sgx_types.specs.Cases.{first_of_row}
+use Rattle.sgx_rules.specs.Table.{create_row, epa_row}
 use Rattle.sgx_rules.specs.Flat.{enclave_sight_of}
 use Rattle.sgx_rules.proofs.Rows.{none_holds}
 use Rattle.sgx_rules.proofs.Goings.{goes_out}

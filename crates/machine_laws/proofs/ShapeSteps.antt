@@ -29,7 +29,8 @@ use Rattle.sgx_rules.proofs.Busy.{IsBareOf}
 use Rattle.sgx_types.proofs.Pages.{same_pages}
 use Rattle.epcm_entry.specs.inner.Words.{words_of}
 use Rattle.sgx_types.specs.Sealed.{Sealed}
-use Rattle.sgx_rules.specs.Table.{is_loading, is_valid, perm_in, first_of_row}
+use Rattle.sgx_types.specs.Cases.{first_of_row}
+use Rattle.sgx_rules.specs.Table.{is_loading, is_valid, perm_in}
 use Rattle.sgx_types.specs.Making.{Making}
 use Rattle.machine_copies.proofs.ArrayLaws.{rests_first}
 use Rattle.seal_record.specs.Cipher.{cipher}

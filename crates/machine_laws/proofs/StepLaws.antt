@@ -12,7 +12,8 @@ use Rattle.sgx_rules.specs.declared.entries.Action.TheVariants.{EldStart}
 use Rattle.sgx_rules.specs.declared.entries.Answer.TheVariants as answers
 use Rattle.sgx_rules.specs.declared.refusals.Refusal.{Refusal}
 use Rattle.sgx_rules.specs.declared.refusals.Refusal.TheVariants as why
-use Rattle.sgx_rules.specs.Table.{EnclaveSight, init_row, first_of_row, perm_in, SecsSight}
+use Rattle.sgx_types.specs.Cases.{first_of_row}
+use Rattle.sgx_rules.specs.Table.{EnclaveSight, init_row, perm_in, SecsSight}
 use Rattle.sgx_rules.specs.Rules.{NoPageTwice}
 use Rattle.machine_laws.specs.inner.State.{State, row_of, after_init}
 use Rattle.machine_laws.specs.inner.Stands.{HasEnclaves, IsSound, Stands}

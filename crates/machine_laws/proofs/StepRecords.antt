@@ -21,8 +21,8 @@ use Rattle.sgx_types.specs.Pages.{is_own_page, is_va_page, same_page, secs_page,
 use Rattle.sgx_rules.specs.Frames.{Content, Free, Holds, IsLoading, IsVa, SecsOf, page_there, reloaded}
 use Rattle.sgx_rules.specs.PageBytes.{bytes_at, digest_of, header_at, va_header, va_words}
 use Rattle.sgx_rules.specs.Slots.{version_in}
-use Rattle.sgx_rules.specs.Table.{first_of_row}
-use Rattle.sgx_rules.specs.Flat.{FlatEnclave, flat, page_words, words_of}
+use Rattle.sgx_types.specs.Cases.{first_of_row}
+use Rattle.sgx_rules.specs.Flat.{FlatEnclave, flat, flat_page_words, words_of}
 use Rattle.sgx_types.specs.Sealed.{Sealed}
 use Rattle.sgx_rules.specs.Starts.{Start, open_start}
 use Rattle.sgx_rules.specs.inner.Enclaves.{created}
@@ -39,7 +39,7 @@ use Rattle.machine_copies.specs.inner.Once.{IsMade}
 use Rattle.seal_record.specs.Sealing.{SealedRule, made_with, record_at}
 use Rattle.seal_record.specs.inner.Sealing.{made_by, more_made}
 use Rattle.machine_laws.specs.inner.Columns.{HasAllVersions, slot_of}
-use Rattle.machine_laws.specs.inner.Guarded.{IsGuarded}
+use Rattle.machine_laws.specs.inner.Guarded.{IsGuarded, IsNamedRight}
 use Rattle.machine_laws.specs.inner.Histories.{BringsBytes, GivesArray, HasBytes, OutsideBytes, given_out}
 use Rattle.machine_laws.specs.inner.Shape.{ShapeWithRules}
 use Rattle.machine_laws.specs.inner.Stands.{IsMeasuring, StandsWithRules}
@@ -163,9 +163,9 @@ slots_same s past f number held all =
     (λ index low. sym (all f number held index low))
 
 -- what is sealed of a page that leaves are its bytes by the entries
-leaving_bytes : (s : State) (past : List Entry) (f : ℕ) (leaving : IsLeaving s f) → IsGuarded s → StandsWithRules s past
+pub page_bytes : (s : State) (past : List Entry) (f : ℕ) (leaving : IsLeaving s f) → IsNamedRight (s.content f) → StandsWithRules s past
     → bytes_at past leaving.page ≡ leaving.bytes
-leaving_bytes s past f leaving guarded h = by_content (s.content f) refl leaving.held leaving.kept
+page_bytes s past f leaving named h = by_content (s.content f) refl leaving.held leaving.kept
   where
     bytes : List ℕ
     bytes = leaving.bytes
@@ -181,16 +181,16 @@ leaving_bytes s past f leaving guarded h = by_content (s.content f) refl leaving
         as_page (va_page number) (same_Some (va_page number) leaving.page there)
         (ap bytes_of (slots_same s past f number e h.stands.versions) ∙ sym kept.0)
     by_content (SecsOf enclave) e there kept =
-        let name : (enclave == 0) ≡ false = rw e at (guarded.kept.named f) in
+        let name : (enclave == 0) ≡ false = rw e at named in
         let flat_is : (flat past).enclaves enclave ≡ Some kept.enclave = sym (enclave_flat h.stands enclave) ∙ kept.made in
         let digest = digest_same s past enclave kept.enclave kept.digest h kept.made kept.finished in
         as_page (secs_page enclave) (same_Some (secs_page enclave) leaving.page there)
         (rw (name, flat_is, digest) (sym kept.bytes))
     by_content (Holds page kind perm) e there kept =
-        let own : is_own_page page ≡ true = rw e at (guarded.kept.named f) in
+        let own : is_own_page page ≡ true = rw e at named in
         as_page page (same_Some page leaving.page there)
         (own_bytes past page own
-        ∙ ap (λ x. bytes_of (page_words x)) (h.stands.memory.words f page kind perm e) ∙ sym kept.0)
+        ∙ ap (λ x. bytes_of (flat_page_words x)) (h.stands.memory.words f page kind perm e) ∙ sym kept.0)
 
 -- the record that goes out is that of the page's bytes
 pub recorded : (s : State) (made : Making) (past : List Entry) (f : ℕ) (leaving : IsLeaving s f) → IsGuarded s → StandsWithRules s past
@@ -201,7 +201,7 @@ recorded s made past f leaving guarded h shaped =
     let headed : header_at past leaving.page ≡ Some leaving.header =
     sym (headers_agree s past h.stands.columns (enclaves_are_flat h.stands) leaving.page) ∙ leaving.headed in
     ap (λ o. option_map (λ header. sealed made.key leaving.start.version header (bytes_at past leaving.page)) o) headed
-    ∙ (λ i. Some (sealed (keyed i) leaving.start.version leaving.header (leaving_bytes s past f leaving guarded h i)))
+    ∙ (λ i. Some (sealed (keyed i) leaving.start.version leaving.header (page_bytes s past f leaving (guarded.kept.named f) h i)))
 
 -- what a write-out gives
 pub record GivesRecord (key : List ℕ) (past : List Entry) (e : Entry) (rec : Sealed) : Type 0 where
@@ -298,7 +298,7 @@ outside_written s t made past a f e rec out guarded h shaped =
     let v = leaving.start.version in
     let started = started_as s past shaped.shape.columns f.0 leaving.start leaving.opened in
     let keyed : s.key ≡ made.key = ap (λ (k : Making). k.key) shaped.shape.making in
-    let bytes : bytes_at past page ≡ leaving.bytes = leaving_bytes s past f.0 leaving guarded h in
+    let bytes : bytes_at past page ≡ leaving.bytes = page_bytes s past f.0 leaving (guarded.kept.named f.0) h in
     subst (λ x. GivesRecord made.key past x rec) (sym out.entry)
     (gives made.key past a f page v rec (record {
       start = started.start;
@@ -328,7 +328,7 @@ outside_written s t made past a f e rec out guarded h shaped =
         not_own false = refl
     own_words own (Holds page kind perm) e there kept =
         let name : page ≡ out.leaving.page = same_Some page out.leaving.page there in
-        kept.1 ∙ sym (ap page_words (h.stands.memory.words f.0 page kind perm e)) ∙ ap (words_of (flat past)) name
+        kept.1 ∙ sym (ap flat_page_words (h.stands.memory.words f.0 page kind perm e)) ∙ ap (words_of (flat past)) name
 
     array_words : is_va_page out.leaving.page ≡ true → (c : Content) → s.content f.0 ≡ c → page_there c ≡ Some out.leaving.page
         → HasBytesOf s f.0 c out.leaving.bytes → words_in out.leaving.bytes ≡ va_words past out.leaving.page.number

@@ -14,7 +14,8 @@ use Rattle.sgx_rules.specs.Processors.{Stay, stay}
 use Rattle.sgx_rules.specs.Rules.{NoPageTwice, RefusalRule}
 use Rattle.sgx_rules.specs.Sights.{row_at, stay_of}
 use Rattle.sgx_types.specs.Sealed.{Sealed}
-use Rattle.sgx_rules.specs.Table.{first_of_row, is_loading}
+use Rattle.sgx_types.specs.Cases.{first_of_row}
+use Rattle.sgx_rules.specs.Table.{is_loading}
 use Rattle.sgx_types.specs.Making.{Making}
 use Rattle.measure_log.specs.Rule.{MeasureRule}
 use Rattle.seal_record.specs.Records.{Given, Made, Unforged}

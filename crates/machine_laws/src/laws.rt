@@ -6,7 +6,7 @@ ghost use Rattle.sgx_types.specs.declared.names.Actor.{Actor};
 ghost use Rattle.sgx_rules.specs.declared.entries.Entry.{Entry};
 ghost use Rattle.sgx_rules.specs.inner.Enclaves.{EnclavesAreFlat};
 ghost use Rattle.sgx_rules.specs.Sights.{row_at};
-ghost use Rattle.sgx_rules.specs.Table.{first_of_row};
+ghost use Rattle.sgx_types.specs.Cases.{first_of_row};
 ghost use Rattle.seal_record.specs.Records.{Given, Made, Unforged};
 ghost use Rattle.machine_laws.specs.inner.Columns.{HasAllVersions, HasColumns};
 ghost use Rattle.machine_laws.specs.inner.Guarded.{IsGuarded};

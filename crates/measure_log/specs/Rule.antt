@@ -13,12 +13,12 @@ use Rattle.measure_log.specs.Log.{log_of}
 use Rattle.measure_log.specs.Measure.{measurement_of}
 
 -- the page in a frame
-abbrev pub page_in : List Entry → ℕ → Option Page
-page_in past frame = page_of (content past frame)
+abbrev pub page_in_frame : List Entry → ℕ → Option Page
+page_in_frame past frame = page_of (content past frame)
 
 -- the measurement log of an enclave
 abbrev pub log : List Entry → ℕ → List ℕ
-log = log_of page_in flat_bytes
+log = log_of page_in_frame flat_bytes
 
 -- the SHA-256 of that log
 abbrev pub measurement : List Entry → ℕ → List ℕ

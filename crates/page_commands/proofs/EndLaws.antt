@@ -15,7 +15,7 @@ use Rattle.page_commands.specs.declared.jobs.Unread.{Unread}
 use Rattle.page_commands.specs.declared.jobs.Unread.TheVariants as unread
 use Rattle.page_commands.specs.declared.status.Status.{Status}
 use Rattle.page_commands.specs.declared.status.Status.TheVariants as statuses
-use Rattle.page_commands.specs.Runs.{HasJob, fault_line}
+use Rattle.page_commands.specs.Runs.{HasJob, job_fault_line}
 use Rattle.page_commands.specs.Says.{Ends, Is, OfBoth, OfJob, OfTrace, Tells}
 use Rattle.page_commands.specs.inner.Commands.{IsTextGiven}
 use Rattle.page_commands.specs.inner.Runs.{IsFaultAnd, IsFaultOf}
@@ -50,7 +50,7 @@ ends_map S T f statuses.Spent out out' (text, said, is) = (text, f statuses.Spen
 -- the line on a trace
 pub no_trace : (edition : Edition) (bytes : List ℕ) (line : ℕ) (Said : List Entry → Status → List ℕ → Type 0)
     → Reads edition bytes (Err line)
-    → (status : Status) (text : List ℕ) → (status ≡ statuses.BadTrace) × (text ≡ old.fault_line line)
+    → (status : Status) (text : List ℕ) → (status ≡ statuses.BadTrace) × (text ≡ old.trace_fault_line line)
     → OfTrace edition bytes Said status text
 no_trace edition bytes line Said reads status text (is, told) = inr (is, (line, reads, told))
 
@@ -78,10 +78,10 @@ both_map bytes old_bytes S T f =
 -- the line on a job, and the old trace is not read
 pub no_job : (left old_left : Option (List ℕ)) (Same : Type 0) (why : Unread) (Said : JobView → List Entry → Status → List ℕ → Type 0)
     (status : Status) (out out' : Option (List ℕ)) → Same → IsFaultOf left why
-    → Ends (λ status text. (status ≡ statuses.BadJob) × IsFaultAnd why (λ fault. text ≡ fault_line fault)) status out out'
+    → Ends (λ status text. (status ≡ statuses.BadJob) × IsFaultAnd why (λ fault. text ≡ job_fault_line fault)) status out out'
     → OfRead left (λ bytes. (HasJob bytes ⊎ Same) × OfRead old_left (λ old_bytes. Ends (OfBoth bytes old_bytes Said) status out out'))
 no_job left old_left Same (unread.Bad fault) Said status out out' same (bytes, is, spelt) ends =
-    let Line : Status → List ℕ → Type 0 = λ s text. (s ≡ statuses.BadJob) × (text ≡ fault_line fault) in (
+    let Line : Status → List ℕ → Type 0 = λ s text. (s ≡ statuses.BadJob) × (text ≡ job_fault_line fault) in (
       bytes,
       is,
       (
@@ -107,10 +107,10 @@ no_job left old_left Same unread.Memory Said status out out' same fault ends =
 
 -- .. alone, and no run is made
 pub no_run : (left : Option (List ℕ)) (why : Unread) (status : Status) (out out' : Option (List ℕ)) → IsFaultOf left why
-    → Ends (λ status text. (status ≡ statuses.BadJob) × IsFaultAnd why (λ fault. text ≡ fault_line fault)) status out out'
+    → Ends (λ status text. (status ≡ statuses.BadJob) × IsFaultAnd why (λ fault. text ≡ job_fault_line fault)) status out out'
     → OfRead left (λ bytes. Ends (OfJob bytes (λ j status text. ⊥)) status out out')
 no_run left (unread.Bad fault) status out out' (bytes, is, spelt) ends =
-    let Line : Status → List ℕ → Type 0 = λ s text. (s ≡ statuses.BadJob) × (text ≡ fault_line fault) in (
+    let Line : Status → List ℕ → Type 0 = λ s text. (s ≡ statuses.BadJob) × (text ≡ job_fault_line fault) in (
       bytes,
       is,
       ends_map Line (OfJob bytes (λ j status text. ⊥)) (λ s text said. inr (said.0, (fault, spelt, said.1))) status out out' ends,

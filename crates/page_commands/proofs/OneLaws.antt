@@ -21,7 +21,7 @@ use Rattle.trace_text.specs.declared.edition.Edition.{Edition}
 use Rattle.trace_text.specs.declared.edition.Edition.TheVariants as editions
 use Rattle.page_commands.specs.declared.status.Status.{Status}
 use Rattle.page_commands.specs.declared.status.Status.TheVariants as statuses
-use Rattle.page_commands.specs.Says.{edition_by, Judged, OfJob, OfTrace, Says, shown, Tells}
+use Rattle.page_commands.specs.Says.{edition_by, Judged, OfJob, OfTrace, Says, showing_text, Tells}
 
 -- ---- a trace
 
@@ -100,7 +100,7 @@ one_end (commands.Tell telling) bytes old_bytes s t text other said also =
     let Said : JobView → Status → List ℕ → Type 0 = λ j. OfTrace editions.Two old_bytes (Tells telling j) in
     one_job bytes Said (both_traced old_bytes telling) s t text other said also
 one_end (commands.Show showing) bytes old_bytes s t text other said also =
-    let Said : List Entry → Status → List ℕ → Type 0 = λ past status text. (status ≡ statuses.Done) × (text ≡ shown showing past) in
+    let Said : List Entry → Status → List ℕ → Type 0 = λ past status text. (status ≡ statuses.Done) × (text ≡ showing_text showing past) in
     one_trace (edition_by showing) old_bytes Said (λ past s t text other said also. said.0 ∙ sym also.0) s t text other said also
 one_end (commands.Gate rounds) bytes old_bytes s t text other said also = said.0 ∙ sym also.0
 one_end commands.Help bytes old_bytes s t text other said also = said.0 ∙ sym also.0

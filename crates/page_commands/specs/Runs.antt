@@ -73,5 +73,5 @@ kind_text (kinds.EpcTooSmall needed) = codes "EpcTooSmall " ++ decimal needed
 kind_text kinds.TooLong = codes "TooLong"
 
 -- the line on the first fault of a job
-abbrev pub fault_line : Fault → List ℕ
-fault_line fault = codes "job line " ++ decimal fault.line ++ codes ": " ++ kind_text fault.kind ++ codes "\n"
+abbrev pub job_fault_line : Fault → List ℕ
+job_fault_line fault = codes "job line " ++ decimal fault.line ++ codes ": " ++ kind_text fault.kind ++ codes "\n"

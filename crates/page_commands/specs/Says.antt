@@ -24,14 +24,14 @@ use Rattle.trace_file.specs.Reading.{Reads}
 use Rattle.picture_text.specs.PictureText.{picture_of}
 use Rattle.command_query.specs.AnswerText.{answer_text}
 use Rattle.sgx_rules.specs.declared.entries.Entry.{Entry}
-use Rattle.trace_migrate.specs.Migrated.{numbered}
+use Rattle.trace_migrate.specs.Migrated.{numbered_anew}
 use Rattle.trace_text.specs.declared.edition.Edition.{Edition}
 use Rattle.trace_text.specs.declared.edition.Edition.TheVariants as editions
 use Rattle.trace_text.specs.TraceText.{trace_of}
 use Rattle.page_commands.specs.declared.help.TheConstants.{HELP}
 use Rattle.page_commands.specs.declared.status.Status.{Status}
 use Rattle.page_commands.specs.declared.status.Status.TheVariants as statuses
-use Rattle.page_commands.specs.Runs.{fault_line}
+use Rattle.page_commands.specs.Runs.{job_fault_line}
 
 -- all is done, and the text is this one
 abbrev pub Is : List ℕ → Status → List ℕ → Type 0
@@ -41,13 +41,13 @@ Is told status text = (status ≡ statuses.Done) × (text ≡ told)
 abbrev pub OfTrace : Edition → List ℕ → (List Entry → Status → List ℕ → Type 0) → Status → List ℕ → Type 0
 OfTrace edition bytes Said status text =
     ((entries : List Entry) × Reads edition bytes (Ok entries) × Said (reverse entries) status text)
-    ⊎ ((status ≡ statuses.BadTrace) × ((line : ℕ) × Reads edition bytes (Err line) × (text ≡ old.fault_line line)))
+    ⊎ ((status ≡ statuses.BadTrace) × ((line : ℕ) × Reads edition bytes (Err line) × (text ≡ old.trace_fault_line line)))
 
 -- of a job; or the line on the first fault of a text that is none
 abbrev pub OfJob : List ℕ → (JobView → Status → List ℕ → Type 0) → Status → List ℕ → Type 0
 OfJob bytes Said status text =
     ((j : JobView) × (read bytes ≡ Ok j) × Said j status text)
-    ⊎ ((status ≡ statuses.BadJob) × ((fault : Fault) × (read bytes ≡ Err fault) × (text ≡ fault_line fault)))
+    ⊎ ((status ≡ statuses.BadJob) × ((fault : Fault) × (read bytes ≡ Err fault) × (text ≡ job_fault_line fault)))
 
 -- of a job and behind it the entries of a trace
 abbrev pub OfBoth : List ℕ → List ℕ → (JobView → List Entry → Status → List ℕ → Type 0) → Status → List ℕ → Type 0
@@ -78,13 +78,13 @@ edition_by showings.Picture = editions.Two
 edition_by showings.Migrated = editions.One
 
 -- the text that shows entries, newest first
-abbrev pub shown : Showing → List Entry → List ℕ
-shown showings.Picture past = picture_of past
-shown showings.Migrated past = trace_of (numbered past)
+abbrev pub showing_text : Showing → List Entry → List ℕ
+showing_text showings.Picture past = picture_of past
+showing_text showings.Migrated past = trace_of (numbered_anew past)
 
 -- .. and that of their bytes
 abbrev pub ShowsOf : Showing → List ℕ → Status → List ℕ → Type 0
-ShowsOf showing old_bytes = OfTrace (edition_by showing) old_bytes (λ past. Is (shown showing past))
+ShowsOf showing old_bytes = OfTrace (edition_by showing) old_bytes (λ past. Is (showing_text showing past))
 
 -- what a command says of the bytes of a job and of an old trace, but of runs
 abbrev pub Says : Command → List ℕ → List ℕ → Status → List ℕ → Type 0

@@ -18,8 +18,8 @@ loaded_by (Did (Load off) (Value v)) = v
 loaded_by event = 0
 
 -- what a load was answered, and 0 for any other entry
-abbrev pub loaded : Entry → ℕ
-loaded e = loaded_by e.event
+abbrev pub loaded_value : Entry → ℕ
+loaded_value e = loaded_by e.event
 
 -- an operation is an exchange
 abbrev pub is_xadd : Op → Bool
@@ -43,7 +43,7 @@ abbrev pub summary_lines : JobView → ℕ → List Entry → List Words
 summary_lines j size entries =
     (codes "pages" ∷ decimal (size + 9) ∷ [])
     ∷ (codes "operations" ∷ decimal (4 * (size + 2)) ∷ [])
-    ∷ (codes "loads" ∷ decimal (sum_by loaded entries % 2 ^ 64) ∷ [])
+    ∷ (codes "loads" ∷ decimal (sum_by loaded_value entries % 2 ^ 64) ∷ [])
     ∷ (codes "xadds" ∷ decimal (xadds j (reverse entries)) ∷ [])
     ∷ []
 

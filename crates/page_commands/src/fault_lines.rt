@@ -2,7 +2,7 @@
 
 ghost use Rattle.std.specs.Prelude.{◌≡◌, ◌++◌, codes, IfOk, OnOk};
 ghost use Rattle.std.specs.Fmt.{decimal};
-ghost use Rattle.page_commands.specs.Runs.{fault_line, kind_text};
+ghost use Rattle.page_commands.specs.Runs.{job_fault_line, kind_text};
 
 use job_lines::kinds::JobKind;
 use job_text::refusals::Fault;
@@ -13,7 +13,7 @@ use text_words::words::push_word;
 
 /// The line on the first fault of a job. Line 0 is the whole text.
 pub fn print_fault(alloc: Global, fault: Fault) -> Result<Vec<u8>, Memory>
-    ensures { IfOk result (λ text. text.items ≡ fault_line fault) }
+    ensures { IfOk result (λ text. text.items ≡ job_fault_line fault) }
 {
     let mut text = Vec::new(alloc);
     push_word(Name("job line "), &mut text)?;

@@ -7,7 +7,7 @@ ghost use Rattle.io_edges.specs.Sources.{TakesAtMost};
 ghost use Rattle.page_commands.specs.inner.Commands.{IsUnrun};
 ghost use Rattle.job_text.specs.Reading.{read};
 ghost use Rattle.trace_file.specs.Reading.{OfRead};
-ghost use Rattle.page_commands.specs.Runs.{fault_line};
+ghost use Rattle.page_commands.specs.Runs.{job_fault_line};
 ghost use Rattle.page_commands.specs.Says.{Ends};
 ghost use Rattle.page_commands.specs.inner.Runs.{IsFaultAnd, IsFaultOf};
 
@@ -63,14 +63,14 @@ pub(crate) fn read<J: Source>(alloc: Global, source: &mut J) -> Result<Job, Unre
 
 /// Gives the line on what is wrong with a job. What else kept it from being read needs no text.
 pub(crate) fn tell<K: Sink>(alloc: Global, out: &mut K, unread: Unread) -> Status
-    ensures told { Ends (λ status text. (status ≡ Status.BadJob) × IsFaultAnd unread (λ fault. text ≡ fault_line fault)) result
+    ensures told { Ends (λ status text. (status ≡ Status.BadJob) × IsFaultAnd unread (λ fault. text ≡ job_fault_line fault)) result
         (K.given out.old) (K.given out.new) }
     ensures unrun { IsUnrun result }
     ensures fault { result ≡ Status.BadJob →
-        IsFaultAnd unread (λ fault. K.given out.new ≡ followed_by (K.given out.old) (fault_line fault)) }
+        IsFaultAnd unread (λ fault. K.given out.new ≡ followed_by (K.given out.old) (job_fault_line fault)) }
     ensures failed { result ≡ Status.ReadFault → (unread ≡ Unread.Failed) × (out.new ≡ out.old) }
     ensures broke { result ≡ Status.WriteFault →
-        IsFaultAnd unread (λ fault. GivesPart (K.given out.old) (K.given out.new) (fault_line fault)) }
+        IsFaultAnd unread (λ fault. GivesPart (K.given out.old) (K.given out.new) (job_fault_line fault)) }
     ensures memory { result ≡ Status.Memory → out.new ≡ out.old }
     ensures ungiven { result ≡ Status.WriteFault → HasRisen (K.faults out.old) (K.faults out.new) }
 {
@@ -86,9 +86,9 @@ pub(crate) fn tell<K: Sink>(alloc: Global, out: &mut K, unread: Unread) -> Statu
 }
 
 fn give_fault<K: Sink>(alloc: Global, out: &mut K, fault: Fault) -> Result<(), Ungiven>
-    ensures gave { OnOk result (K.given out.new ≡ followed_by (K.given out.old) (fault_line fault)) }
+    ensures gave { OnOk result (K.given out.new ≡ followed_by (K.given out.old) (job_fault_line fault)) }
     ensures memory { IsErrOf result Ungiven.Memory → out.new ≡ out.old }
-    ensures broke { IsErrOf result Ungiven.Failed → GivesPart (K.given out.old) (K.given out.new) (fault_line fault) }
+    ensures broke { IsErrOf result Ungiven.Failed → GivesPart (K.given out.old) (K.given out.new) (job_fault_line fault) }
     ensures failed { IsErrOf result Ungiven.Failed → HasRisen (K.faults out.old) (K.faults out.new) }
 {
     let text = print_fault(alloc, fault)?;

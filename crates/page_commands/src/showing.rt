@@ -5,7 +5,7 @@ ghost use Rattle.io_edges.specs.Faults.{HasRisen};
 ghost use Rattle.io_edges.specs.Sinks.{GivesPart, followed_by};
 ghost use Rattle.io_edges.specs.Sources.{TakesAtMost};
 ghost use Rattle.trace_file.specs.Reading.{OfRead};
-ghost use Rattle.page_commands.specs.Says.{Ends, ShowsOf, edition_by, shown};
+ghost use Rattle.page_commands.specs.Says.{Ends, ShowsOf, edition_by, showing_text};
 
 use crate::status::Status;
 use crate::traces::read_entries;
@@ -60,8 +60,8 @@ fn give<K: Sink>(
     out: &mut K,
 ) -> Result<(), Ungiven>
     requires { length entries.old < 2 ^ 32 }
-    ensures gave { OnOk result (K.given out.new ≡ followed_by (K.given out.old) (shown showing (reverse entries.old))) }
-    ensures broke { IsErrOf result Ungiven.Failed → GivesPart (K.given out.old) (K.given out.new) (shown showing (reverse entries.old)) }
+    ensures gave { OnOk result (K.given out.new ≡ followed_by (K.given out.old) (showing_text showing (reverse entries.old))) }
+    ensures broke { IsErrOf result Ungiven.Failed → GivesPart (K.given out.old) (K.given out.new) (showing_text showing (reverse entries.old)) }
     ensures memory { IsErrOf result Ungiven.Memory → out.new ≡ out.old }
     ensures failed { IsErrOf result Ungiven.Failed → HasRisen (K.faults out.old) (K.faults out.new) }
 {

@@ -1,6 +1,6 @@
 //! The summary of a run of a made job.
 
-ghost use Rattle.page_commands.specs.Summary.{loaded, summary_of};
+ghost use Rattle.page_commands.specs.Summary.{loaded_value, summary_of};
 ghost use Rattle.std.specs.List.{sum_by};
 ghost use Rattle.std.specs.Prelude.{◌≡◌, ◌≤◌, ◌%◌, ◌^◌, IfOk};
 
@@ -37,7 +37,7 @@ pub fn print_summary(
 
 #[tactic(auto, using(crate::proofs::SumLaws::sum_more))]
 fn sum_of_loads(entries: &[Entry]) -> u64
-    ensures { result ≡ sum_by loaded entries.now % 2 ^ 64 }
+    ensures { result ≡ sum_by loaded_value entries.now % 2 ^ 64 }
 {
     let mut sum: u64 = 0;
     for entry in entries {
@@ -48,7 +48,7 @@ fn sum_of_loads(entries: &[Entry]) -> u64
 
 // What a load was answered, and 0 for any other entry.
 fn loaded(entry: &Entry) -> u64
-    ensures { result ≡ loaded entry.now }
+    ensures { result ≡ loaded_value entry.now }
 {
     match entry.event {
         Event::Did {

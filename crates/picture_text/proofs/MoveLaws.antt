@@ -12,7 +12,8 @@ use Rattle.sgx_types.proofs.Pages.{same_page-refl}
 use Rattle.sgx_types.proofs.Truths.{tested}
 use Rattle.trace_places.specs.declared.moves.Where.{Where}
 use Rattle.trace_places.specs.declared.moves.Where.TheVariants as wheres
-use Rattle.trace_places.specs.Places.{change_after, place_of, same_where, moved, moved_by, is_page}
+use Rattle.trace_places.specs.Places.{change_after, place_of, same_where, moved, moved_by}
+use Rattle.sgx_rules.specs.Frames.{is_this}
 use Rattle.trace_places.proofs.MoveLaws.{stayed}
 use Rattle.picture_text.specs.declared.events.Lane.{Lane}
 use Rattle.picture_text.specs.declared.events.Lane.TheVariants as lanes
@@ -26,7 +27,7 @@ use Rattle.picture_text.specs.declared.events.Counter.TheVariants as counters
 use Rattle.picture_text.specs.declared.events.Mark.TheVariants as marks
 use Rattle.picture_text.specs.Events.{count_to, counts_of, counts_to, events_after, events_by, events_of, marked}
 use Rattle.picture_text.specs.Lanes.{same_lane}
-use Rattle.picture_text.specs.Open.{same_spans, stands, only, open_on}
+use Rattle.picture_text.specs.Open.{same_spans, span_of, only, open_on}
 use Rattle.picture_text.specs.Reading.{Begun, begun_by, begun_on, begun_if, begun_to, begun_by_moves}
 use Rattle.picture_text.proofs.StayLaws.{place_stays}
 use Rattle.picture_text.proofs.TouchLaws.{same_lanes}
@@ -96,7 +97,7 @@ module _ (place : ℕ) (m l : Lane) where
 
 -- ---- moves
 
-same_stands : (a b : Where) → same_spans (stands a) (stands b) ≡ same_where a b
+same_stands : (a b : Where) → same_spans (span_of a) (span_of b) ≡ same_where a b
 same_stands wheres.Nowhere wheres.Nowhere = refl
 same_stands (wheres.At f) (wheres.At k) = refl
 same_stands (wheres.Loading f) (wheres.Loading k) = refl
@@ -104,27 +105,27 @@ same_stands (wheres.Sealed v) (wheres.Sealed w) = refl
 same_stands a b = refl
 
 begun_moved : (place : ℕ) (a b : Where)
-    → (if not (same_spans (stands a) (stands b)) then begun_if place (stands b) else []) ≡ begun_to place (moved a b)
-begun_moved place a b = ap (λ (s : Bool). if not s then begun_if place (stands b) else []) (same_stands a b) ∙ by_test (same_where a b)
+    → (if not (same_spans (span_of a) (span_of b)) then begun_if place (span_of b) else []) ≡ begun_to place (moved a b)
+begun_moved place a b = ap (λ (s : Bool). if not s then begun_if place (span_of b) else []) (same_stands a b) ∙ by_test (same_where a b)
   where
-    by_test : (s : Bool) → (if not s then begun_if place (stands b) else []) ≡ begun_to place (if s then None else Some b)
+    by_test : (s : Bool) → (if not s then begun_if place (span_of b) else []) ≡ begun_to place (if s then None else Some b)
     by_test true = refl
     by_test false = refl
 
 module _ (past : List Entry) (e : Entry) (g : Page) where
-  page_hit : (o : Option Page) → is_page o g ≡ true
+  page_hit : (o : Option Page) → is_this o g ≡ true
       → begun_on (lanes.Page g) (steps_on past e (page_lane o)) ≡ begun_to (length past + 1) (moved_by past e g)
   page_hit None h = absurd (false≢true h)
   page_hit (Some k) h =
       ap (λ (m : Lane). begun_on (lanes.Page g) (steps (length past) m (open_on past m) (open_on (e ∷ past) m)))
       (same_lanes (lanes.Page k) (lanes.Page g) h)
-      ∙ steps_hit (length past) (lanes.Page g) (lanes.Page g) (stands (place_of past g)) (stands (place_of (e ∷ past) g)) (own g)
+      ∙ steps_hit (length past) (lanes.Page g) (lanes.Page g) (span_of (place_of past g)) (span_of (place_of (e ∷ past) g)) (own g)
       ∙ begun_moved (length past + 1) (place_of past g) (place_of (e ∷ past) g)
     where
       own : (p : Page) → same_lane (lanes.Page p) (lanes.Page p) ≡ true
       own p = same_page-refl p
 
-  page_miss : (o : Option Page) → is_page o g ≡ false → begun_on (lanes.Page g) (steps_on past e (page_lane o)) ≡ []
+  page_miss : (o : Option Page) → is_this o g ≡ false → begun_on (lanes.Page g) (steps_on past e (page_lane o)) ≡ []
   page_miss None h = refl
   page_miss (Some k) h =
       steps_miss (length past) (lanes.Page k) (lanes.Page g) (open_on past (lanes.Page k)) (open_on (e ∷ past) (lanes.Page k)) h
@@ -146,11 +147,11 @@ module _ (past : List Entry) (e : Entry) (g : Page) where
       ≡ begun_to (length past + 1) (moved_by past e g)
   both_pages =
       let pages = pages_by past (change_after past e) in
-      elim (tested (is_page pages.former g)) [
+      elim (tested (is_this pages.former g)) [
         | inl a ↦
             (λ i. page_hit pages.former a i ++ page_miss pages.named (named_once past e (change_after past e) g a) i)
             ∙ append-nil (begun_to (length past + 1) (moved_by past e g))
-        | inr a ↦ elim (tested (is_page pages.named g)) [
+        | inr a ↦ elim (tested (is_this pages.named g)) [
           | inl b ↦ λ i. page_miss pages.former a i ++ page_hit pages.named b i
           | inr b ↦
               (λ i. page_miss pages.former a i ++ page_miss pages.named b i)

@@ -10,7 +10,8 @@ use Rattle.sgx_types.specs.declared.names.Cpu.{Cpu}
 use Rattle.sgx_types.specs.declared.names.Frame.{Frame}
 use Rattle.sgx_types.specs.declared.names.Page.{Page}
 use Rattle.sgx_types.proofs.Truths.{tested}
-use Rattle.trace_places.specs.Places.{change_after, tenant, is_page, page_named}
+use Rattle.trace_places.specs.Places.{change_after, tenant, page_named}
+use Rattle.sgx_rules.specs.Frames.{is_this}
 use Rattle.trace_places.specs.declared.change.Change.{Change}
 use Rattle.trace_places.specs.declared.moves.Where.{Where}
 use Rattle.trace_places.proofs.MoveLaws.{other_true, other_false}
@@ -27,7 +28,7 @@ use Rattle.picture_text.specs.Events.{lane_of, frame_in, frame_lane, marked, pag
 use Rattle.picture_text.specs.Events.{events_of}
 use Rattle.picture_text.specs.Events.{count_to, counts_of, counts_to}
 use Rattle.picture_text.specs.Lanes.{same_lane}
-use Rattle.picture_text.specs.Open.{inside, sits, stands, when_so, only, open_on}
+use Rattle.picture_text.specs.Open.{inside, sits, span_of, when_so, only, open_on}
 use Rattle.picture_text.specs.Reading.{read_events, stack_of}
 use Rattle.picture_text.specs.inner.Following.{is_on, leaving_of}
 use Rattle.picture_text.proofs.FrameLaws.{tenant_stays, leaving_stays, leaving_more, stay_stays}
@@ -87,26 +88,26 @@ module _ (past : List Entry) (e : Entry) where
 
   -- ---- a page
 
-  hit_page : (o : Option Page) (g : Page) → is_page o g ≡ true
+  hit_page : (o : Option Page) (g : Page) → is_this o g ≡ true
       → read_events (lanes.Page g) (steps_on past e (page_lane o)) (Some (stack_of (open_on past (lanes.Page g))))
       ≡ Some (stack_of (open_on (e ∷ past) (lanes.Page g)))
   hit_page None g h = absurd (false≢true h)
   hit_page (Some k) g h = hit past e (lanes.Page k) (lanes.Page g) h
 
-  pass_page : (o : Option Page) (g : Page) (st : List Span) → is_page o g ≡ false
+  pass_page : (o : Option Page) (g : Page) (st : List Span) → is_this o g ≡ false
       → read_events (lanes.Page g) (steps_on past e (page_lane o)) (Some st) ≡ Some st
   pass_page None g st h = refl
   pass_page (Some k) g st h = miss past e (lanes.Page k) (lanes.Page g) st h
 
   -- a page that the change names and its frame does not have is among the two
-  pub named_other : (change : Option Change) (g : Page) → is_page (pages_by past change).former g ≡ false
-      → is_page (pages_by past change).named g ≡ is_page (named_by change) g
+  pub named_other : (change : Option Change) (g : Page) → is_this (pages_by past change).former g ≡ false
+      → is_this (pages_by past change).named g ≡ is_this (named_by change) g
   named_other None g h = refl
   named_other (Some change) g h = other_false (pages_by past (Some change)).former (page_named change) g h
 
   -- .. and one that the frame has is so once
-  pub named_once : (change : Option Change) (g : Page) → is_page (pages_by past change).former g ≡ true
-      → is_page (pages_by past change).named g ≡ false
+  pub named_once : (change : Option Change) (g : Page) → is_this (pages_by past change).former g ≡ true
+      → is_this (pages_by past change).named g ≡ false
   named_once None g h = absurd (false≢true h)
   named_once (Some change) g h = other_true (pages_by past (Some change)).former (page_named change) g h
 
@@ -117,16 +118,16 @@ module _ (past : List Entry) (e : Entry) where
   behind g = stack_of (open_on (e ∷ past) (lanes.Page g))
 
   -- a page that the frame did not have is named, and then its lane changes there, or stays where it is
-  on_named : (g : Page) → is_page (pages_by past (change_after past e)).former g ≡ false
+  on_named : (g : Page) → is_this (pages_by past (change_after past e)).former g ≡ false
       → read_events (lanes.Page g) (steps_on past e (page_lane (pages_by past (change_after past e)).named)) (Some (before g))
       ≡ Some (behind g)
   on_named g a =
       let named = (pages_by past (change_after past e)).named in
-      elim (tested (is_page named g)) [
+      elim (tested (is_this named g)) [
         | inl b ↦ hit_page named g b
         | inr b ↦
             pass_page named g (before g) b
-            ∙ ap (λ (w : Where). Some (stack_of (only (stands w))))
+            ∙ ap (λ (w : Where). Some (stack_of (only (span_of w))))
             (sym (place_stays past e (change_after past e) g refl a (sym (named_other (change_after past e) g a) ∙ b)))
       ]
 
@@ -136,7 +137,7 @@ module _ (past : List Entry) (e : Entry) where
       ≡ Some (behind g)
   on_page g =
       let pages = pages_by past (change_after past e) in
-      elim (tested (is_page pages.former g)) [
+      elim (tested (is_this pages.former g)) [
         | inl a ↦
             ap (read_events (lanes.Page g) (steps_on past e (page_lane pages.named))) (hit_page pages.former g a)
             ∙ pass_page pages.named g (behind g) (named_once (change_after past e) g a)

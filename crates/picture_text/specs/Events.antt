@@ -62,20 +62,20 @@ lane_of (actors.Cpu p) = lanes.Processor p
 lane_of actors.Reclaimer = lanes.Reclaimer
 
 -- the frame whose content an instruction puts, takes or blocks
-abbrev pub frame_of : Action → Option Frame
-frame_of (actions.Epa f) = Some f
-frame_of (actions.Create enclave f base size) = Some f
-frame_of (actions.Add enclave number f kind perm init) = Some f
-frame_of (actions.Block f) = Some f
-frame_of (actions.EwbStart f slot) = Some f
-frame_of (actions.Ewb f) = Some f
-frame_of (actions.EldStart f page slot) = Some f
-frame_of (actions.Eld f) = Some f
-frame_of action = None
+abbrev pub frame_touched : Action → Option Frame
+frame_touched (actions.Epa f) = Some f
+frame_touched (actions.Create enclave f base size) = Some f
+frame_touched (actions.Add enclave number f kind perm init) = Some f
+frame_touched (actions.Block f) = Some f
+frame_touched (actions.EwbStart f slot) = Some f
+frame_touched (actions.Ewb f) = Some f
+frame_touched (actions.EldStart f page slot) = Some f
+frame_touched (actions.Eld f) = Some f
+frame_touched action = None
 
 -- .. and an event: a load that is refused at its end leaves its frame to nobody
 abbrev pub frame_in : Event → Option Frame
-frame_in (Did action answer) = frame_of action
+frame_in (Did action answer) = frame_touched action
 frame_in (Refused (actions.Eld f) why) = Some f
 frame_in event = None
 
@@ -135,9 +135,9 @@ abbrev pub counted : (Open → Bool) → List Entry → Entry → Option Lane �
 counted test past e lane count = more_or_less (test (open_if past lane)) (test (open_if (e ∷ past) lane)) count
 
 -- the version that a start of EWB drew
-abbrev pub version_after : Event → ℕ → ℕ
-version_after (Did (actions.EwbStart f slot) (answers.Version version)) before = version
-version_after event before = before
+abbrev pub drawn_after : Event → ℕ → ℕ
+drawn_after (Did (actions.EwbStart f slot) (answers.Version version)) before = version
+drawn_after event before = before
 
 -- the frames in use, the pages outside, and the version that was drawn last
 abbrev pub counts_of : List Entry → Counts
@@ -148,7 +148,7 @@ counts_of (e ∷ past) =
     record {
       frames = counted in_use past e (frame_lane (frame_in e.event)) before.frames;
       pages = counted is_outside past e (page_lane pages.named) (counted is_outside past e (page_lane pages.former) before.pages);
-      version = version_after e.event before.version;
+      version = drawn_after e.event before.version;
     }
 
 abbrev pub count_to : ℕ → Counter → ℕ → ℕ → List PictureEvent

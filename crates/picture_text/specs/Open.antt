@@ -27,11 +27,11 @@ sits (Some (tenants.Has g)) = Some (spans.Holds g)
 sits (Some (tenants.Awaits g)) = Some (spans.Awaits g)
 
 -- a page is in a frame, awaited by one, or sealed
-abbrev pub stands : Where → Option Span
-stands wheres.Nowhere = None
-stands (wheres.At f) = Some (spans.At f)
-stands (wheres.Loading f) = Some (spans.Loading f)
-stands (wheres.Sealed version) = Some (spans.Sealed version)
+abbrev pub span_of : Where → Option Span
+span_of wheres.Nowhere = None
+span_of (wheres.At f) = Some (spans.At f)
+span_of (wheres.Loading f) = Some (spans.Loading f)
+span_of (wheres.Sealed version) = Some (spans.Sealed version)
 
 abbrev pub only : Option Span → Open
 only span = record { outer = span; middle = None; inner = None }
@@ -47,7 +47,7 @@ open_on past (lanes.Frame f) = record {
   middle = when_so (is_blocked past f.0) spans.Blocked;
   inner = when_so (is_sealing past f.0) spans.Sealing;
 }
-open_on past (lanes.Page g) = only (stands (place_of past g))
+open_on past (lanes.Page g) = only (span_of (place_of past g))
 open_on past lanes.Builder = only None
 open_on past lanes.Reclaimer = only None
 open_on past lanes.Counters = only None

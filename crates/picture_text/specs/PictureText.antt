@@ -55,8 +55,8 @@ counter_name counters.Pages = codes "pages outside"
 counter_name counters.Version = codes "version"
 
 -- one space between two words
-abbrev pub shown : Words → List ℕ
-shown words = join_with_byte 32 words
+abbrev pub spaced : Words → List ℕ
+spaced words = join_with_byte 32 words
 
 -- ---- lines
 
@@ -84,12 +84,12 @@ cause e place = codes ",\"args\":{\"line\":\"" ++ spelling editions.Two e ++ cod
 abbrev pub mark_text : List Lane → Entry → ℕ → Lane → Mark → List ℕ
 mark_text known e place lane (marks.Begins span) =
     codes "{\"ph\":\"B\"," ++ on_lane known lane ++ codes ",\"ts\":" ++ decimal (place + 1)
-    ++ codes ",\"name\":\"" ++ shown (span_words span) ++ codes "\"" ++ cause e place
+    ++ codes ",\"name\":\"" ++ spaced (span_words span) ++ codes "\"" ++ cause e place
 mark_text known e place lane marks.Ends =
     codes "{\"ph\":\"E\"," ++ on_lane known lane ++ codes ",\"ts\":" ++ decimal (place + 1) ++ codes "},\n"
 mark_text known e place lane marks.Does =
     codes "{\"ph\":\"X\"," ++ on_lane known lane ++ codes ",\"ts\":" ++ decimal place
-    ++ codes ",\"dur\":1,\"name\":\"" ++ shown (event_words e.event) ++ codes "\"" ++ cause e place
+    ++ codes ",\"dur\":1,\"name\":\"" ++ spaced (event_words e.event) ++ codes "\"" ++ cause e place
 mark_text known e place lane (marks.Counts counter value) =
     codes "{\"ph\":\"C\"," ++ on_lane known lane ++ codes ",\"ts\":" ++ decimal (place + 1)
     ++ codes ",\"name\":\"" ++ counter_name counter ++ codes "\",\"args\":{\"n\":" ++ decimal value ++ codes "}},\n"
@@ -105,7 +105,7 @@ event_text entries known event = text_by known event (slice_get entries event.pl
 -- the name of a lane
 unfoldable pub lane_text : List Lane → Lane → List ℕ
 lane_text known lane =
-    codes "{\"ph\":\"M\"," ++ on_lane known lane ++ codes ",\"name\":\"thread_name\",\"args\":{\"name\":\"" ++ shown (lane_words lane)
+    codes "{\"ph\":\"M\"," ++ on_lane known lane ++ codes ",\"name\":\"thread_name\",\"args\":{\"name\":\"" ++ spaced (lane_words lane)
     ++ codes "\"}},\n"
 
 -- what stands before all events

@@ -16,7 +16,7 @@ use Rattle.picture_text.specs.declared.events.Open.{Open}
 use Rattle.picture_text.specs.declared.events.PictureEvent.{PictureEvent}
 use Rattle.picture_text.specs.declared.events.Span.{Span}
 use Rattle.picture_text.specs.Lanes.{same_lane}
-use Rattle.picture_text.specs.Open.{stands}
+use Rattle.picture_text.specs.Open.{span_of}
 
 -- ---- what is open
 
@@ -64,7 +64,7 @@ begun_if place (Some span) = record { place = place; span = span } ∷ []
 
 abbrev pub begun_to : ℕ → Option Where → List Begun
 begun_to place None = []
-begun_to place (Some to) = begun_if place (stands to)
+begun_to place (Some to) = begun_if place (span_of to)
 
 -- the moves of a page but for those to nowhere, oldest first, as spans: one for each entry behind which it is elsewhere than before it
 abbrev pub begun_by_moves : List Entry → Page → List Begun

@@ -1,7 +1,7 @@
 //! What is counted along the entries that were pushed.
 
 ghost use Rattle.std.specs.Prelude.{◌≡◌, ◌≤◌, ◌<◌, ◌+◌, ◌^◌, ◌++◌, OnOk};
-ghost use Rattle.picture_text.specs.Events.{count_to, counts_to, in_use, is_outside, more_or_less, version_after};
+ghost use Rattle.picture_text.specs.Events.{count_to, counts_to, in_use, is_outside, more_or_less, drawn_after};
 ghost use Rattle.picture_text.specs.inner.Steps.{counts_by};
 
 use crate::drawing::Seen;
@@ -76,7 +76,7 @@ fn is_outside(on: &Open) -> bool
 
 // The version that was drawn last.
 fn version_after(event: &Event, before: u64) -> u64
-    ensures { result ≡ version_after event.now before }
+    ensures { result ≡ drawn_after event.now before }
 {
     match *event {
         Event::Did {

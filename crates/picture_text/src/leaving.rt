@@ -2,7 +2,7 @@
 
 ghost use Rattle.std.specs.Prelude.{◌≡◌, ◌==◌, ℕ, false, true, OnOk};
 ghost use Rattle.sgx_types.specs.declared.names.Frame.{Frame};
-ghost use Rattle.picture_text.specs.Events.{frame_in, frame_of};
+ghost use Rattle.picture_text.specs.Events.{frame_in, frame_touched};
 ghost use Rattle.picture_text.specs.inner.Following.{is_on, leaving_in, leaving_after, staying};
 
 use sgx_rules::entries::{Action, Answer, Event};
@@ -32,7 +32,7 @@ pub(crate) fn frame_in(event: &Event) -> Option<Frame>
 }
 
 fn frame_of(action: &Action) -> Option<Frame>
-    ensures { result ≡ frame_of action.now }
+    ensures { result ≡ frame_touched action.now }
 {
     match *action {
         Action::Epa { frame } => Some(frame),
@@ -59,7 +59,7 @@ fn leaving_after(event: &Event, before: Leaving) -> Leaving
 
 // .. and of an instruction that was done.
 fn done_after(action: &Action, answer: &Answer, before: Leaving) -> Leaving
-    ensures { (n : ℕ) → is_on (frame_of action.now) n ≡ true → result ≡ leaving_after (Event.Did action.now answer.now) n before }
+    ensures { (n : ℕ) → is_on (frame_touched action.now) n ≡ true → result ≡ leaving_after (Event.Did action.now answer.now) n before }
 {
     match action {
         Action::Block { .. } => Leaving {

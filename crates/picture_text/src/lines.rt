@@ -6,7 +6,7 @@ ghost use Rattle.text_words.specs.inner.Room.{HasRoom, UsesRoom, word_room, word
 ghost use Rattle.text_words.specs.inner.Words.{word_text};
 ghost use Rattle.trace_text.specs.Fields.{page_words};
 ghost use Rattle.picture_text.specs.declared.events.Lane.{Lane};
-ghost use Rattle.picture_text.specs.PictureText.{cause, event_text, event_words, head_text, lane_text, lane_words, mark_text, shown};
+ghost use Rattle.picture_text.specs.PictureText.{cause, event_text, event_words, head_text, lane_text, lane_words, mark_text, spaced};
 ghost use Rattle.picture_text.specs.PictureText.{on_lane, span_words, tail_text};
 ghost use Rattle.picture_text.specs.inner.Following.{AreNumbered};
 ghost use Rattle.picture_text.specs.inner.Parts.{parts_room, parts_text};
@@ -211,7 +211,7 @@ fn write_cause(entry: &Entry, place: usize, onto: &mut Vec<u8>)
 #[tactic(auto, using(text_words::proofs::LineLaws::with_words_join))]
 fn write_name(first: Word, others: &[Word], onto: &mut Vec<u8>)
     requires { HasRoom (words_room (first ∷ others.now)) onto.old }
-    ensures text { onto.new.items ≡ onto.old.items ++ shown (word_text first ∷ map word_text others.now) }
+    ensures text { onto.new.items ≡ onto.old.items ++ spaced (word_text first ∷ map word_text others.now) }
     ensures room { UsesRoom (words_room (first ∷ others.now)) onto.old onto.new }
 {
     write_word(first, onto);
@@ -235,7 +235,7 @@ fn page_names(page: Page) -> (Word, Word)
 
 fn write_span_name(span: Span, onto: &mut Vec<u8>)
     requires { HasRoom NAME_ROOM onto.old }
-    ensures text { onto.new.items ≡ onto.old.items ++ shown (span_words span) }
+    ensures text { onto.new.items ≡ onto.old.items ++ spaced (span_words span) }
     ensures room { UsesRoom NAME_ROOM onto.old onto.new }
 {
     match span {
@@ -252,7 +252,7 @@ fn write_span_name(span: Span, onto: &mut Vec<u8>)
 
 fn write_inside(enclave: u16, tcs: u32, onto: &mut Vec<u8>)
     requires { HasRoom NAME_ROOM onto.old }
-    ensures text { onto.new.items ≡ onto.old.items ++ shown (span_words (Span.Inside enclave tcs)) }
+    ensures text { onto.new.items ≡ onto.old.items ++ spaced (span_words (Span.Inside enclave tcs)) }
     ensures room { UsesRoom NAME_ROOM onto.old onto.new }
 {
     write_name(
@@ -269,7 +269,7 @@ fn write_inside(enclave: u16, tcs: u32, onto: &mut Vec<u8>)
 
 fn write_page(page: Page, onto: &mut Vec<u8>)
     requires { HasRoom NAME_ROOM onto.old }
-    ensures text { onto.new.items ≡ onto.old.items ++ shown (page_words Edition.Two page) }
+    ensures text { onto.new.items ≡ onto.old.items ++ spaced (page_words Edition.Two page) }
     ensures room { UsesRoom NAME_ROOM onto.old onto.new }
 {
     let (first, second) = page_names(page);
@@ -280,7 +280,7 @@ fn write_page(page: Page, onto: &mut Vec<u8>)
 fn write_of_page(word: &'static str, page: Page, onto: &mut Vec<u8>)
     requires short { length word.now ≤ 16 }
     requires room { HasRoom NAME_ROOM onto.old }
-    ensures text { onto.new.items ≡ onto.old.items ++ shown (word.now ∷ page_words Edition.Two page) }
+    ensures text { onto.new.items ≡ onto.old.items ++ spaced (word.now ∷ page_words Edition.Two page) }
     ensures room { UsesRoom NAME_ROOM onto.old onto.new }
 {
     let (first, second) = page_names(page);
@@ -289,7 +289,7 @@ fn write_of_page(word: &'static str, page: Page, onto: &mut Vec<u8>)
 
 fn write_event_name(event: &Event, onto: &mut Vec<u8>)
     requires { HasRoom NAME_ROOM onto.old }
-    ensures text { onto.new.items ≡ onto.old.items ++ shown (event_words event.now) }
+    ensures text { onto.new.items ≡ onto.old.items ++ spaced (event_words event.now) }
     ensures room { UsesRoom NAME_ROOM onto.old onto.new }
 {
     match event {
@@ -307,7 +307,7 @@ fn write_event_name(event: &Event, onto: &mut Vec<u8>)
 
 fn write_lane_name(lane: Lane, onto: &mut Vec<u8>)
     requires { HasRoom NAME_ROOM onto.old }
-    ensures text { onto.new.items ≡ onto.old.items ++ shown (lane_words lane) }
+    ensures text { onto.new.items ≡ onto.old.items ++ spaced (lane_words lane) }
     ensures room { UsesRoom NAME_ROOM onto.old onto.new }
 {
     match lane {

@@ -4,7 +4,7 @@ ghost use Rattle.std.specs.Prelude.{◌≡◌, ◌∷◌, [], if◌then◌else�
 ghost use Rattle.sgx_rules.specs.declared.entries.Entry.{Entry};
 ghost use Rattle.trace_places.specs.Places.{change_after};
 ghost use Rattle.picture_text.specs.Events.{frame_in, frame_lane, lane_of, page_lane, pages_by};
-ghost use Rattle.picture_text.specs.Open.{only, open_if, open_on, sits, stands, when_so};
+ghost use Rattle.picture_text.specs.Open.{only, open_if, open_on, sits, span_of, when_so};
 ghost use Rattle.picture_text.specs.inner.Following.{Follows};
 
 use crate::events::{Lane, Open, Span};
@@ -75,7 +75,7 @@ fn sits(tenant: Option<Tenant>) -> Option<Span>
 }
 
 fn stands(place: Where) -> Option<Span>
-    ensures { result ≡ stands place }
+    ensures { result ≡ span_of place }
 {
     match place {
         Where::Nowhere => None,

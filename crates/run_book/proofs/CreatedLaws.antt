@@ -17,7 +17,7 @@ use Rattle.sgx_types.specs.Pages.{no_perm}
 use Rattle.sgx_rules.specs.declared.entries.Event.{Event}
 use Rattle.sgx_rules.specs.declared.entries.Event.TheVariants.{Did}
 use Rattle.sgx_rules.specs.inner.Enclaves.{created, created_by}
-use Rattle.sgx_rules.specs.Flat.{FlatEnclave, marked}
+use Rattle.sgx_rules.specs.Flat.{FlatEnclave, as_initialised}
 use Rattle.sgx_rules.specs.Rules.{Along}
 use Rattle.job_grammar.specs.Jobs.{EnclaveView, JobView, va_pages}
 use Rattle.job_grammar.specs.declared.jobs.PageLine.{PageLine}
@@ -135,11 +135,11 @@ created_more j past a (Did (actions.Create enclave f base size) answer) (NoStep 
     absurd (false≢true (sym none))
 created_more j past a (Did (actions.Init enclave expect) answer) by n before made = by_number (n == enclave) made
   where
-    unmarked : (o : Option FlatEnclave) → is_some (marked o) ≡ true → is_some o ≡ true
+    unmarked : (o : Option FlatEnclave) → is_some (as_initialised o) ≡ true → is_some o ≡ true
     unmarked None h = h
     unmarked (Some x) h = refl
 
-    by_number : (b : Bool) → is_some (if b then marked (created past n) else created past n) ≡ true → IsJobs j n
+    by_number : (b : Bool) → is_some (if b then as_initialised (created past n) else created past n) ≡ true → IsJobs j n
     by_number true h = before (unmarked (created past n) h)
     by_number false h = before h
 created_more j past a _ by n before made = before made

@@ -18,7 +18,7 @@ use Rattle.sgx_rules.specs.declared.refusals.Refusal.{Refusal}
 use Rattle.sgx_rules.specs.Processors.{is_by}
 use Rattle.sgx_types.specs.Pages.{is_own_page}
 use Rattle.sgx_types.specs.Sealed.{Sealed}
-use Rattle.sgx_rules.specs.Table.{first_of_row}
+use Rattle.sgx_types.specs.Cases.{first_of_row}
 use Rattle.machine_laws.specs.inner.State.{State, row_of}
 use Rattle.machine_laws.specs.inner.Steps.{IsReloaded, IsStep, commit_row, did_by, refused_by}
 use Rattle.sgx_machine.specs.inner.Parts.{Parts, state_of}
@@ -42,7 +42,7 @@ use Rattle.history_rules.specs.Calls.{ComesByBus, ComesWith, before, is_lost}
 use Rattle.sgx_rules.specs.declared.entries.Answer.TheVariants.{Moved}
 use Rattle.sgx_rules.specs.declared.refusals.Refusal.TheVariants as why
 use Rattle.sgx_rules.specs.Frames.{least_free}
-use Rattle.script_rules.specs.Script.{frame_at}
+use Rattle.sgx_types.specs.Pages.{frame_at}
 use Rattle.backing_store.specs.inner.Calls.{told_got}
 use Rattle.machine_laws.specs.inner.Steps.{IsDone, answer_of}
 use Rattle.run_calls.specs.inner.Stores.{StoreMoves, TellsStore, is_lost_state, lost_by}

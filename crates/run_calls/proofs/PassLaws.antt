@@ -25,7 +25,7 @@ use Rattle.sgx_types.specs.Pages.{same_page}
 use Rattle.sgx_types.specs.Making.{Making}
 use Rattle.sgx_types.specs.Sealed.{Sealed}
 use Rattle.sgx_rules.specs.Frames.{content, page_there}
-use Rattle.sgx_rules.specs.Table.{first_of_row}
+use Rattle.sgx_types.specs.Cases.{first_of_row}
 use Rattle.sgx_rules.proofs.Contents.{one_there, there_is}
 use Rattle.job_grammar.specs.Jobs.{JobView}
 use Rattle.epcm_entry.specs.inner.Epc.{is_free_frame}

@@ -41,7 +41,7 @@ use Rattle.job_grammar.specs.Jobs.{JobView}
 use Rattle.driver_rules.specs.Places.{Loading, place}
 use Rattle.history_rules.specs.Calls.{ComesWith, IsFailed, IsGiven, IsNothing, IsPut, IsRoom, before, is_lost, without_last}
 use Rattle.history_rules.specs.Given.{gift, gift_after}
-use Rattle.history_rules.specs.Stored.{Tells}
+use Rattle.history_rules.specs.Stored.{TellsOfStore}
 use Rattle.history_rules.proofs.HonestLaws.{free_no_load}
 use Rattle.run_calls.specs.inner.Stores.{StoreMoves, TellsStore, is_lost_state, lost_by}
 
@@ -155,7 +155,7 @@ lost_is ev calls g c = refl
 
 pub tells_more : (key : List ℕ) (past : List Entry) (e : Entry) (calls : List Call) (d d' : Driver) → IsSound past → CanMove past e.event
     → LoadsAreTheirs past → TheirRule past e.actor e.event → ComesWith e.event calls
-    → Tells key past (gift past (before e.event calls)) e.event calls → StoreMoves e calls d d'
+    → TellsOfStore key past (gift past (before e.event calls)) e.event calls → StoreMoves e calls d d'
     → TellsStore key past (before e.event calls) d → TellsStore key (e ∷ past) calls d'
 tells_more key past e calls d d' s can theirs rule comes tells moves was = record {
   store = record { calls_are = (comes, was.store.calls_are); records = (tells, was.store.records) };

@@ -20,7 +20,8 @@ use Rattle.sgx_rules.specs.declared.refusals.Refusal.TheVariants as why
 use Rattle.sgx_rules.specs.Processors.{is_by}
 use Rattle.sgx_rules.specs.Starts.{open_start}
 use Rattle.sgx_types.proofs.CountLaws.{one_if}
-use Rattle.script_rules.specs.Script.{action_of, frame_at}
+use Rattle.script_rules.specs.Script.{action_of}
+use Rattle.sgx_types.specs.Pages.{frame_at}
 use Rattle.driver_rules.specs.Dues.{Asks, Fetch, IsFetch, IsNext, load_by}
 use Rattle.driver_rules.specs.Places.{Absent, Away, Here, Leaving, Loading, Place}
 use Rattle.driver_rules.specs.inner.Reclaims.{is_refused}

@@ -18,7 +18,8 @@ use Rattle.sgx_types.specs.Pages.{is_own_page}
 use Rattle.sgx_types.specs.Sealed.{Sealed}
 use Rattle.job_grammar.specs.Jobs.{JobView}
 use Rattle.script_rules.specs.Machines.{machine_of}
-use Rattle.script_rules.specs.Script.{action_of, frame_at}
+use Rattle.script_rules.specs.Script.{action_of}
+use Rattle.sgx_types.specs.Pages.{frame_at}
 use Rattle.std.specs.Global.{Box}
 use Rattle.seal_record.specs.declared.unseal.UnsealWork.{UnsealWork}
 use Rattle.backing_store.specs.Calls.{Call}

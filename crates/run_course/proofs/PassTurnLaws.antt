@@ -51,7 +51,7 @@ use Rattle.driver_reclaim.specs.inner.Tried.{SlotsAfter}
 use Rattle.driver_reclaim.specs.inner.Turning.{AsideSays, DueSays, FormSays, IsMadeTurn, IsScanned, IsTryTurn, StageSays, ThirdSays}
 use Rattle.driver_reclaim.specs.inner.Turning.{turn_of, TurnSays, WithPage}
 use Rattle.due_notes.specs.inner.Arrays.{HasAsMany}
-use Rattle.script_rules.specs.Script.{frame_at}
+use Rattle.sgx_types.specs.Pages.{frame_at}
 use Rattle.due_tables.specs.inner.Entries.{EntersApart}
 
 -- ---- what a turn leaves

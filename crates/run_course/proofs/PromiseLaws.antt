@@ -20,7 +20,7 @@ use Rattle.driver_rules.specs.Scripts.{ScriptRule}
 use Rattle.driver_tables.specs.declared.driver.Driver.{Driver}
 use Rattle.history_rules.specs.declared.rules.Rule.TheVariants as rules
 use Rattle.history_rules.specs.Given.{UnforgedRun}
-use Rattle.history_rules.specs.Histories.{AtEntry, Before, Says}
+use Rattle.history_rules.specs.Histories.{AtEntry, Before, RuleSays}
 use Rattle.history_rules.specs.inner.Histories.{GoesOn}
 use Rattle.history_rules.specs.Stored.{PutsAreFlat, StoreTrue}
 use Rattle.run_calls.specs.inner.Stores.{TellsStore}
@@ -54,7 +54,7 @@ said_placed rule P [] h each = tt
 said_placed rule P (e ∷ past) h each = ((h.0, at_end P past each.1), said_placed rule P past h.1 each.1)
 
 -- who makes which entry next is said before each entry
-said_script : (j : JobView) (past : List Entry) → Along (ScriptRule j) past → Before (Says j rules.Script) past
+said_script : (j : JobView) (past : List Entry) → Along (ScriptRule j) past → Before (RuleSays j rules.Script) past
 said_script j [] h = tt
 said_script j (e ∷ past) h = (h.0, said_script j past h.1)
 

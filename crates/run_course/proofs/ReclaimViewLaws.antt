@@ -9,7 +9,8 @@ use Rattle.sgx_rules.specs.PageBytes.{bytes_at}
 use Rattle.sgx_rules.specs.Frames.{content, page_there, vas_made}
 use Rattle.driver_laws.proofs.ArrayLaws.{arrays_few}
 use Rattle.job_grammar.specs.Jobs.{va_pages}
-use Rattle.run_course.proofs.PageLaws.{named_right, page_bytes}
+use Rattle.machine_laws.proofs.StepRecords.{page_bytes}
+use Rattle.run_course.proofs.PageLaws.{named_right}
 use Rattle.machine_laws.specs.inner.Guarded.{IsNamedRight}
 use Rattle.sgx_types.specs.Making.{Making}
 use Rattle.sgx_rules.specs.inner.Starts.{BareStart}

@@ -20,10 +20,11 @@ use Rattle.sgx_rules.specs.Epochs.{epoch, epoch_in}
 use Rattle.sgx_rules.specs.Eviction.{is_drained, kept_back}
 use Rattle.sgx_rules.specs.Flat.{enclave_sight_of}
 use Rattle.sgx_rules.specs.Slots.{next_version}
-use Rattle.sgx_rules.specs.Table.{Case, EnclaveSight, add_row, fill_row, first_of_row, init_row}
+use Rattle.sgx_types.specs.Cases.{Case, first_of_row}
+use Rattle.sgx_rules.specs.Table.{EnclaveSight, Row, add_row, fill_row, init_row}
 use Rattle.job_grammar.specs.Jobs.{JobView}
 use Rattle.script_rules.specs.Machines.{machine_of}
-use Rattle.script_rules.specs.Script.{frame_at}
+use Rattle.sgx_types.specs.Pages.{frame_at}
 use Rattle.driver_slots.specs.inner.Keeper.{Keeper}
 use Rattle.machine_laws.specs.inner.State.{State, row_of, seat_enclave, secs_sight, sight}
 use Rattle.machine_laws.specs.inner.Steps.{IsDone, IsStep, refused_by}
@@ -40,23 +41,23 @@ use Rattle.driver_rules.specs.Spent.{IsUsedUp}
 
 -- ---- rows that tell of no last number
 
-abbrev is_calm : List Case → Bool
+abbrev is_calm : Row → Bool
 is_calm [] = true
 is_calm (c ∷ cases) = if is_last_refusal c.why then false else is_calm cases
 
 into_some : (a b : Refusal) → Some a ≡ Some b → a ≡ b
 into_some a b is = cc
 
-calm_holds : (c : Case) (rest : Option Refusal) (r : Refusal) (x : Bool) → is_last_refusal c.why ≡ false
+calm_holds : (c : Case Refusal) (rest : Option Refusal) (r : Refusal) (x : Bool) → is_last_refusal c.why ≡ false
     → (rest ≡ Some r → is_last_refusal r ≡ false) → (if x then Some c.why else rest) ≡ Some r → is_last_refusal r ≡ false
 calm_holds c rest r true same other at = subst (λ w. is_last_refusal w ≡ false) (into_some c.why r at) same
 calm_holds c rest r false same other at = other at
 
-calm_more : (b : Bool) (cases : List Case) → (if b then false else is_calm cases) ≡ true → (b ≡ false) × (is_calm cases ≡ true)
+calm_more : (b : Bool) (cases : Row) → (if b then false else is_calm cases) ≡ true → (b ≡ false) × (is_calm cases ≡ true)
 calm_more true cases h = absurd (false≢true h)
 calm_more false cases h = (refl, h)
 
-calm_first : (cases : List Case) (r : Refusal) → is_calm cases ≡ true → first_of_row cases ≡ Some r → is_last_refusal r ≡ false
+calm_first : (cases : Row) (r : Refusal) → is_calm cases ≡ true → first_of_row cases ≡ Some r → is_last_refusal r ≡ false
 calm_first [] r h is = cc
 calm_first (c ∷ cases) r h is =
     let both = calm_more (is_last_refusal c.why) cases h in

@@ -15,7 +15,7 @@ use Rattle.sgx_types.specs.Making.{Making}
 use Rattle.sgx_types.specs.Sealed.{Sealed}
 use Rattle.sgx_rules.specs.Starts.{Start, open_start}
 use Rattle.sgx_rules.specs.inner.Starts.{BareStart}
-use Rattle.sgx_rules.specs.Table.{first_of_row}
+use Rattle.sgx_types.specs.Cases.{first_of_row}
 use Rattle.job_grammar.specs.Jobs.{JobView}
 use Rattle.backing_store.specs.Calls.{Call}
 use Rattle.machine_laws.specs.inner.State.{State}
@@ -23,7 +23,7 @@ use Rattle.machine_laws.specs.inner.Steps.{IsReloaded, commit_row, did_by, refus
 use Rattle.machine_laws.proofs.SlotLaws.{started_as}
 use Rattle.sgx_machine.specs.inner.Parts.{Parts, state_of}
 use Rattle.driver_slots.specs.inner.Keeper.{count_out}
-use Rattle.script_rules.specs.Script.{frame_at}
+use Rattle.sgx_types.specs.Pages.{frame_at}
 use Rattle.driver_laws.specs.inner.Inits.{InitTells}
 use Rattle.driver_laws.specs.inner.Kinds.{CanMove}
 use Rattle.driver_rules.specs.Dues.{Ends, IsNext}

@@ -10,7 +10,7 @@ use Rattle.sgx_types.specs.declared.names.Page.{Page}
 use Rattle.sgx_rules.specs.Eviction.{block_place}
 use Rattle.sgx_types.specs.Making.{Making}
 use Rattle.job_grammar.specs.Jobs.{JobView}
-use Rattle.script_rules.specs.Script.{frame_at}
+use Rattle.sgx_types.specs.Pages.{frame_at}
 use Rattle.sgx_machine.specs.inner.Parts.{Parts}
 use Rattle.driver_rules.specs.Ages.{ahead_by, ahead_due, FormOf, FormUnless, head_of, InForm, InPass, IsAhead, IsKickOrTry}
 use Rattle.driver_rules.specs.Dues.{Due, Ends, KicksAll, Makes, TriesOut, Waits}

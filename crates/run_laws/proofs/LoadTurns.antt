@@ -24,7 +24,7 @@ use Rattle.machine_laws.specs.inner.State.{State}
 use Rattle.machine_laws.specs.inner.Steps.{IsStep}
 use Rattle.sgx_machine.specs.inner.Parts.{Parts, state_of}
 use Rattle.driver_slots.specs.inner.Keeper.{count_out}
-use Rattle.script_rules.specs.Script.{frame_at}
+use Rattle.sgx_types.specs.Pages.{frame_at}
 use Rattle.driver_list.specs.inner.States.{state_of as page_state}
 use Rattle.driver_list.specs.declared.page_states.PageState.{PageState}
 use Rattle.driver_list.specs.declared.page_states.PageState.TheVariants as states

@@ -25,7 +25,7 @@ use Rattle.job_grammar.specs.Jobs.{JobView}
 use Rattle.machine_laws.proofs.ColumnLaws.{added_is}
 use Rattle.sgx_machine.specs.inner.Parts.{Parts, state_of}
 use Rattle.driver_slots.specs.inner.Keeper.{is_ours, Keeper}
-use Rattle.script_rules.specs.Script.{frame_at}
+use Rattle.sgx_types.specs.Pages.{frame_at}
 use Rattle.driver_rules.specs.Ages.{ahead_by, head_of}
 use Rattle.driver_rules.specs.declared.waits.Why.TheVariants as waits
 use Rattle.driver_rules.specs.Dues.{Ends, Makes, TriesOut, Waits}

@@ -15,7 +15,7 @@ use Rattle.sgx_types.specs.Making.{Making}
 use Rattle.sgx_types.specs.Sealed.{Sealed}
 use Rattle.sgx_rules.specs.Starts.{Start, open_start}
 use Rattle.sgx_rules.specs.inner.Starts.{bare_start}
-use Rattle.sgx_rules.specs.Table.{first_of_row}
+use Rattle.sgx_types.specs.Cases.{first_of_row}
 use Rattle.job_grammar.specs.Jobs.{JobView}
 use Rattle.seal_record.specs.Records.{Made, Unforged}
 use Rattle.backing_store.specs.Calls.{Call}
@@ -34,7 +34,7 @@ use Rattle.driver_faults.specs.declared.answers.Loaded.{Loaded}
 use Rattle.driver_faults.specs.inner.Finishing.{CanFinish, IsFinished}
 use Rattle.driver_faults.proofs.EndLaws.{end_frame}
 use Rattle.history_rules.specs.Calls.{before}
-use Rattle.history_rules.specs.Given.{UnforgedRun, gift, given_in, given_more, looked_at, made_in, made_more}
+use Rattle.history_rules.specs.Given.{UnforgedRun, gift, given_in, given_more, record_looked_at, made_in, made_more}
 use Rattle.run_calls.specs.inner.Stores.{TellsStore}
 use Rattle.run_laws.specs.inner.Books.{CarriesBytes}
 use Rattle.run_laws.specs.inner.Loads.{entry_in}
@@ -46,7 +46,7 @@ record LooksAt (f : ℕ) (e : Entry) : Type 0 where
   earlier : (calls : List Call) → before e.event calls ≡ calls
   makes : (calls : List Call) → made_more e.event calls ≡ []
   looks : (opened : ℕ → Option Start) (records : List Made) (gifts : ℕ → Option Sealed)
-      → given_more e.event opened records gifts ≡ looked_at (opened f) records (gifts f)
+      → given_more e.event opened records gifts ≡ record_looked_at (opened f) records (gifts f)
 
 end_looks : (s t : State) (cpu : Cpu) (f : Frame) (rec : Sealed) (e : Entry) → IsReloaded s (actors.Cpu cpu) f rec e t → LooksAt f.0 e
 end_looks s t cpu f rec e is = by_row _ _ (first_of_row (commit_row s f.0 is.coming rec)) is.row
@@ -60,7 +60,7 @@ end_looks s t cpu f rec e is = by_row _ _ (first_of_row (commit_row s f.0 is.com
         rw k.0 record { earlier = λ calls. refl; makes = λ calls. refl; looks = λ opened records gifts. refl }
 
 -- a record that was given is looked at in the machine's words as in those of the run
-same_look : (o : Option Start) (records : List Made) (rec : Sealed) → looked_at o records (Some rec)
+same_look : (o : Option Start) (records : List Made) (rec : Sealed) → record_looked_at o records (Some rec)
     ≡ laws.looked_at_by (bare_start o) records rec
 same_look None records rec = refl
 same_look (Some start) records rec = refl
@@ -92,7 +92,7 @@ module _ (made : Making) (j : JobView) (past : List Entry) (calls : List Call) (
       ≡ laws.looked_at (state_of m) can.frame.0 (made_in past calls) can.kept
   looked_same =
       entry.looks (open_start past) (made_in past calls) (gift past calls)
-      ∙ ap (looked_at (open_start past can.frame.0) (made_in past calls)) gift_is
+      ∙ ap (record_looked_at (open_start past can.frame.0) (made_in past calls)) gift_is
       ∙ same_look (open_start past can.frame.0) (made_in past calls) can.kept
       ∙ ap (λ o. laws.looked_at_by o (made_in past calls) can.kept) (sym (start_is r.follows.shape.columns can.frame.0))
 

@@ -15,7 +15,7 @@ use Rattle.sgx_rules.specs.declared.refusals.Refusal.{Refusal}
 use Rattle.sgx_rules.specs.Frames.{least_free}
 use Rattle.sgx_types.specs.Making.{Making}
 use Rattle.sgx_types.specs.Sealed.{Sealed}
-use Rattle.sgx_rules.specs.Table.{first_of_row}
+use Rattle.sgx_types.specs.Cases.{first_of_row}
 use Rattle.job_grammar.specs.Jobs.{JobView}
 use Rattle.backing_store.specs.Calls.{Call}
 use Rattle.backing_store.specs.declared.backing.StoreFault.{StoreFault}
@@ -23,7 +23,7 @@ use Rattle.backing_store.specs.declared.backing.StoreFault.TheVariants as faults
 use Rattle.machine_laws.specs.inner.State.{State, row_of}
 use Rattle.machine_laws.specs.inner.Steps.{IsDone, IsStep, refused_by}
 use Rattle.sgx_machine.specs.inner.Parts.{Parts, state_of}
-use Rattle.script_rules.specs.Script.{frame_at}
+use Rattle.sgx_types.specs.Pages.{frame_at}
 use Rattle.driver_list.specs.declared.page_states.PageState.{PageState}
 use Rattle.driver_list.specs.declared.page_states.PageState.TheVariants as states
 use Rattle.driver_tables.specs.inner.Carried.{Carries}

@@ -21,10 +21,11 @@ use Rattle.sgx_rules.specs.declared.refusals.Refusal.TheVariants as why
 use Rattle.sgx_rules.specs.inner.Enclaves.{EnclavesAreFlat, created, created_by}
 use Rattle.sgx_rules.specs.Flat.{FlatEnclave, FlatMemory, Inside, accepts, added_as, cpu_after, enclave_sight_of, event_after}
 use Rattle.sgx_rules.specs.Flat.{first_words}
-use Rattle.sgx_rules.specs.Flat.{flat, flat_build_row, marked, memory_after, open_frame, saved, settled, stored, sum_of, word_seen}
+use Rattle.sgx_rules.specs.Flat.{flat, flat_build_row, as_initialised, memory_after, open_frame, saved, settled, stored, sum_of, word_seen}
 use Rattle.sgx_types.specs.Pages.{page_at, same_page}
 use Rattle.sgx_rules.specs.Frames.{added, added_by}
-use Rattle.sgx_rules.specs.Table.{add_row, create_row, first_of_row, init_row}
+use Rattle.sgx_types.specs.Cases.{first_of_row}
+use Rattle.sgx_rules.specs.Table.{add_row, create_row, init_row}
 use Rattle.sgx_types.proofs.Pages.{same_page-swap}
 use Rattle.machine_copies.proofs.FlatLaws.{event_kinds}
 use Rattle.measure_log.specs.Rule.{IsExpected, IsOther}
@@ -149,7 +150,7 @@ flat_init past a enclave expect answer row seen =
     let after = taken_after (flat past) a (Init enclave expect) answer (is_none-None _ row) in
     record {
       enclaves = λ n.
-          ap (λ (o : Option FlatEnclave). cond (n == enclave) (marked o) o) (seen.enclaves n)
+          ap (λ (o : Option FlatEnclave). cond (n == enclave) (as_initialised o) o) (seen.enclaves n)
           ∙ sym (ap (λ (m : FlatMemory). m.enclaves n) after);
       pages = λ g. seen.pages g ∙ sym (ap (λ (m : FlatMemory). added_as (m.pages g)) after);
     }

@@ -23,7 +23,7 @@ use Rattle.sgx_rules.specs.Fresh.{Out, last_out}
 use Rattle.sgx_rules.specs.PageBytes.{va_words}
 use Rattle.sgx_rules.specs.Slots.{version_in}
 use Rattle.sgx_rules.specs.inner.Starts.{BareStart}
-use Rattle.sgx_rules.specs.Table.{first_of_row}
+use Rattle.sgx_types.specs.Cases.{first_of_row}
 use Rattle.sgx_types.specs.Making.{Making}
 use Rattle.sgx_types.specs.Sealed.{Sealed}
 use Rattle.epcm_entry.specs.inner.Words.{words_of as words_in}

@@ -22,11 +22,12 @@ use Rattle.sgx_rules.specs.Fresh.{Out, last_out}
 use Rattle.sgx_rules.specs.Processors.{is_by}
 use Rattle.sgx_rules.specs.Slots.{version_in, version_of}
 use Rattle.sgx_rules.specs.Starts.{open_start}
-use Rattle.sgx_rules.specs.Table.{FrameSight, LoadSight, SlotSight, eldstart_row, first_of_row, is_busy, is_out_of_range, is_va, is_valid}
+use Rattle.sgx_types.specs.Cases.{first_of_row}
+use Rattle.sgx_rules.specs.Table.{FrameSight, LoadSight, SlotSight, eldstart_row, is_busy, is_out_of_range, is_va, is_valid}
 use Rattle.sgx_types.specs.Making.{Making}
 use Rattle.sgx_types.specs.Sealed.{Sealed}
 use Rattle.job_grammar.specs.Jobs.{JobView}
-use Rattle.script_rules.specs.Script.{frame_at}
+use Rattle.sgx_types.specs.Pages.{frame_at}
 use Rattle.backing_store.specs.Calls.{Call, Failed, Given, Got, Nothing, Put, Room}
 use Rattle.backing_store.specs.declared.backing.StoreFault.{StoreFault}
 use Rattle.backing_store.specs.declared.backing.StoreFault.TheVariants as faults

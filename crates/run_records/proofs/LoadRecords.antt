@@ -25,14 +25,14 @@ use Rattle.sgx_types.specs.Making.{Making}
 use Rattle.sgx_types.specs.Sealed.{Sealed}
 use Rattle.sgx_rules.specs.Starts.{Start, open_start}
 use Rattle.sgx_rules.specs.inner.Starts.{BareStart}
-use Rattle.sgx_rules.specs.Table.{first_of_row}
+use Rattle.sgx_types.specs.Cases.{first_of_row}
 use Rattle.sgx_types.proofs.Truths.{both_true, not_false}
 use Rattle.sgx_rules.specs.inner.Enclaves.{EnclavesAreFlat}
 use Rattle.sgx_rules.proofs.Busy.{IsBareOf}
 use Rattle.seal_record.specs.Cipher.{tag}
 use Rattle.seal_record.specs.inner.Row.{eld_row, is_header, same_header}
 use Rattle.job_grammar.specs.Jobs.{JobView}
-use Rattle.script_rules.specs.Script.{frame_at}
+use Rattle.sgx_types.specs.Pages.{frame_at}
 use Rattle.backing_store.specs.Calls.{Call}
 use Rattle.backing_store.specs.inner.Calls.{told_got}
 use Rattle.backing_store.specs.declared.backing.StoreFault.{StoreFault}
@@ -55,7 +55,7 @@ use Rattle.due_tables.specs.declared.turns.Turns.{Turns}
 use Rattle.history_rules.specs.Calls.{before}
 use Rattle.history_rules.specs.Given.{gift}
 use Rattle.history_rules.specs.Stored.{IsBackBy, IsUnfit}
-use Rattle.history_rules.specs.Stored.{Tells as TellsRecord}
+use Rattle.history_rules.specs.Stored.{TellsOfStore as TellsRecord}
 use Rattle.run_calls.specs.inner.Comes.{AnswerComes, Comes, EndComes, Tells, bus_of}
 use Rattle.run_calls.proofs.FaultLaws.{end_tells, resolved_tells}
 use Rattle.driver_faults.specs.declared.answers.FaultAnswer.{FaultAnswer}

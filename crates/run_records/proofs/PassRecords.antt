@@ -34,7 +34,7 @@ use Rattle.due_tables.specs.declared.turns.Turns.{Turns}
 use Rattle.history_rules.specs.Calls.{before}
 use Rattle.history_rules.specs.Given.{gift}
 use Rattle.history_rules.specs.Stored.{IsSealedRecord}
-use Rattle.history_rules.specs.Stored.{Tells as TellsRecord}
+use Rattle.history_rules.specs.Stored.{TellsOfStore as TellsRecord}
 use Rattle.run_calls.specs.inner.Comes.{Comes, Tells, TurnComes}
 use Rattle.run_calls.proofs.PassLaws.{stored_tells, turn_tells}
 use Rattle.driver_pass.specs.declared.stages.Aside.{Aside}

@@ -13,7 +13,7 @@ use Rattle.sgx_types.specs.declared.names.Page.{Page}
 use Rattle.sgx_types.specs.declared.names.SlotAt.{SlotAt}
 use Rattle.sgx_rules.specs.declared.refusals.Refusal.{Refusal}
 use Rattle.sgx_types.specs.Sealed.{Sealed}
-use Rattle.sgx_rules.specs.Table.{first_of_row}
+use Rattle.sgx_types.specs.Cases.{first_of_row}
 use Rattle.job_grammar.specs.Jobs.{JobView}
 use Rattle.script_rules.specs.Script.{action_of}
 use Rattle.backing_store.specs.Calls.{Call}
@@ -22,7 +22,7 @@ use Rattle.machine_laws.specs.inner.Steps.{IsDone, IsStep, answer_of, did_by, re
 use Rattle.driver_tables.specs.declared.driver.Driver.{Driver}
 use Rattle.history_rules.specs.Calls.{ComesWith, before}
 use Rattle.history_rules.specs.Given.{gift}
-use Rattle.history_rules.specs.Stored.{Tells}
+use Rattle.history_rules.specs.Stored.{TellsOfStore}
 use Rattle.run_calls.specs.inner.Stores.{StoreMoves}
 use Rattle.run_laws.specs.inner.Books.{AreTold}
 use Rattle.due_notes.specs.inner.Plain.{is_plain}
@@ -34,7 +34,7 @@ use Rattle.run_records.specs.inner.Silent.{IsSilent}
 record IsMute (ev : Event) : Type 0 where
   comes : (calls : List Call) → ComesWith ev calls
   earlier : (calls : List Call) → before ev calls ≡ calls
-  tells : (key : List ℕ) (past : List Entry) (gifts : ℕ → Option Sealed) (calls : List Call) → Tells key past gifts ev calls
+  tells : (key : List ℕ) (past : List Entry) (gifts : ℕ → Option Sealed) (calls : List Call) → TellsOfStore key past gifts ev calls
 
 -- an instruction that moves no page out or back and was done
 did_mute : (action : Action) (answer : Answer) → is_plain action ≡ true → IsMute (Did action answer)

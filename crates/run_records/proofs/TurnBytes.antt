@@ -17,7 +17,7 @@ use Rattle.job_grammar.specs.Jobs.{JobView}
 use Rattle.backing_store.specs.Calls.{Call}
 use Rattle.sgx_machine.specs.inner.Parts.{Parts, state_of}
 use Rattle.driver_slots.specs.inner.Keeper.{Keeper}
-use Rattle.script_rules.specs.Script.{frame_at}
+use Rattle.sgx_types.specs.Pages.{frame_at}
 use Rattle.driver_rules.specs.Dues.{Due, KicksAll, LooksAt, Makes, TriesOut, Waits}
 use Rattle.driver_reclaim.specs.declared.turns.PassTurn.{PassTurn}
 use Rattle.driver_reclaim.specs.declared.turns.PassTurn.TheVariants as turns

@@ -26,6 +26,7 @@ use Rattle.job_grammar.specs.declared.jobs.Op.{Op}
 use Rattle.job_grammar.specs.Jobs.{EnclaveView, JobView, va_pages}
 use Rattle.script_rules.specs.declared.steps.BuildStep.{BuildStep}
 use Rattle.script_rules.specs.declared.steps.BuildStep.TheVariants as builds
+use Rattle.sgx_types.specs.Pages.{frame_at}
 
 -- ---- the build
 
@@ -59,9 +60,6 @@ enclaves_steps enclave (e ∷ es) = enclave_steps enclave e ++ enclaves_steps (e
 -- the version arrays, then each enclave in order
 abbrev pub build_of : JobView → List BuildStep
 build_of j = replicate (va_pages j) builds.Va ++ enclaves_steps 1 j.enclaves
-
-abbrev pub frame_at : ℕ → Frame
-frame_at n = record { 0 = n }
 
 -- a step's instruction, with the frame that it takes
 abbrev pub step_action : BuildStep → ℕ → Action
@@ -175,9 +173,9 @@ saved_after (Did (actions.Resume enclave tcs tf sf) answer) is_left g before =
 saved_after _ is_left g before = before
 
 -- how many state save frames of a TCS page are in use
-abbrev pub saved : List Entry → Page → ℕ
-saved [] g = 0
-saved (e ∷ past) g = saved_after e.event (leaves_by e.actor past g) g (saved past g)
+abbrev pub saved_frames : List Entry → Page → ℕ
+saved_frames [] g = 0
+saved_frames (e ∷ past) g = saved_after e.event (leaves_by e.actor past g) g (saved_frames past g)
 
 -- ---- a processor's next entry
 

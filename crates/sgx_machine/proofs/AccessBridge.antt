@@ -7,7 +7,8 @@ use Rattle.std.proofs.lemmas.List.Elements.{recursion_from_All}
 use Rattle.sgx_types.specs.declared.names.Frame.{Frame}
 use Rattle.sgx_types.specs.declared.names.Perm.{Perm}
 use Rattle.sgx_rules.specs.Processors.{Seat}
-use Rattle.sgx_rules.specs.Table.{access_row, inside_row, fill_row, is_reg, perm_in, first_of_row}
+use Rattle.sgx_types.specs.Cases.{first_of_row}
+use Rattle.sgx_rules.specs.Table.{access_row, inside_row, fill_row, is_reg, perm_in}
 use Rattle.sgx_rules.specs.Flat.{word_index}
 use Rattle.sgx_rules.proofs.Rows.{none_holds}
 use Rattle.sgx_types.specs.Pages.{no_perm}

@@ -14,8 +14,9 @@ use Rattle.sgx_types.specs.declared.names.TheConstants.{MOST_FRAMES, SECS_NUMBER
 use Rattle.sgx_rules.specs.Frames.{Free, Holds, IsVa}
 use Rattle.sgx_rules.specs.Table as table
 use Rattle.sgx_types.specs.Lawful as limits
-use Rattle.sgx_rules.specs.Table.{epa_row, create_row, add_row, first_of_row}
-use Rattle.sgx_rules.specs.Flat.{first_words, marked}
+use Rattle.sgx_types.specs.Cases.{first_of_row}
+use Rattle.sgx_rules.specs.Table.{epa_row, create_row, add_row}
+use Rattle.sgx_rules.specs.Flat.{first_words, as_initialised}
 use Rattle.sgx_rules.proofs.Contents.{free_there}
 use Rattle.sgx_rules.proofs.Rows.{none_holds}
 use Rattle.sgx_types.proofs.Truths.{apart, both_true, neither, not_false}
@@ -341,10 +342,10 @@ init_state d e x found is =
     }
   where
     each : (n : ℕ) → cond (n == e) (enclave_of (Some (with_init x))) (enclave_of (enclave_at d.secs n)) ≡ cond (n == e)
-        (marked (enclave_of (enclave_at d.secs n))) (enclave_of (enclave_at d.secs n))
+        (as_initialised (enclave_of (enclave_at d.secs n))) (enclave_of (enclave_at d.secs n))
     each n = by_test (n == e) refl
       where
         by_test : (b : Bool) → (n == e) ≡ b → cond b (enclave_of (Some (with_init x))) (enclave_of (enclave_at d.secs n)) ≡ cond b
-            (marked (enclave_of (enclave_at d.secs n))) (enclave_of (enclave_at d.secs n))
+            (as_initialised (enclave_of (enclave_at d.secs n))) (enclave_of (enclave_at d.secs n))
         by_test true same = let at : enclave_at d.secs n ≡ Some x = ap (enclave_at d.secs) (eqb-true n e same) ∙ found in rw at refl
         by_test false other = refl

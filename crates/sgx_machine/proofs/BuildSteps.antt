@@ -15,7 +15,8 @@ use Rattle.sgx_rules.specs.declared.refusals.Refusal.{Refusal}
 use Rattle.sgx_rules.specs.declared.refusals.Refusal.TheVariants as why
 use Rattle.sgx_types.specs.Pages.{page_at}
 use Rattle.sgx_rules.specs.Frames.{Content, Free, IsVa, SecsOf, Holds, IsLoading, enclave_in}
-use Rattle.sgx_rules.specs.Table.{EnclaveSight, SecsSight, add_row, extend_row, init_row, first_of_row}
+use Rattle.sgx_types.specs.Cases.{first_of_row}
+use Rattle.sgx_rules.specs.Table.{EnclaveSight, SecsSight, add_row, extend_row, init_row}
 use Rattle.sgx_rules.specs.Flat.{enclave_sight_of}
 use Rattle.epcm_entry.specs.inner.Epc.{EpcFrame, entry_at, bytes_at, with_page}
 use Rattle.epcm_entry.specs.inner.Sights.{held, held_in, sight_in}

@@ -29,7 +29,8 @@ use Rattle.sgx_rules.specs.Frames.{Content, IsLoading, IsVa, SecsOf, page_there,
 use Rattle.sgx_rules.specs.PageBytes.{secs_header, va_header}
 use Rattle.sgx_rules.specs.inner.Starts.{BareStart}
 use Rattle.sgx_rules.specs.Table as table
-use Rattle.sgx_rules.specs.Table.{first_of_row, is_made}
+use Rattle.sgx_types.specs.Cases.{first_of_row}
+use Rattle.sgx_rules.specs.Table.{is_made}
 use Rattle.sgx_rules.proofs.Contents.{loading_no_va}
 use Rattle.epcm_entry.specs.declared.entry_view.EntryView.{EntryView}
 use Rattle.epcm_entry.specs.declared.entry_view.EntryView.TheVariants as views

@@ -8,7 +8,8 @@ use Rattle.sgx_types.specs.declared.names.Frame.{Frame}
 use Rattle.sgx_types.specs.Pages.{page_at}
 use Rattle.sgx_rules.specs.Processors.{Seat}
 use Rattle.sgx_rules.specs.Sights.{seat_of}
-use Rattle.sgx_rules.specs.Table.{EnterSight, TcsSight, enter_row, resume_row, inside_row, first_of_row}
+use Rattle.sgx_types.specs.Cases.{first_of_row}
+use Rattle.sgx_rules.specs.Table.{EnterSight, TcsSight, enter_row, resume_row, inside_row}
 use Rattle.sgx_rules.specs.Flat.{enclave_sight_of, with_cssa}
 use Rattle.sgx_types.proofs.Truths.{not_false}
 use Rattle.epcm_entry.specs.inner.Epc.{EpcFrame, word_at, with_word}

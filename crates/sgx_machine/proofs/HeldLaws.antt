@@ -28,7 +28,7 @@ use Rattle.version_array.specs.declared.va_page.SlotState.{SlotState}
 use Rattle.std.proofs.lemmas.List.{length-append, length-replicate}
 use Rattle.evict_reload.specs.inner.Effects.{SameBeside, beside}
 use Rattle.evict_reload.specs.inner.Sights.{AreCountedIn, AreVaPages, HaveEnclaves, owner_in}
-use Rattle.evict_reload.proofs.CountLaws.{counted_put}
+use Rattle.secs_state.proofs.Counted.{counted_put}
 use Rattle.sgx_machine.specs.inner.Whole.{AreHeld, IsNamedFor}
 
 -- ---- places for version array pages

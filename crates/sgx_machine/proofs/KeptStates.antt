@@ -11,9 +11,10 @@ use Rattle.sgx_types.specs.declared.names.Perm.{Perm}
 use Rattle.sgx_types.specs.declared.names.SlotAt.{SlotAt}
 use Rattle.sgx_types.specs.Pages.{is_own_page, is_secs_page, is_va_page, same_page}
 use Rattle.sgx_rules.specs.Frames.{Content, Free, IsVa, SecsOf, Holds, IsLoading, reloaded, reloaded_as}
-use Rattle.sgx_rules.specs.Flat.{FlatEnclave, marked}
+use Rattle.sgx_rules.specs.Flat.{FlatEnclave, as_initialised}
 use Rattle.sgx_rules.specs.inner.Starts.{BareStart}
-use Rattle.sgx_rules.specs.Table.{block_row, track_row, ewbstart_row, eldstart_row, first_of_row, is_loading}
+use Rattle.sgx_types.specs.Cases.{first_of_row}
+use Rattle.sgx_rules.specs.Table.{block_row, track_row, ewbstart_row, eldstart_row, is_loading}
 use Rattle.sgx_types.proofs.Pages.{same_page-at}
 use Rattle.measure_log.specs.declared.measure.Measure.{Measure}
 use Rattle.machine_laws.specs.inner.State.{State, is_known, load_sight, sight, track_sight, slot_sight, use_sight, drain_sight}
@@ -118,7 +119,7 @@ kept_init s e h = record {
   guarded = guarded_init s e h.guarded;
 }
   where
-    by_mark : (b : Bool) (o : Option FlatEnclave) → is_some (cond b (marked o) o) ≡ true → is_some o ≡ true
+    by_mark : (b : Bool) (o : Option FlatEnclave) → is_some (cond b (as_initialised o) o) ≡ true → is_some o ≡ true
     by_mark true None made = cc made
     by_mark true (Some x) made = refl
     by_mark false o made = made

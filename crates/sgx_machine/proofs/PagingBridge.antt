@@ -16,7 +16,8 @@ use Rattle.sgx_types.specs.declared.names.VaSlot.{VaSlot}
 use Rattle.sgx_rules.specs.Starts.{slot_in as found_slot}
 use Rattle.sgx_rules.specs.inner.Starts.{BareStart}
 use Rattle.sgx_rules.specs.Table as table
-use Rattle.sgx_rules.specs.Table.{DrainSight, first_of_row, block_row, track_row, ewbstart_row, eldstart_row}
+use Rattle.sgx_types.specs.Cases.{first_of_row}
+use Rattle.sgx_rules.specs.Table.{DrainSight, block_row, track_row, ewbstart_row, eldstart_row}
 use Rattle.sgx_rules.specs.Table.{LoadSight, SecsSight, UseSight}
 use Rattle.sgx_rules.proofs.Contents.{invalid_no_va}
 use Rattle.sgx_rules.proofs.Rows.{none_holds}

@@ -19,7 +19,8 @@ use Rattle.sgx_types.specs.Counts.{any_below, count_below}
 use Rattle.sgx_rules.specs.Epochs.{epoch_of}
 use Rattle.sgx_rules.specs.Frames.{Content, Free, IsVa, SecsOf, Holds, IsLoading, enclave_in, page_there}
 use Rattle.sgx_types.specs.Pages.{is_secs_page, is_va_page, secs_page, va_page}
-use Rattle.sgx_rules.specs.Table.{DrainSight, SlotSight, UseSight, first_of_row, track_row}
+use Rattle.sgx_types.specs.Cases.{first_of_row}
+use Rattle.sgx_rules.specs.Table.{DrainSight, SlotSight, UseSight, track_row}
 use Rattle.sgx_rules.specs.Table.{ewbstart_row, eldstart_row, is_loading, is_made, is_va}
 use Rattle.sgx_types.proofs.CountLaws.{any_below-none, count_below-agrees, count_below-zero}
 use Rattle.epcm_entry.specs.declared.entry_view.EntryView.{EntryView}

@@ -1,7 +1,8 @@
 //! The rows that make version array pages and build enclaves.
 
 ghost use Rattle.std.specs.Prelude.{◌≡◌, ◌<◌, ◌^◌, true, None, Some, IfOk, OnOk, OnErr, is_some, length};
-ghost use Rattle.sgx_rules.specs.Table.{first_of_row, when, ◌otherwise◌, allowed, epa_row};
+ghost use Rattle.sgx_types.specs.Cases.{first_of_row, when, ◌otherwise◌, allowed};
+ghost use Rattle.sgx_rules.specs.Table.{epa_row};
 ghost use Rattle.sgx_rules.specs.declared.refusals.Refusal.TheVariants as why;
 ghost use Rattle.epcm_entry.specs.inner.Sights.{sight_in};
 ghost use Rattle.sgx_rules.specs.declared.entries.Action.TheVariants as actions;

@@ -1,7 +1,7 @@
 //! The rows that take a processor into an enclave and out of it.
 
 ghost use Rattle.std.specs.Prelude.{◌≡◌, ◌<◌, ◌||◌, true, Some, length};
-ghost use Rattle.sgx_rules.specs.Table.{first_of_row, when, ◌otherwise◌, allowed};
+ghost use Rattle.sgx_types.specs.Cases.{first_of_row, when, ◌otherwise◌, allowed};
 ghost use Rattle.sgx_types.specs.declared.names.Actor.TheVariants as actors;
 ghost use Rattle.sgx_rules.specs.declared.entries.Action.TheVariants as actions;
 ghost use Rattle.sgx_rules.specs.declared.refusals.Refusal.TheVariants as why;

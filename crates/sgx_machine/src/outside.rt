@@ -5,7 +5,7 @@ ghost use Rattle.entry_exit.specs.inner.Entry.{row_of};
 ghost use Rattle.machine_laws.specs.inner.State.{enter_sight, from_outside, row_outside};
 ghost use Rattle.sgx_machine.specs.inner.Parts.{state_of};
 ghost use Rattle.sgx_rules.specs.Sights.{seat_of};
-ghost use Rattle.sgx_rules.specs.Table.{first_of_row};
+ghost use Rattle.sgx_types.specs.Cases.{first_of_row};
 
 use crate::entry::absent;
 use crate::machine::Machine;

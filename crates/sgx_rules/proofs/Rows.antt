@@ -1,14 +1,16 @@
 -- Facts on the cases of a row of the instruction table.
-use Rattle.std.proofs.Common.{◌≡◌, Bool, true, false, cond, refl, Some, None, List, [], ◌∷◌}
-use Rattle.sgx_rules.specs.Table.{Case, first_of_row}
+use Rattle.std.proofs.Common.{◌≡◌, Bool, true, false, cond, refl, Some, None, List, [], ◌∷◌, ◌++◌}
+use Rattle.sgx_types.specs.Cases.{first_of_row}
+use Rattle.sgx_rules.specs.declared.refusals.Refusal.{Refusal}
+use Rattle.sgx_rules.specs.Table.{Row}
 
 -- no case of a row holds
-abbrev pub NoneHolds : List Case → Type 0
+abbrev pub NoneHolds : Row → Type 0
 NoneHolds [] = Unit {0}
 NoneHolds (c ∷ cases) = (c.holds ≡ false) × NoneHolds cases
 
 -- a row that refuses nothing has no case that holds
-pub none_holds : (cases : List Case) → first_of_row cases ≡ None → NoneHolds cases
+pub none_holds : (cases : Row) → first_of_row cases ≡ None → NoneHolds cases
 none_holds [] h = tt
 none_holds (c ∷ cases) h = by_test c.holds h (none_holds cases)
   where
@@ -18,6 +20,17 @@ none_holds (c ∷ cases) h = by_test c.holds h (none_holds cases)
     by_test false e more = (refl, more e)
 
 -- .. and a row of which no case holds refuses nothing
-pub none_refused : (cases : List Case) → NoneHolds cases → first_of_row cases ≡ None
+pub none_refused : (cases : Row) → NoneHolds cases → first_of_row cases ≡ None
 none_refused [] h = refl
 none_refused (c ∷ cases) h = rw h.0 (none_refused cases h.1)
+
+-- a case of the first rows is one of a longer row
+pub first_longer : (cases rest : Row) (r : Refusal) → first_of_row cases ≡ Some r → first_of_row (cases ++ rest) ≡ Some r
+first_longer [] rest r is = cc is
+first_longer (c ∷ cases) rest r is = by_test c.holds is (first_longer cases rest r)
+  where
+    by_test : (b : Bool) → cond b (Some c.why) (first_of_row cases) ≡ Some r
+        → (first_of_row cases ≡ Some r → first_of_row (cases ++ rest) ≡ Some r)
+        → cond b (Some c.why) (first_of_row (cases ++ rest)) ≡ Some r
+    by_test true k more = k
+    by_test false k more = more k

@@ -18,7 +18,7 @@ use Rattle.sgx_types.specs.declared.names.Kind.TheVariants as kinds
 use Rattle.sgx_types.specs.declared.names.Page.{Page}
 use Rattle.sgx_types.specs.declared.names.Perm.{Perm}
 use Rattle.sgx_types.specs.Pages.{same_page, page_at}
-use Rattle.sgx_rules.specs.Table.{first_of_row}
+use Rattle.sgx_types.specs.Cases.{first_of_row}
 use Rattle.sgx_rules.specs.Flat.{FlatMemory, FlatPage, fresh, first_words, flat_cpu_row, accepts, flat_answer, memory_after}
 
 abbrev frame : ℕ → Frame

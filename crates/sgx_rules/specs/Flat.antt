@@ -25,7 +25,8 @@ use Rattle.sgx_types.specs.Pages.{same_page, page_at}
 use Rattle.sgx_rules.specs.Frames.{Content, Free, Holds}
 use Rattle.sgx_types.specs.Layouts.{bytes_of}
 use Rattle.sgx_types.specs.Sealed.{header_of}
-use Rattle.sgx_rules.specs.Table.{Case, allowed, first_of_row, FrameSight, EnclaveSight, SecsSight, EnterSight, TcsSight}
+use Rattle.sgx_types.specs.Cases.{allowed, first_of_row}
+use Rattle.sgx_rules.specs.Table.{EnclaveSight, EnterSight, FrameSight, Row, SecsSight, TcsSight}
 use Rattle.sgx_rules.specs.Table.{fault_of, create_row}
 use Rattle.sgx_rules.specs.Table.{add_row, extend_row, init_row, enter_row, resume_row, inside_row, load_row, store_row}
 use Rattle.sgx_rules.specs.Table.{xadd_row}
@@ -83,13 +84,13 @@ with_busy m g b = record m { is_busy = λ q. if same_page q g then b else m.is_b
 abbrev pub with_cpu : FlatMemory → ℕ → FlatCpu → FlatMemory
 with_cpu m p c = record m { cpus = λ q. if p == q then c else m.cpus q }
 
-abbrev pub page_words : Option FlatPage → List ℕ
-page_words None = replicate 512 0
-page_words (Some x) = x.words
+abbrev pub flat_page_words : Option FlatPage → List ℕ
+flat_page_words None = replicate 512 0
+flat_page_words (Some x) = x.words
 
 -- the words of a page, all zero where it was not added
 abbrev pub words_of : FlatMemory → Page → List ℕ
-words_of m g = page_words (m.pages g)
+words_of m g = flat_page_words (m.pages g)
 
 -- the page of an offset in bytes
 abbrev pub at_offset : ℕ → ℕ → Page
@@ -181,12 +182,12 @@ flat_enter_sight m p enclave tcs saved = record {
   ssa = flat_frame m (page_at enclave saved);
 }
 
-abbrev pub flat_enter_row : FlatMemory → ℕ → ℕ → ℕ → List Case
+abbrev pub flat_enter_row : FlatMemory → ℕ → ℕ → ℕ → Row
 flat_enter_row m p enclave tcs =
     let fields = fields_in m enclave tcs in
     enter_row enclave tcs (flat_enter_sight m p enclave tcs (fields.ossa + fields.cssa))
 
-abbrev pub flat_resume_row : FlatMemory → ℕ → ℕ → ℕ → List Case
+abbrev pub flat_resume_row : FlatMemory → ℕ → ℕ → ℕ → Row
 flat_resume_row m p enclave tcs =
     let fields = fields_in m enclave tcs in
     resume_row enclave tcs (flat_enter_sight m p enclave tcs (fields.ossa + fields.cssa - 1))
@@ -230,7 +231,7 @@ is_visible (OutStore enclave off value) = true
 is_visible _ = false
 
 -- the row of an instruction of processor p
-abbrev pub flat_cpu_row : FlatMemory → ℕ → Action → List Case
+abbrev pub flat_cpu_row : FlatMemory → ℕ → Action → Row
 flat_cpu_row m p (Enter enclave tcs tf sf) = flat_enter_row m p enclave tcs
 flat_cpu_row m p (Resume enclave tcs tf sf) = flat_resume_row m p enclave tcs
 flat_cpu_row m p Exit = inside_row (is_some (m.cpus p).inside)
@@ -246,7 +247,7 @@ flat_cpu_row m p (OutStore enclave off value) = outside_row (is_some (m.cpus p).
 flat_cpu_row m p _ = allowed
 
 -- the row of another instruction
-abbrev pub flat_build_row : FlatMemory → Action → List Case
+abbrev pub flat_build_row : FlatMemory → Action → Row
 flat_build_row m (Create enclave f base size) = create_row enclave base size (is_some (m.enclaves enclave)) open_frame
 flat_build_row m (Add enclave number f kind perm init) =
     add_row number kind perm init (enclave_sight m enclave) settled (is_some (m.pages (page_at enclave number))) open_frame
@@ -353,12 +354,12 @@ cpu_after p (Set value) m = with_acc m p value
 cpu_after p (Plus value) m = with_acc m p (sum_of (m.cpus p).acc value)
 cpu_after p _ m = m
 
-abbrev pub marked : Option FlatEnclave → Option FlatEnclave
-marked None = None
-marked (Some x) = Some (record x { is_init = true })
+abbrev pub as_initialised : Option FlatEnclave → Option FlatEnclave
+as_initialised None = None
+as_initialised (Some x) = Some (record x { is_init = true })
 
 abbrev pub initialised : FlatMemory → ℕ → FlatMemory
-initialised m enclave = record m { enclaves = λ n. if n == enclave then marked (m.enclaves n) else m.enclaves n }
+initialised m enclave = record m { enclaves = λ n. if n == enclave then as_initialised (m.enclaves n) else m.enclaves n }
 
 abbrev pub build_after : Action → FlatMemory → FlatMemory
 build_after (Create enclave frame base size) m = with_enclave m enclave (record { base = base; size = size; is_init = false })

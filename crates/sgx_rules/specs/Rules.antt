@@ -24,7 +24,7 @@ use Rattle.sgx_types.specs.Pages.{page_at}
 use Rattle.sgx_rules.specs.Frames.{Content, Free, SecsOf, Holds, content, is_child, is_sealing, is_page, stands, vas_made}
 use Rattle.sgx_types.specs.Making.{Making}
 use Rattle.sgx_rules.specs.Processors.{Stay, stay, BareTranslation, holds_number, translations}
-use Rattle.sgx_rules.specs.Table.{first_of_row}
+use Rattle.sgx_types.specs.Cases.{first_of_row}
 use Rattle.sgx_rules.specs.Eviction.{is_drained}
 use Rattle.sgx_rules.specs.Slots.{next_version, version_at}
 use Rattle.sgx_rules.specs.Starts.{Start, open_start}

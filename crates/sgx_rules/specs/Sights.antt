@@ -24,7 +24,8 @@ use Rattle.sgx_rules.specs.Frames.{secs_frame, vas_made}
 use Rattle.sgx_types.specs.Making.{Making}
 use Rattle.sgx_rules.specs.Processors.{Seat, Stay, stay, holds_number, translations}
 use Rattle.sgx_rules.specs.Slots.{is_busy_at, is_va_in_use, next_version, version_at}
-use Rattle.sgx_rules.specs.Table.{Case, allowed, FrameSight, EnterSight, TrackSight, SlotSight, DrainSight, is_ready, epa_row}
+use Rattle.sgx_types.specs.Cases.{allowed}
+use Rattle.sgx_rules.specs.Table.{DrainSight, EnterSight, FrameSight, Row, SlotSight, TrackSight, epa_row, is_ready}
 use Rattle.sgx_rules.specs.Table.{create_row}
 use Rattle.sgx_rules.specs.Table.{LoadSight, SecsSight, UseSight, is_made}
 use Rattle.sgx_rules.specs.Table.{add_row, extend_row, init_row, enter_row, resume_row, inside_row, fill_row, load_row}
@@ -169,7 +170,7 @@ drain_sight_at first past n = record {
 -- ---- the rows
 
 -- the row of an instruction, by its actor, on a machine of this making. The two commits have none: what they end decides
-abbrev pub row_at : Making → List Entry → Actor → Action → List Case
+abbrev pub row_at : Making → List Entry → Actor → Action → Row
 row_at k past actor (Epa f) = epa_row (sight_at k.frames past f.0)
 row_at k past actor (Create enclave f base size) =
     create_row enclave base size (is_some ((flat past).enclaves enclave)) (sight_at k.frames past f.0)

@@ -16,28 +16,11 @@ use Rattle.sgx_rules.specs.declared.entries.PfWhy.{PfWhy}
 use Rattle.sgx_rules.specs.declared.entries.PfWhy.TheVariants as faults
 use Rattle.sgx_types.specs.Pages.{page_at}
 use Rattle.sgx_rules.specs.Frames.{Content, Free, IsVa, SecsOf, Holds, IsLoading, is_page, is_free}
+use Rattle.sgx_types.specs.Cases.{Case, when, ◌otherwise◌, allowed}
 
--- ---- rows
-
-infixr 5 ◌otherwise◌
-pub record Case : Type 0 where
-  pub holds : Bool
-  pub why : Refusal
-
-abbrev pub when : Bool → Refusal → Case
-when b r = record { holds = b; why = r }
-
--- a row: its cases in order
-abbrev pub ◌otherwise◌ : Case → List Case → List Case
-c otherwise rest = c ∷ rest
-
-abbrev pub allowed : List Case
-allowed = []
-
--- the first case that holds
-abbrev pub first_of_row : List Case → Option Refusal
-first_of_row [] = None
-first_of_row (c ∷ cases) = if c.holds then Some c.why else first_of_row cases
+-- a row: for whom it is refused and why, the first case that holds deciding
+abbrev pub Row : Type 0
+Row = List (Case Refusal)
 
 -- ---- what an instruction sees of a frame
 
@@ -95,14 +78,14 @@ is_busy s = s.is_sealing || is_loading s.content
 
 -- ---- building an enclave
 
-abbrev pub epa_row : FrameSight → List Case
+abbrev pub epa_row : FrameSight → Row
 epa_row s =
     when s.is_beyond why.BadRange
     otherwise when (is_busy s) why.Conflict
     otherwise when (is_valid s.content) why.FrameBusy
     otherwise allowed
 
-abbrev pub create_row : ℕ → ℕ → ℕ → Bool → FrameSight → List Case
+abbrev pub create_row : ℕ → ℕ → ℕ → Bool → FrameSight → Row
 create_row enclave base size is_created s =
     when (s.is_beyond || not (is_enclave enclave) || not (is_lawful base size)) why.BadRange
     otherwise when is_created why.PageExists
@@ -120,7 +103,7 @@ pub record SecsSight : Type 0 where
   pub is_away : Bool
   pub is_sealing : Bool
 
-abbrev pub add_row : ℕ → Kind → Perm → PageInit → Option EnclaveSight → SecsSight → Bool → FrameSight → List Case
+abbrev pub add_row : ℕ → Kind → Perm → PageInit → Option EnclaveSight → SecsSight → Bool → FrameSight → Row
 add_row number kind perm init None secs is_added s =
     when s.is_beyond why.BadRange
     otherwise when true why.Absent
@@ -139,7 +122,7 @@ add_row number kind perm init (Some enclave) secs is_added s =
     otherwise allowed
 
 -- `extend` of a chunk of 256 bytes of the page in a frame, by whether its enclave is initialised
-abbrev pub extend_row : ℕ → Bool → FrameSight → List Case
+abbrev pub extend_row : ℕ → Bool → FrameSight → Row
 extend_row chunk is_init s =
     when (s.is_beyond || nat_lt 15 chunk) why.BadRange
     otherwise when (is_busy s) why.Conflict
@@ -149,7 +132,7 @@ extend_row chunk is_init s =
     otherwise allowed
 
 -- without the measurement, which is compared last
-abbrev pub init_row : Option EnclaveSight → SecsSight → List Case
+abbrev pub init_row : Option EnclaveSight → SecsSight → Row
 init_row None secs = when true why.Absent otherwise allowed
 init_row (Some enclave) secs =
     when secs.is_away why.Absent
@@ -175,7 +158,7 @@ pub record EnterSight : Type 0 where
   pub ssa : FrameSight
 
 -- the state save frame: a page of the enclave that may be read and written
-abbrev pub ssa_row : ℕ → ℕ → FrameSight → List Case
+abbrev pub ssa_row : ℕ → ℕ → FrameSight → Row
 ssa_row enclave number s =
     when (is_busy s) why.Conflict
     otherwise when (not (is_page s.content (page_at enclave number))) why.Absent
@@ -193,7 +176,7 @@ is_ready None = false
 is_ready (Some enclave) = enclave.is_init
 
 -- an entry by a TCS page, with what is asked of its CSSA, and the page into which or from which the state goes
-abbrev pub entry_row : ℕ → ℕ → EnterSight → Case → ℕ → List Case
+abbrev pub entry_row : ℕ → ℕ → EnterSight → Case Refusal → ℕ → Row
 entry_row enclave tcs s saves saved =
     when s.is_inside why.WrongMode
     otherwise when (s.tcs.is_beyond || s.ssa.is_beyond) why.BadRange
@@ -208,21 +191,21 @@ entry_row enclave tcs s saves saved =
     otherwise ssa_row enclave saved s.ssa
 
 -- `enter` needs a state save frame that is not in use, the one that CSSA names
-abbrev pub enter_row : ℕ → ℕ → EnterSight → List Case
+abbrev pub enter_row : ℕ → ℕ → EnterSight → Row
 enter_row enclave tcs s = entry_row enclave tcs s (when (s.fields.cssa == s.fields.nssa) why.NoFrame) (s.fields.ossa + s.fields.cssa)
 
 -- `resume` needs one in use, and takes the last
-abbrev pub resume_row : ℕ → ℕ → EnterSight → List Case
+abbrev pub resume_row : ℕ → ℕ → EnterSight → Row
 resume_row enclave tcs s = entry_row enclave tcs s (when (s.fields.cssa == 0) why.NoSaved) (s.fields.ossa + s.fields.cssa - 1)
 
 -- `exit`, `aex`, `set` and `plus`: what a processor does inside an enclave alone
-abbrev pub inside_row : Bool → List Case
+abbrev pub inside_row : Bool → Row
 inside_row is_inside =
     when (not is_inside) why.WrongMode
     otherwise allowed
 
 -- `outload` and `outstore`: what it does outside alone
-abbrev pub outside_row : Bool → List Case
+abbrev pub outside_row : Bool → Row
 outside_row is_inside =
     when is_inside why.WrongMode
     otherwise allowed
@@ -230,7 +213,7 @@ outside_row is_inside =
 -- ---- translations and accesses
 
 -- `fill` of a page, by the enclave that the processor is inside
-abbrev pub fill_row : ℕ → Option ℕ → FrameSight → List Case
+abbrev pub fill_row : ℕ → Option ℕ → FrameSight → Row
 fill_row number None s =
     when true why.WrongMode
     otherwise allowed
@@ -243,7 +226,7 @@ fill_row number (Some enclave) s =
     otherwise allowed
 
 -- an access at an offset in bytes, with the permissions of the translation that is held, and whether they allow it
-abbrev pub access_row : ℕ → Bool → Option Perm → Bool → List Case
+abbrev pub access_row : ℕ → Bool → Option Perm → Bool → Row
 access_row off is_inside translation is_allowed =
     when (not is_inside) why.WrongMode
     otherwise when (not (off % 8 == 0)) why.BadRange
@@ -251,13 +234,13 @@ access_row off is_inside translation is_allowed =
     otherwise when (not is_allowed) why.NoPerm
     otherwise allowed
 
-abbrev pub load_row : ℕ → Bool → Option Perm → List Case
+abbrev pub load_row : ℕ → Bool → Option Perm → Row
 load_row off is_inside translation = access_row off is_inside translation (allows_read translation)
 
-abbrev pub store_row : ℕ → Bool → Option Perm → List Case
+abbrev pub store_row : ℕ → Bool → Option Perm → Row
 store_row off is_inside translation = access_row off is_inside translation (allows_write translation)
 
-abbrev pub xadd_row : ℕ → Bool → Option Perm → List Case
+abbrev pub xadd_row : ℕ → Bool → Option Perm → Row
 xadd_row off is_inside translation = access_row off is_inside translation (allows_update translation)
 
 abbrev pub allows : Perm → AccessOp → Bool
@@ -285,7 +268,7 @@ fault_of None = faults.Absent
 fault_of (Some x) = fault_by_kind x.0
 
 -- `pf` tells that an access cannot succeed, by what its page was added as
-abbrev pub pf_row : AccessOp → ℕ → Bool → Option (Kind × Perm) → List Case
+abbrev pub pf_row : AccessOp → ℕ → Bool → Option (Kind × Perm) → Row
 pf_row op off is_inside added =
     when (not is_inside) why.WrongMode
     otherwise when (not (off % 8 == 0)) why.BadRange
@@ -294,7 +277,7 @@ pf_row op off is_inside added =
 
 -- ---- block, track, write-out and reload
 
-abbrev pub block_row : FrameSight → List Case
+abbrev pub block_row : FrameSight → Row
 block_row s =
     when s.is_beyond why.BadRange
     otherwise when (is_busy s) why.Conflict
@@ -312,7 +295,7 @@ pub record TrackSight : Type 0 where
   pub older : ℕ
   pub is_spent : Bool
 
-abbrev pub track_row : TrackSight → List Case
+abbrev pub track_row : TrackSight → Row
 track_row s =
     when (not (is_made s.enclave)) why.Absent
     otherwise when s.secs.is_away why.Absent
@@ -352,7 +335,7 @@ pub record UseSight : Type 0 where
   pub children : ℕ
 
 -- the start of EWB, by whether the last version was drawn
-abbrev pub ewbstart_row : FrameSight → UseSight → SlotSight → DrainSight → Bool → List Case
+abbrev pub ewbstart_row : FrameSight → UseSight → SlotSight → DrainSight → Bool → Row
 ewbstart_row s uses slot drain is_spent =
     when (is_out_of_range s slot) why.BadRange
     otherwise when (is_busy s || slot.is_busy || uses.is_in_use) why.Conflict
@@ -371,7 +354,7 @@ pub record LoadSight : Type 0 where
   pub secs : SecsSight
 
 -- the start of ELDU
-abbrev pub eldstart_row : FrameSight → LoadSight → SlotSight → List Case
+abbrev pub eldstart_row : FrameSight → LoadSight → SlotSight → Row
 eldstart_row s page slot =
     when (is_out_of_range s slot) why.BadRange
     otherwise when (not page.is_known) why.Absent

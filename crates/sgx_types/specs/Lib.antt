@@ -4,5 +4,6 @@ pub mod Layouts
 pub mod Digests
 pub mod Sealed
 pub mod Counts
+pub mod Cases
 pub mod Making
 pub mod inner

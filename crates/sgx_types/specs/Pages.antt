@@ -1,5 +1,6 @@
 -- Pages and slots by their names: when two are the same, and what the names of pages say.
 use Rattle.std.specs.Prelude.{ℕ, ◌==◌, ◌&&◌, not, Bool, false}
+use Rattle.sgx_types.specs.declared.names.Frame.{Frame}
 use Rattle.sgx_types.specs.declared.names.Page.{Page}
 use Rattle.sgx_types.specs.declared.names.Perm.{Perm}
 use Rattle.sgx_types.specs.declared.names.TheConstants.{SECS_NUMBER}
@@ -8,6 +9,9 @@ use Rattle.sgx_types.specs.declared.names.VaSlot.{VaSlot}
 -- no permission, which a TCS, SECS or VA page has
 abbrev pub no_perm : Perm
 no_perm = record { r = false; w = false; x = false }
+
+abbrev pub frame_at : ℕ → Frame
+frame_at n = record { 0 = n }
 
 abbrev pub same_page : Page → Page → Bool
 same_page a b = (a.enclave == b.enclave) && (a.number == b.number)

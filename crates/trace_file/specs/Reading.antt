@@ -19,5 +19,5 @@ abbrev pub OfRead : Option (List ℕ) → (List ℕ → Type 0) → Type 0
 OfRead left P = (bytes : List ℕ) × IfSome left (λ all. bytes ≡ all) × P bytes
 
 -- the line on the first fault of a trace
-abbrev pub fault_line : ℕ → List ℕ
-fault_line line = codes "trace line " ++ decimal line ++ codes "\n"
+abbrev pub trace_fault_line : ℕ → List ℕ
+trace_fault_line line = codes "trace line " ++ decimal line ++ codes "\n"

@@ -23,7 +23,7 @@ use Rattle.trace_text.specs.declared.edition.Edition.TheVariants as editions
 use Rattle.trace_text.specs.Names.{look_word, stop_word}
 use Rattle.text_words.proofs.Splits.{AreWords, IsApart, is_word, join-apart, split-join}
 use Rattle.text_words.proofs.WordLaws.{decimal-is_word, digest-is_word, hexadecimal-is_word}
-use Rattle.trace_text.specs.Fields.{AllFit, Field, Fits, action_fields, answer_fields, event_fields, field_words, refusal_fields, words_of}
+use Rattle.trace_text.specs.Fields.{AllFit, Field, Fits, action_fields, answer_fields, event_fields, field_words, refusal_fields, words_of_fields}
 use Rattle.trace_text.specs.Fields.{name, number, address, enclave, page, digest, is_lettered_secs, page_words}
 use Rattle.trace_text.specs.TraceText.{actor_word, spelling}
 use Rattle.trace_text.specs.Readable.{IsReadable}
@@ -67,11 +67,11 @@ module _ (edition : Edition) where
   field-words (page p) fits plain = page-are_words edition p fits
   field-words (digest bytes) fits plain = (digest-is_word bytes fits, tt)
 
-  fields-words : (fields : List Field) → AllFit fields → list_all is_plain fields ≡ true → AreWords (words_of edition fields)
+  fields-words : (fields : List Field) → AllFit fields → list_all is_plain fields ≡ true → AreWords (words_of_fields edition fields)
   fields-words [] fits plain = tt
   fields-words (field ∷ fields) fits plain =
       let parts = and_parts (is_plain field) (list_all is_plain fields) plain in
-      append-words (field_words edition field) (words_of edition fields) (field-words field fits.0 parts.0)
+      append-words (field_words edition field) (words_of_fields edition fields) (field-words field fits.0 parts.0)
       (fields-words fields fits.1 parts.1)
 
   action-plain : (action : Action) → list_all is_plain (action_fields action) ≡ true
@@ -95,12 +95,12 @@ module _ (edition : Edition) where
   refusal-plain refusal = refl
 
   both-words : (fields others : List Field) → AllFit (fields ++ others) → list_all is_plain fields ≡ true
-      → list_all is_plain others ≡ true → AreWords (words_of edition (fields ++ others))
+      → list_all is_plain others ≡ true → AreWords (words_of_fields edition (fields ++ others))
   both-words fields others fits front behind =
-      rw (words_append edition fields others) (append-words (words_of edition fields) (words_of edition others)
+      rw (words_append edition fields others) (append-words (words_of_fields edition fields) (words_of_fields edition others)
       (fields-words fields (fit_front fields others fits) front) (fields-words others (fit_behind fields others fits) behind))
 
-  event-words : (event : Event) → AllFit (event_fields event) → AreWords (words_of edition (event_fields event))
+  event-words : (event : Event) → AllFit (event_fields event) → AreWords (words_of_fields edition (event_fields event))
   unfolding is_plain
   event-words (events.Did action answer) fits =
       both-words (action_fields action) (answer_fields answer) fits (action-plain action) (answer-plain answer)
@@ -112,7 +112,7 @@ module _ (edition : Edition) where
 
   -- ---- how many
 
-  action-few : (action : Action) → length (words_of edition (action_fields action)) ≤ 9
+  action-few : (action : Action) → length (words_of_fields edition (action_fields action)) ≤ 9
   action-few (actions.Add e n f kind perm (inits.Words v)) = lit≤ tt
   action-few (actions.Add e n f kind perm (inits.Tcs ossa nssa)) = lit≤ tt
   action-few (actions.Init e None) = lit≤ tt
@@ -122,23 +122,23 @@ module _ (edition : Edition) where
       omega (arith, length-append (page_words edition p) words, page-two edition p)
   action-few action = lit≤ tt
 
-  answer-few : (answer : Answer) → length (words_of edition (answer_fields answer)) ≤ 4
+  answer-few : (answer : Answer) → length (words_of_fields edition (answer_fields answer)) ≤ 4
   answer-few (answers.Moved p v tag) =
       let words : Words = decimal v ∷ digest_word tag ∷ [] in
       omega (arith, length-append (page_words edition p) words, page-two edition p)
   answer-few answers.Plain = lit≤ tt
   answer-few answer = lit≤ tt
 
-  refusal-few : (refusal : Refusal) → length (words_of edition (refusal_fields refusal)) ≤ 4
+  refusal-few : (refusal : Refusal) → length (words_of_fields edition (refusal_fields refusal)) ≤ 4
   refusal-few why.WrongMode = lit≤ tt
   refusal-few refusal = lit≤ tt
 
-  both-few : (fields others : List Field) → length (words_of edition fields) ≤ 9 → length (words_of edition others) ≤ 4
-      → length (words_of edition (fields ++ others)) ≤ 13
+  both-few : (fields others : List Field) → length (words_of_fields edition fields) ≤ 9 → length (words_of_fields edition others) ≤ 4
+      → length (words_of_fields edition (fields ++ others)) ≤ 13
   both-few fields others few less =
-      rw (words_append edition fields others) (omega (arith, length-append (words_of edition fields) (words_of edition others), few, less))
+      rw (words_append edition fields others) (omega (arith, length-append (words_of_fields edition fields) (words_of_fields edition others), few, less))
 
-  event-few : (event : Event) → length (words_of edition (event_fields event)) ≤ 14
+  event-few : (event : Event) → length (words_of_fields edition (event_fields event)) ≤ 14
   event-few (events.Did action answer) =
       let few = both-few (action_fields action) (answer_fields answer) (action-few action) (answer-few answer) in omega (arith, few)
   event-few (events.Refused action refusal) =
@@ -152,10 +152,10 @@ module _ (edition : Edition) where
   -- ---- lines
 
   words-read : (e : Entry) → IsReadable edition e
-      → words_in (spelling edition e) ≡ actor_word e.actor ∷ words_of edition (event_fields e.event)
+      → words_in (spelling edition e) ≡ actor_word e.actor ∷ words_of_fields edition (event_fields e.event)
   unfolding words_in spelling
   words-read e readable =
-      let words = actor_word e.actor ∷ words_of edition (event_fields e.event) in
+      let words = actor_word e.actor ∷ words_of_fields edition (event_fields e.event) in
       let split : slice_split (λ b. eqb b 32) (join_with_byte 32 words) ≡ words =
       split-join words (actor-is_word e.actor readable.actor, event-words e.event readable.event) in
       ap (take 16) split ∙ take_all 16 words (omega (arith, event-few e.event))
@@ -174,5 +174,5 @@ module _ (edition : Edition) where
   pub spelling_apart : (e : Entry) → IsReadable edition e → IsApart 10 (spelling edition e)
   unfolding spelling
   spelling_apart e readable =
-      join-apart (actor_word e.actor ∷ words_of edition (event_fields e.event))
+      join-apart (actor_word e.actor ∷ words_of_fields edition (event_fields e.event))
       (actor-is_word e.actor readable.actor, event-words e.event readable.event)

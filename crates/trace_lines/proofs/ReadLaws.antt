@@ -20,7 +20,7 @@ use Rattle.trace_text.specs.declared.edition.Edition.{Edition}
 use Rattle.trace_text.specs.declared.edition.Edition.TheVariants as editions
 use Rattle.trace_text.specs.Names.{look_word, stop_word}
 use Rattle.trace_text.specs.Fields.{AllFit, action_fields, answer_fields, answer_form, event_fields, form_of, init_fields}
-use Rattle.trace_text.specs.Fields.{page_words, refusal_fields, words_of}
+use Rattle.trace_text.specs.Fields.{page_words, refusal_fields, words_of_fields}
 use Rattle.trace_text.specs.TraceText.{actor_word}
 use Rattle.trace_text.specs.Readable.{IsKnown, IsReadable, IsTold}
 use Rattle.trace_text.proofs.FieldLaws.{words_append}
@@ -60,14 +60,14 @@ is-known editions.Two stop known = refl
 
 module _ (edition : Edition) where
   init-read : (init : PageInit) (rest : Words) → AllFit (init_fields init)
-      → init_in (words_of edition (init_fields init) ++ rest) ≡ (init, rest)
+      → init_in (words_of_fields edition (init_fields init) ++ rest) ≡ (init, rest)
   unfolding init_in
   init-read (inits.Words v) rest fits = rw (number-read v fits.1.0) refl
   init-read (inits.Tcs ossa nssa) rest fits = rw (small-read ossa fits.1.0, small-read nssa fits.1.1.0) refl
 
   -- the words of an instruction, and any behind them
   action-read : (action : Action) (rest : Words) → AllFit (action_fields action)
-      → let words : Words = words_of edition (action_fields action) ++ rest in action_of (first words) (drop 1 words) ≡ Some (action, rest)
+      → let words : Words = words_of_fields edition (action_fields action) ++ rest in action_of (first words) (drop 1 words) ≡ Some (action, rest)
   unfolding action_of row_of operands_in
   action-read (actions.Epa f) rest fits = rw (frame-read f.0 fits.1.0) refl
   action-read (actions.Create e f base size) rest fits =
@@ -123,7 +123,7 @@ module _ (edition : Edition) where
   action-read (actions.Eld f) rest fits = rw (frame-read f.0 fits.1.0) refl
 
   answer-read : (answer : Answer) → AllFit (answer_fields answer)
-      → answer_in (answer_form answer) (words_of edition (answer_fields answer)) ≡ (answer, [])
+      → answer_in (answer_form answer) (words_of_fields edition (answer_fields answer)) ≡ (answer, [])
   unfolding answer_in
   answer-read answers.Plain fits = refl
   answer-read (answers.Cssa n) fits = rw (small-read n fits.0) refl
@@ -143,7 +143,7 @@ module _ (edition : Edition) where
   answer-read (answers.Va n) fits = rw (small-read n fits.0) refl
 
   refusal-read : (refusal : Refusal) → AllFit (refusal_fields refusal)
-      → refusal_of (words_of edition (refusal_fields refusal)) ≡ Some (refusal, [])
+      → refusal_of (words_of_fields edition (refusal_fields refusal)) ≡ Some (refusal, [])
   unfolding refusal_of bare_of fielded_of
   refusal-read (why.PrevTrk older) fits = rw (small-read older fits.1.0) refl
   refusal-read (why.NotTracked epoch older) fits = rw (number-read epoch fits.1.0, small-read older fits.1.1.0) refl
@@ -159,30 +159,30 @@ module _ (edition : Edition) where
 
   done-all : (action : Action) (answer : Answer) → AllFit (action_fields action) → AllFit (answer_fields answer)
       → answer_form answer ≡ form_of edition action
-      → let words : Words = words_of edition (action_fields action) ++ words_of edition (answer_fields answer) in
+      → let words : Words = words_of_fields edition (action_fields action) ++ words_of_fields edition (answer_fields answer) in
       done_of edition (first words) (drop 1 words) ≡ Some (events.Did action answer, [])
   unfolding done_of
   done-all action answer fits own form =
-      rw (action-read action (words_of edition (answer_fields answer)) fits, sym form, answer-read answer own) refl
+      rw (action-read action (words_of_fields edition (answer_fields answer)) fits, sym form, answer-read answer own) refl
 
   -- no instruction has the name of another event
   done-read : (action : Action) (answer : Answer) → AllFit (action_fields action) → AllFit (answer_fields answer)
       → answer_form answer ≡ form_of edition action
-      → event_of edition (words_of edition (action_fields action) ++ words_of edition (answer_fields answer))
+      → event_of edition (words_of_fields edition (action_fields action) ++ words_of_fields edition (answer_fields answer))
       ≡ Some (events.Did action answer, [])
   unfolding event_of
   done-read actions.Exit answer fits own form = done-all actions.Exit answer fits own form
   done-read action answer fits own form = done-all action answer fits own form
 
   refused-read : (action : Action) (refusal : Refusal) → AllFit (action_fields action) → AllFit (refusal_fields refusal)
-      → refused_of (words_of edition (action_fields action) ++ words_of edition (refusal_fields refusal))
+      → refused_of (words_of_fields edition (action_fields action) ++ words_of_fields edition (refusal_fields refusal))
       ≡ Some (events.Refused action refusal, [])
   unfolding refused_of
   refused-read action refusal fits own =
-      rw (action-read action (words_of edition (refusal_fields refusal)) fits, refusal-read refusal own) refl
+      rw (action-read action (words_of_fields edition (refusal_fields refusal)) fits, refusal-read refusal own) refl
 
   event-read : (event : Event) → AllFit (event_fields event) → IsTold edition event
-      → event_of edition (words_of edition (event_fields event)) ≡ Some (event, [])
+      → event_of edition (words_of_fields edition (event_fields event)) ≡ Some (event, [])
   unfolding event_of kick_of bus_of
   event-read (events.Did action answer) fits told =
       let fields = action_fields action in
@@ -212,7 +212,7 @@ module _ (edition : Edition) where
       ) refl
 
   pub entry-read : (e : Entry) → IsReadable edition e
-      → entry_of edition (actor_word e.actor ∷ words_of edition (event_fields e.event)) ≡ Some e
+      → entry_of edition (actor_word e.actor ∷ words_of_fields edition (event_fields e.event)) ≡ Some e
   unfolding entry_of
   entry-read e readable =
       rw (actor-read e.actor readable.actor, event-read e.event readable.event readable.told, readable.own) refl

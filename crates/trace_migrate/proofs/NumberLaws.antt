@@ -21,7 +21,7 @@ use Rattle.trace_text.specs.declared.edition.Edition.TheVariants as editions
 use Rattle.trace_text.specs.Fields.{AllFit, answer_form, event_fields, form_of}
 use Rattle.trace_text.specs.Readable.{AreReadable, IsKnown, IsReadable, IsTold, may_make}
 use Rattle.trace_text.proofs.EntryLaws.{newest_more}
-use Rattle.trace_migrate.specs.Migrated.{numbered, numbered_event}
+use Rattle.trace_migrate.specs.Migrated.{numbered_anew, numbered_event}
 
 -- ---- how many pages are made
 
@@ -61,7 +61,7 @@ readable-event actor (events.Bus page stop) made few r =
     record { actor = r.actor; event = r.event; told = known-more stop r.told; own = r.own }
 readable-event actor event made few r = record { actor = r.actor; event = r.event; told = tt; own = r.own }
 
-readable-past : (past : List Entry) → AreReadable editions.One past → length past ≤ 2 ^ 32 → AreReadable editions.Two (numbered past)
+readable-past : (past : List Entry) → AreReadable editions.One past → length past ≤ 2 ^ 32 → AreReadable editions.Two (numbered_anew past)
 readable-past [] all few = tt
 readable-past (e ∷ past) all few = (
   readable-event e.actor e.event (vas_made past) (omega (arith, made_few past, few)) all.0,
@@ -70,7 +70,7 @@ readable-past (e ∷ past) all few = (
 
 -- ---- entries that stand oldest first
 
-numbered-length : (past : List Entry) → length (numbered past) ≡ length past
+numbered-length : (past : List Entry) → length (numbered_anew past) ≡ length past
 numbered-length [] = refl
 numbered-length (e ∷ past) = ap suc (numbered-length past)
 
@@ -97,17 +97,17 @@ one-reverse (e ∷ entries) all =
     (one-append (reverse entries) (e ∷ []) (one-reverse entries all.1) (all.0, tt))
 
 pub migrated_readable : (entries : List Entry) → AreReadable editions.One entries → length entries ≤ 2 ^ 32
-    → AreReadable editions.Two (reverse (numbered (reverse entries)))
+    → AreReadable editions.Two (reverse (numbered_anew (reverse entries)))
 migrated_readable entries all few =
-    all-reverse (numbered (reverse entries))
+    all-reverse (numbered_anew (reverse entries))
     (readable-past (reverse entries) (one-reverse entries all) (omega (arith, length-reverse entries, few)))
 
 abbrev pub along : List Entry → List Entry
-along entries = reverse (numbered (reverse entries))
+along entries = reverse (numbered_anew (reverse entries))
 
 pub along-length : (entries : List Entry) → length (along entries) ≡ length entries
 along-length entries =
-    length-reverse (numbered (reverse entries)) ∙ numbered-length (reverse entries) ∙ length-reverse entries
+    length-reverse (numbered_anew (reverse entries)) ∙ numbered-length (reverse entries) ∙ length-reverse entries
 
 abbrev numbered_entry : ℕ → Entry → Entry
 numbered_entry made e = record { actor = e.actor; event = numbered_event made e.event }
@@ -116,8 +116,8 @@ pub along_more : (entries : List Entry) (i : ℕ) (d : Entry) → i < length ent
     → along (take (i + 1) entries) ≡ along (take i entries) ++ numbered_entry (vas_made (reverse (take i entries)))
     (get_or entries i d) ∷ []
 along_more entries i d within =
-    ap (λ (past : List Entry). reverse (numbered past)) (newest_more entries i d within)
-    ∙ reverse-append (numbered_entry (vas_made (reverse (take i entries))) (get_or entries i d) ∷ []) (numbered (reverse (take i entries)))
+    ap (λ (past : List Entry). reverse (numbered_anew past)) (newest_more entries i d within)
+    ∙ reverse-append (numbered_entry (vas_made (reverse (take i entries))) (get_or entries i d) ∷ []) (numbered_anew (reverse (take i entries)))
 
 pub made_more : (entries : List Entry) (i : ℕ) (d : Entry) → i < length entries
     → vas_made (reverse (take (i + 1) entries)) ≡ vas_after (get_or entries i d).event (vas_made (reverse (take i entries)))

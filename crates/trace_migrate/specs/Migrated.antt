@@ -13,6 +13,6 @@ numbered_event made (Did (Epa f) answer) = Did (Epa f) (answers.Va made)
 numbered_event made event = event
 
 -- entries that stand newest first
-abbrev pub numbered : List Entry → List Entry
-numbered [] = []
-numbered (e ∷ past) = record { actor = e.actor; event = numbered_event (vas_made past) e.event } ∷ numbered past
+abbrev pub numbered_anew : List Entry → List Entry
+numbered_anew [] = []
+numbered_anew (e ∷ past) = record { actor = e.actor; event = numbered_event (vas_made past) e.event } ∷ numbered_anew past

@@ -2,14 +2,14 @@
 
 ghost use Rattle.std.specs.Prelude.{◌≡◌, ◌<◌, ◌≤◌, ◌+◌, ◌-◌, ◌^◌, length, reverse};
 ghost use Rattle.sgx_rules.specs.Frames.{vas_after};
-ghost use Rattle.trace_migrate.specs.Migrated.{numbered, numbered_event};
+ghost use Rattle.trace_migrate.specs.Migrated.{numbered_anew, numbered_event};
 
 use sgx_rules::entries::{Action, Answer, Entry, Event};
 
 /// Gives each version array page that is made in these entries, which stand oldest first, its number: how many were made before it.
 pub fn number_arrays(entries: &mut [Entry])
     requires { length entries.old < 2 ^ 32 }
-    ensures { entries.new ≡ reverse (numbered (reverse entries.old)) }
+    ensures { entries.new ≡ reverse (numbered_anew (reverse entries.old)) }
 {
     let mut made = 0;
     for at in 0..entries.len() {

@@ -16,7 +16,8 @@ use Rattle.trace_places.specs.declared.moves.Where.{Where}
 use Rattle.trace_places.specs.declared.moves.Where.TheVariants.{Nowhere, At, Loading, Sealed}
 use Rattle.trace_places.specs.declared.places.Places.{Places}
 use Rattle.trace_places.specs.Places.{frame_changed, tenant_of, gone_of, is_tenant, least, version_by, where_by}
-use Rattle.trace_places.specs.Places.{same_where, moved, page_of, page_at_frame, gone_page, page_named, is_page, unless_same, other_than}
+use Rattle.trace_places.specs.Places.{same_where, moved, page_of_tenant, page_at_frame, gone_page, page_named, unless_same, other_than}
+use Rattle.sgx_rules.specs.Frames.{is_this}
 use Rattle.trace_places.specs.declared.moves.MayMove.{MayMove}
 use Rattle.trace_places.specs.Moves.{move_of, IsMoveOf, AreMovesOf}
 use Rattle.trace_places.specs.inner.Frames.{frames_in}
@@ -25,35 +26,35 @@ use Rattle.trace_places.specs.inner.Tables.{tenant_in, gone_in, place_in, Makes,
 -- ---- pages that stay
 
 -- a tenant of another page is another tenant
-other_tenant : (x : Option Tenant) (t : Tenant) → is_page (page_at_frame x) (page_of t) ≡ false → is_tenant x t ≡ false
+other_tenant : (x : Option Tenant) (t : Tenant) → is_this (page_at_frame x) (page_of_tenant t) ≡ false → is_tenant x t ≡ false
 other_tenant None t h = refl
 other_tenant (Some (Has a)) (Has b) h = h
 other_tenant (Some (Has a)) (Awaits b) h = refl
 other_tenant (Some (Awaits a)) (Has b) h = refl
 other_tenant (Some (Awaits a)) (Awaits b) h = h
 
-not_put : (change : Change) (g : Page) → is_page (page_named change) g ≡ false → is_page (page_at_frame (tenant_of change)) g ≡ false
+not_put : (change : Change) (g : Page) → is_this (page_named change) g ≡ false → is_this (page_at_frame (tenant_of change)) g ≡ false
 not_put (Puts f t) g h = h
 not_put (Empties f went) g h = refl
 
-not_gone_by : (went : Option Gone) (g : Page) (before : Option ℕ) → is_page (gone_page went) g ≡ false
+not_gone_by : (went : Option Gone) (g : Page) (before : Option ℕ) → is_this (gone_page went) g ≡ false
     → version_by went g before ≡ before
 not_gone_by None g before h = refl
 not_gone_by (Some went) g before h = rw h refl
 
-pub not_gone : (change : Change) (g : Page) (before : Option ℕ) → is_page (page_named change) g ≡ false
+pub not_gone : (change : Change) (g : Page) (before : Option ℕ) → is_this (page_named change) g ≡ false
     → version_by (gone_of change) g before ≡ before
 not_gone (Puts f t) g before h = refl
 not_gone (Empties f went) g before h = not_gone_by went g before h
 
-pub frames_stay : (change : Change) (former : Option Tenant) (t : Tenant) (ns : List ℕ) → is_page (page_at_frame former) (page_of t) ≡ false
-    → is_page (page_named change) (page_of t) ≡ false → frames_with change former t ns ≡ ns
+pub frames_stay : (change : Change) (former : Option Tenant) (t : Tenant) (ns : List ℕ) → is_this (page_at_frame former) (page_of_tenant t) ≡ false
+    → is_this (page_named change) (page_of_tenant t) ≡ false → frames_with change former t ns ≡ ns
 frames_stay change former t ns a b =
-    rw (other_tenant (tenant_of change) t (not_put change (page_of t) b), other_tenant former t a) refl
+    rw (other_tenant (tenant_of change) t (not_put change (page_of_tenant t) b), other_tenant former t a) refl
 
 -- a page that is neither the former one of the frame nor named stays where it is
 pub place_stays : (old new : Places) (change : Change) (g : Page) → Makes old change new
-    → is_page (page_at_frame (tenant_in old (frame_changed change))) g ≡ false → is_page (page_named change) g ≡ false
+    → is_this (page_at_frame (tenant_in old (frame_changed change))) g ≡ false → is_this (page_named change) g ≡ false
     → place_in new g ≡ place_in old g
 place_stays old new change g makes a b =
     let former = tenant_in old (frame_changed change) in
@@ -85,19 +86,19 @@ told_own page g (Some to) h = rw h refl
 
 module _ (old new : Places) where
   -- of one page, what is told of another one
-  none_told : (x : Option Page) (g : Page) → is_page x g ≡ false → move_of (move_in new (seen_in old x)) g ≡ []
+  none_told : (x : Option Page) (g : Page) → is_this x g ≡ false → move_of (move_in new (seen_in old x)) g ≡ []
   none_told None g h = refl
   none_told (Some page) g h = told_other page g (moved (place_in old page) (place_in new page)) h
 
   -- .. and of itself
-  own_told : (x : Option Page) (g : Page) → is_page x g ≡ true
+  own_told : (x : Option Page) (g : Page) → is_this x g ≡ true
       → move_of (move_in new (seen_in old x)) g ≡ option_to_list (moved (place_in old g) (place_in new g))
   own_told None g h = absurd (false≢true h)
   own_told (Some page) g h =
       told_own page g (moved (place_in old page) (place_in new page)) h
       ∙ ap (λ p. option_to_list (moved (place_in old p) (place_in new p))) (same_pages page g h)
 
-unless_true : (former : Option Page) (page g : Page) → is_page former g ≡ true → is_page (unless_same former page) g ≡ false
+unless_true : (former : Option Page) (page g : Page) → is_this former g ≡ true → is_this (unless_same former page) g ≡ false
 unless_true None page g h = absurd (false≢true h)
 unless_true (Some a) page g h =
     elim (tested (same_page a page)) [
@@ -105,8 +106,8 @@ unless_true (Some a) page g h =
       | inr differ ↦ rw differ (ap (same_page page) (sym (same_pages a g h)) ∙ same_page-swap page a ∙ differ)
     ]
 
-unless_false : (former : Option Page) (page g : Page) → is_page former g ≡ false
-    → is_page (unless_same former page) g ≡ same_page page g
+unless_false : (former : Option Page) (page g : Page) → is_this former g ≡ false
+    → is_this (unless_same former page) g ≡ same_page page g
 unless_false None page g h = refl
 unless_false (Some a) page g h =
     elim (tested (same_page a page)) [
@@ -115,26 +116,26 @@ unless_false (Some a) page g h =
     ]
 
 -- a page is told of once
-pub other_true : (former named : Option Page) (g : Page) → is_page former g ≡ true → is_page (other_than former named) g ≡ false
+pub other_true : (former named : Option Page) (g : Page) → is_this former g ≡ true → is_this (other_than former named) g ≡ false
 other_true former None g h = refl
 other_true former (Some page) g h = unless_true former page g h
 
-pub other_false : (former named : Option Page) (g : Page) → is_page former g ≡ false
-    → is_page (other_than former named) g ≡ is_page named g
+pub other_false : (former named : Option Page) (g : Page) → is_this former g ≡ false
+    → is_this (other_than former named) g ≡ is_this named g
 other_false former None g h = refl
 other_false former (Some page) g h = unless_false former page g h
 
 -- what is told of the former page and of the named one is what became of each page
 pub told : (old new : Places) (former named : Option Page)
-    → ((g : Page) → is_page former g ≡ false → is_page named g ≡ false → place_in new g ≡ place_in old g) → (g : Page)
+    → ((g : Page) → is_this former g ≡ false → is_this named g ≡ false → place_in new g ≡ place_in old g) → (g : Page)
     → (move_of (move_in new (seen_in old former)) g ++ move_of (move_in new (seen_in old (other_than former named))) g)
     ≡ option_to_list (moved (place_in old g) (place_in new g))
 told old new former named stays g =
-    elim (tested (is_page former g)) [
+    elim (tested (is_this former g)) [
       | inl a ↦
           rw (own_told old new former g a, none_told old new (other_than former named) g (other_true former named g a))
           (append-nil (option_to_list (moved (place_in old g) (place_in new g))))
-      | inr a ↦ elim (tested (is_page named g)) [
+      | inr a ↦ elim (tested (is_this named g)) [
         | inl b ↦
             rw (none_told old new former g a)
             (own_told old new (other_than former named) g (other_false former named g a ∙ b))

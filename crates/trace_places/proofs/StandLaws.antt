@@ -8,7 +8,7 @@ use Rattle.trace_places.specs.declared.change.Tenant.TheVariants.{Has, Awaits}
 use Rattle.trace_places.specs.declared.change.Change.{Change}
 use Rattle.trace_places.specs.declared.places.Places.{Places}
 use Rattle.trace_places.specs.Places.{change_after, change_by, frame_changed, tenant_of, tenant_after, tenant, is_tenant}
-use Rattle.trace_places.specs.Places.{put_in, take_out, frames_after, frames, gone_after, gone_last, va_number, least, where_by, place_of}
+use Rattle.trace_places.specs.Places.{put_in, take_out, frames_after, frames_having, gone_after, gone_last, va_number, least, where_by, place_of}
 use Rattle.trace_places.specs.inner.Frames.{frames_in}
 use Rattle.trace_places.specs.inner.Tables.{tenant_in, gone_in, place_in, Stands, frames_with}
 use Rattle.trace_places.proofs.RisingLaws.{take_absent}
@@ -33,11 +33,11 @@ frames_left false n true ns h = refl
 frames_left false n false ns h = sym (h refl)
 
 pub frames_made : (past : List Entry) (change : Change) (t : Tenant)
-    → frames_with change (tenant past (frame_changed change)) t (frames past t) ≡ frames_after (Some change) t (frames past t)
+    → frames_with change (tenant past (frame_changed change)) t (frames_having past t) ≡ frames_after (Some change) t (frames_having past t)
 frames_made past change t =
     let f = frame_changed change in
-    frames_left (is_tenant (tenant_of change) t) f (is_tenant (tenant past f) t) (frames past t)
-    (λ no. take_absent f (frames past t) ((are_frames past t).among f ∙ no))
+    frames_left (is_tenant (tenant_of change) t) f (is_tenant (tenant past f) t) (frames_having past t)
+    (λ no. take_absent f (frames_having past t) ((are_frames past t).among f ∙ no))
 
 -- an entry that changes something
 pub stands_after : (old new : Places) (past : List Entry) (e : Entry) (change : Change) → Stands old past
@@ -53,7 +53,7 @@ stands_after old new past e change s changes tenants lists gone next =
       frames = λ t. lists t
           ∙ ap (λ x. frames_with change x t (frames_in old.frames t)) (s.tenants (frame_changed change))
           ∙ ap (frames_with change (tenant past (frame_changed change)) t) (s.frames t)
-          ∙ frames_made past change t ∙ ap (λ o. frames_after o t (frames past t)) is;
+          ∙ frames_made past change t ∙ ap (λ o. frames_after o t (frames_having past t)) is;
       gone = λ g. gone g ∙ ap (gone_after (Some change) g) (s.gone g) ∙ ap (λ o. gone_after o g (gone_last past g)) is;
       next_va = next;
     }
@@ -67,7 +67,7 @@ stands_still old new past e s changes tenants lists gone next =
     let is : None ≡ change_after past e = sym changes ∙ ap (change_by e.event) s.next_va in
     record {
       tenants = λ n. tenants n ∙ s.tenants n ∙ ap (λ o. tenant_after o n (tenant past n)) is;
-      frames = λ t. lists t ∙ s.frames t ∙ ap (λ o. frames_after o t (frames past t)) is;
+      frames = λ t. lists t ∙ s.frames t ∙ ap (λ o. frames_after o t (frames_having past t)) is;
       gone = λ g. gone g ∙ s.gone g ∙ ap (λ o. gone_after o g (gone_last past g)) is;
       next_va = next;
     }

@@ -17,7 +17,7 @@ use Rattle.sgx_rules.specs.declared.entries.Event.TheVariants.{Did, Refused}
 use Rattle.sgx_rules.specs.declared.refusals.Refusal.TheVariants as why
 use Rattle.trace_places.specs.declared.change.Tenant.TheVariants.{Has, Awaits}
 use Rattle.trace_places.specs.declared.moves.Where.TheVariants.{Nowhere, At, Loading, Sealed}
-use Rattle.trace_places.specs.Places.{va_number, tenant, frames, gone_last, place_of, moved_by}
+use Rattle.trace_places.specs.Places.{va_number, tenant, frames_having, gone_last, place_of, moved_by}
 
 -- ---- entries in short
 
@@ -135,14 +135,14 @@ moves_no_other = refl
 abbrev in_two : List Entry
 in_two = adds 2 2 ∷ adds 3 2 ∷ []
 
-both_frames : frames in_two (Has two) ≡ 2 ∷ 3 ∷ []
+both_frames : frames_having in_two (Has two) ≡ 2 ∷ 3 ∷ []
 both_frames = refl
 
 lesser_counts : place_of in_two two ≡ At (frame 2)
 lesser_counts = refl
 
 -- the order in which they came is of no account
-order_is_free : frames (adds 3 2 ∷ adds 2 2 ∷ []) (Has two) ≡ 2 ∷ 3 ∷ []
+order_is_free : frames_having (adds 3 2 ∷ adds 2 2 ∷ []) (Has two) ≡ 2 ∷ 3 ∷ []
 order_is_free = refl
 
 greater_moves_nothing : moved_by (adds 2 2 ∷ []) (adds 3 2) two ≡ None

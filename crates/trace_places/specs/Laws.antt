@@ -14,13 +14,13 @@ use Rattle.trace_places.specs.declared.change.Tenant.{Tenant}
 use Rattle.trace_places.specs.declared.change.Tenant.TheVariants.{Has, Awaits}
 use Rattle.trace_places.specs.declared.moves.Where.{Where}
 use Rattle.trace_places.specs.declared.moves.Where.TheVariants.{Nowhere, At, Loading, Sealed}
-use Rattle.trace_places.specs.Places.{va_number, tenant, is_tenant, frames, gone_last}
+use Rattle.trace_places.specs.Places.{va_number, tenant, is_tenant, frames_having, gone_last}
 
 -- ---- the frames of a tenant
 
-abbrev pub is_among : List ℕ → ℕ → Bool
-is_among [] n = false
-is_among (m ∷ ms) n = (m == n) || is_among ms n
+abbrev pub has_number : List ℕ → ℕ → Bool
+has_number [] n = false
+has_number (m ∷ ms) n = (m == n) || has_number ms n
 
 -- the numbers are above this one, and each is above the one before it
 abbrev pub RiseFrom : ℕ → List ℕ → Type 0
@@ -33,8 +33,8 @@ IsRising (m ∷ ms) = RiseFrom m ms
 
 -- the frames of a tenant are those that it has, and rise
 pub record AreFrames (past : List Entry) (t : Tenant) : Type 0 where
-  pub among : (n : ℕ) → is_among (frames past t) n ≡ is_tenant (tenant past n) t
-  pub rising : IsRising (frames past t)
+  pub among : (n : ℕ) → has_number (frames_having past t) n ≡ is_tenant (tenant past n) t
+  pub rising : IsRising (frames_having past t)
 
 -- ---- where a page is
 
@@ -49,11 +49,11 @@ pub record IsLeast (past : List Entry) (t : Tenant) (n : ℕ) : Type 0 where
 
 -- a page is at the least frame that has it; else awaited by the least that awaits it; else sealed under the last version with which
 -- it went out; else it never went out
-abbrev pub IsPlace : List Entry → Page → Where → Type 0
-IsPlace past g (At f) = IsLeast past (Has g) f.0
-IsPlace past g (Loading f) = HasNone past (Has g) × IsLeast past (Awaits g) f.0
-IsPlace past g (Sealed v) = HasNone past (Has g) × HasNone past (Awaits g) × (gone_last past g ≡ Some v)
-IsPlace past g Nowhere = HasNone past (Has g) × HasNone past (Awaits g) × (gone_last past g ≡ None)
+abbrev pub IsWhere : List Entry → Page → Where → Type 0
+IsWhere past g (At f) = IsLeast past (Has g) f.0
+IsWhere past g (Loading f) = HasNone past (Has g) × IsLeast past (Awaits g) f.0
+IsWhere past g (Sealed v) = HasNone past (Has g) × HasNone past (Awaits g) × (gone_last past g ≡ Some v)
+IsWhere past g Nowhere = HasNone past (Has g) × HasNone past (Awaits g) × (gone_last past g ≡ None)
 
 -- ---- what a frame holds, as the rules of the machine have it
 

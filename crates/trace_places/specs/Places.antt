@@ -21,6 +21,7 @@ use Rattle.trace_places.specs.declared.change.Change.{Change}
 use Rattle.trace_places.specs.declared.change.Change.TheVariants.{Puts, Empties}
 use Rattle.trace_places.specs.declared.moves.Where.{Where}
 use Rattle.trace_places.specs.declared.moves.Where.TheVariants.{Nowhere, At, Loading, Sealed}
+use Rattle.sgx_rules.specs.Frames.{is_this}
 
 -- ---- what an entry changes
 
@@ -39,9 +40,9 @@ va_change f (Some number) = put f 0 number
 va_change f None = Empties f None
 
 -- a load into a frame that is done brings the page that it answers
-abbrev pub loaded : Frame → Answer → Option Change
-loaded f (Moved page version tag) = Some (Puts f (Has page))
-loaded f answer = None
+abbrev pub load_puts : Frame → Answer → Option Change
+load_puts f (Moved page version tag) = Some (Puts f (Has page))
+load_puts f answer = None
 
 -- the page that a done write-out tells of as sealed
 abbrev pub gone_by : Answer → Option Gone
@@ -54,7 +55,7 @@ done_change (Epa f) answer va = Some (va_change f va)
 done_change (Create enclave f base size) answer va = Some (put f enclave 4294967295)
 done_change (Add enclave number f kind perm init) answer va = Some (put f enclave number)
 done_change (EldStart f page slot) answer va = Some (Puts f (Awaits page))
-done_change (Eld f) answer va = loaded f answer
+done_change (Eld f) answer va = load_puts f answer
 done_change (Ewb f) answer va = Some (Empties f (gone_by answer))
 done_change action answer va = None
 
@@ -120,9 +121,9 @@ frames_after (Some change) t before =
     if is_tenant (tenant_of change) t then put_in (frame_changed change) before else take_out (frame_changed change) before
 
 -- the frames that have a page, or that await it, rising
-abbrev pub frames : List Entry → Tenant → List ℕ
-frames [] t = []
-frames (e ∷ past) t = frames_after (change_after past e) t (frames past t)
+abbrev pub frames_having : List Entry → Tenant → List ℕ
+frames_having [] t = []
+frames_having (e ∷ past) t = frames_after (change_after past e) t (frames_having past t)
 
 -- the first of numbers, which is the least where they rise
 abbrev pub least : List ℕ → Option ℕ
@@ -153,7 +154,7 @@ where_by None None None = Nowhere
 
 -- where a page is. Where two frames have it, or await it, the lesser one counts
 abbrev pub place_of : List Entry → Page → Where
-place_of past g = where_by (least (frames past (Has g))) (least (frames past (Awaits g))) (gone_last past g)
+place_of past g = where_by (least (frames_having past (Has g))) (least (frames_having past (Awaits g))) (gone_last past g)
 
 -- ---- moves
 
@@ -174,14 +175,14 @@ moved_by past e g = moved (place_of past g) (place_of (e ∷ past) g)
 
 -- ---- the pages of a change
 
-abbrev pub page_of : Tenant → Page
-page_of (Has g) = g
-page_of (Awaits g) = g
+abbrev pub page_of_tenant : Tenant → Page
+page_of_tenant (Has g) = g
+page_of_tenant (Awaits g) = g
 
 -- the page of a frame's tenant
 abbrev pub page_at_frame : Option Tenant → Option Page
 page_at_frame None = None
-page_at_frame (Some t) = Some (page_of t)
+page_at_frame (Some t) = Some (page_of_tenant t)
 
 abbrev pub gone_page : Option Gone → Option Page
 gone_page None = None
@@ -189,15 +190,11 @@ gone_page (Some went) = Some went.page
 
 -- the page that a change names
 abbrev pub page_named : Change → Option Page
-page_named (Puts f t) = Some (page_of t)
+page_named (Puts f t) = Some (page_of_tenant t)
 page_named (Empties f went) = gone_page went
 
-abbrev pub is_page : Option Page → Page → Bool
-is_page None g = false
-is_page (Some page) g = same_page page g
-
 abbrev pub unless_same : Option Page → Page → Option Page
-unless_same former g = if is_page former g then None else Some g
+unless_same former g = if is_this former g then None else Some g
 
 -- a page, None where it is the former one
 abbrev pub other_than : Option Page → Option Page → Option Page

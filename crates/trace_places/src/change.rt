@@ -2,8 +2,8 @@
 
 ghost use Rattle.std.specs.Prelude.{◌≡◌, ℕ};
 ghost use Rattle.sgx_rules.specs.Frames.{vas_after};
-ghost use Rattle.trace_places.specs.Places.{page_of, gone_page, page_named, other_than};
-ghost use Rattle.trace_places.specs.Places.{frame_changed, change_by, done_change, put, va_change, loaded, gone_by, va_number};
+ghost use Rattle.trace_places.specs.Places.{page_of_tenant, gone_page, page_named, other_than};
+ghost use Rattle.trace_places.specs.Places.{frame_changed, change_by, done_change, put, va_change, load_puts, gone_by, va_number};
 
 use sgx_rules::entries::{Action, Answer, Event};
 use sgx_types::names::{Frame, Page};
@@ -17,7 +17,7 @@ pub enum Tenant {
 
 impl Tenant {
     pub(crate) fn page(&self) -> Page
-        ensures { result ≡ page_of self.now }
+        ensures { result ≡ page_of_tenant self.now }
     {
         match *self {
             Tenant::Has(page) => page,
@@ -142,7 +142,7 @@ fn va_change(frame: Frame, next_va: Option<u32>) -> Change
 }
 
 fn loaded(frame: Frame, answer: &Answer) -> Option<Change>
-    ensures { result ≡ loaded frame answer.now }
+    ensures { result ≡ load_puts frame answer.now }
 {
     match *answer {
         Answer::Moved { page, .. } => Some(put(frame, page.enclave, page.number)),

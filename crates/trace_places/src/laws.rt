@@ -4,14 +4,14 @@ ghost use Rattle.std.specs.Prelude.{◌≡◌, ℕ, List};
 ghost use Rattle.sgx_rules.specs.declared.entries.Entry.{Entry};
 ghost use Rattle.sgx_types.specs.declared.names.Page.{Page};
 ghost use Rattle.sgx_rules.specs.Frames.{content};
-ghost use Rattle.trace_places.specs.Laws.{IsPlace, LoadsAdded, tenant_by};
+ghost use Rattle.trace_places.specs.Laws.{IsWhere, LoadsAdded, tenant_by};
 ghost use Rattle.trace_places.specs.Places.{tenant, place_of};
 
 /// Whatever was done, a page is at the least frame that has it, else at the least that awaits it, else sealed under the last version
 /// with which it went out, else nowhere.
 #[tactic(auto, using(crate::proofs::FoldLaws::is_place))]
 pub fn places_are_least()
-    ensures { (past : List Entry) (g : Page) → IsPlace past g (place_of past g) }
+    ensures { (past : List Entry) (g : Page) → IsWhere past g (place_of past g) }
 {}
 
 /// Where each load that ended brought a page that was added, as in each trace that keeps the machine's rules, a frame has or awaits

@@ -10,7 +10,7 @@ use Rattle.trace_places.specs.declared.moves.Where.{Where}
 use Rattle.trace_places.specs.declared.moves.Where.TheVariants.{Nowhere, At, Loading, Sealed}
 use Rattle.trace_places.specs.Places.{same_where, moved, moved_by, place_of}
 use Rattle.trace_query.specs.declared.page_moves.Move.{Move}
-use Rattle.trace_query.specs.Moves.{before, moves_at, moves}
+use Rattle.trace_query.specs.Moves.{first_entries, moves_at, moves}
 use Rattle.trace_query.specs.inner.Lists.{at_place_from, at_place, Rises}
 use Rattle.trace_spans.proofs.LastLaws.{last_append}
 
@@ -105,19 +105,19 @@ drop_none : (k : ℕ) → drop {A = Entry} k [] ≡ []
 drop_none zero = refl
 drop_none (suc k) = refl
 
-pub before_more : (e : Entry) (past : List Entry) (n : ℕ) → n ≤ length past → before n (e ∷ past) ≡ before n past
+pub before_more : (e : Entry) (past : List Entry) (n : ℕ) → n ≤ length past → first_entries n (e ∷ past) ≡ first_entries n past
 before_more e past n le =
     let more : length (e ∷ past) - n ≡ suc (length past - n) = omega (arith, le) in
     ap (λ k. drop k (e ∷ past)) more
 
-pub before_all : (past : List Entry) (n : ℕ) → length past ≤ n → before n past ≡ past
+pub before_all : (past : List Entry) (n : ℕ) → length past ≤ n → first_entries n past ≡ past
 before_all past n le =
     let none : length past - n ≡ zero = omega (arith, le) in
     ap (λ k. drop k past) none
 
 -- ---- all entries
 
-pub place_before : (past : List Entry) (g : Page) (n : ℕ) → at_place (moves past g) n ≡ place_of (before n past) g
+pub place_before : (past : List Entry) (g : Page) (n : ℕ) → at_place (moves past g) n ≡ place_of (first_entries n past) g
 place_before [] g n = ap (λ past. place_of past g) (sym (drop_none (length {A = Entry} [] - n)))
 place_before (e ∷ past) g n =
     let was = moves past g in

@@ -9,7 +9,7 @@ use Rattle.sgx_rules.specs.declared.entries.Entry.{Entry}
 use Rattle.sgx_types.specs.Pages.{page_at}
 use Rattle.trace_spans.specs.declared.span_lists.Span.{Span}
 use Rattle.trace_spans.specs.declared.span_lists.SpanKey.{SpanKey}
-use Rattle.trace_query.specs.Moves.{before}
+use Rattle.trace_query.specs.Moves.{first_entries}
 use Rattle.sgx_types.specs.declared.names.Page.{Page}
 use Rattle.trace_query.specs.declared.page_spans.PageSpans.{PageSpans}
 use Rattle.trace_query.specs.Spans.{caches, cachers_before, cachers}
@@ -154,7 +154,7 @@ settled_not_yet false s place n lt = ended_not_yet false s place n lt
 -- ---- all entries
 
 pub cached_before : (past : List Entry) (q : SpanKey) (n : ℕ)
-    → cached_at (spans past q) n ≡ caches (before n past) q.cpu (page_at q.enclave q.number)
+    → cached_at (spans past q) n ≡ caches (first_entries n past) q.cpu (page_at q.enclave q.number)
 cached_before [] q n = ap (λ h. caches h q.cpu (page_at q.enclave q.number)) (sym (before_all [] n (omega arith)))
 cached_before (e ∷ past) q n =
     elim (cases_lt (length past) n) [
@@ -188,9 +188,9 @@ no_cachers k (suc n) past g le none =
 
 -- no processor beyond those that cached a page is among the cachers
 pub none_beyond : (known : PageSpans) (past : List Entry) (n : ℕ) (g : Page) (k : ℕ) → Follows known past → k ≡ up_to known.lists.last
-    → k ≤ 256 → cachers_before k (before n past) g ≡ cachers (before n past) g
+    → k ≤ 256 → cachers_before k (first_entries n past) g ≡ cachers (first_entries n past) g
 none_beyond known past n g k f is most =
-    no_cachers k 256 (before n past) g most
+    no_cachers k 256 (first_entries n past) g most
     (λ p le.
     sym (cached_before past (key_of p g.enclave g.number) n)
     ∙ ap (λ spans. cached_at spans n)

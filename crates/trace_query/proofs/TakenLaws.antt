@@ -9,7 +9,7 @@ use Rattle.sgx_rules.specs.declared.entries.Action.{Action}
 use Rattle.sgx_rules.specs.declared.entries.Action.TheVariants.{Epa, Fill, Block, Track, EwbStart, Ewb, EldStart, Eld}
 use Rattle.sgx_rules.specs.declared.entries.Answer.{Answer}
 use Rattle.sgx_rules.specs.declared.refusals.Refusal.{Refusal}
-use Rattle.sgx_rules.specs.Table.{first_of_row}
+use Rattle.sgx_types.specs.Cases.{first_of_row}
 use Rattle.sgx_rules.specs.Flat.{FlatMemory, is_visible, is_processors, accepts, memory_after}
 use Rattle.flat_machine.specs.declared.reply.FlatReply.{FlatReply}
 use Rattle.flat_machine.specs.declared.reply.FlatReply.TheVariants.{Did, Refused}

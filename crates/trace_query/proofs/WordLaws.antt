@@ -15,11 +15,11 @@ use Rattle.flat_words.specs.declared.writes.NewPage.{NewPage}
 use Rattle.flat_words.specs.declared.writes.WordAt.{WordAt}
 use Rattle.flat_words.specs.declared.writes.Writes.{Writes}
 use Rattle.flat_words.specs.Words.{word_of, word_in, word}
-use Rattle.flat_words.specs.Writes.{is_word, is_touched, touched, added_by, word_with}
+use Rattle.flat_words.specs.Writes.{is_word, is_touched, touched, page_added, word_with}
 use Rattle.flat_words.proofs.WriteLaws.{words_after, added_or_kept, none_before}
 use Rattle.trace_query.specs.declared.page_words.Added.{Added}
 use Rattle.trace_query.specs.declared.word_lists.Change.{Change}
-use Rattle.trace_query.specs.Moves.{before}
+use Rattle.trace_query.specs.Moves.{first_entries}
 use Rattle.trace_query.specs.inner.WordLists.{same_word, word_at, value_at, Rises}
 use Rattle.trace_query.specs.inner.Written.{change_to, noted, changes_with, changes, added_with, added, word_by}
 use Rattle.trace_spans.proofs.LastLaws.{last_append}
@@ -179,11 +179,11 @@ both_added (Some x) place g k o p h =
 pub is_added : (past : List Entry) (g : Page) (k : ℕ) → is_some (added past g) ≡ is_some (word past g k)
 is_added [] g k = refl
 is_added (e ∷ past) g k =
-    both_added (added_by (flat past) e.actor e.event) (length past + 1) g k (added past g) (word past g k) (is_added past g k)
+    both_added (page_added (flat past) e.actor e.event) (length past + 1) g k (added past g) (word past g k) (is_added past g k)
     ∙ sym (added_or_kept (flat past) e g k)
 
 -- a page that is added was not there
-new_page : (past : List Entry) (e : Entry) (x : NewPage) (g : Page) → added_by (flat past) e.actor e.event ≡ Some x
+new_page : (past : List Entry) (e : Entry) (x : NewPage) (g : Page) → page_added (flat past) e.actor e.event ≡ Some x
     → same_page (page_at x.enclave x.number) g ≡ true → is_some (added past g) ≡ false
 new_page past e x g is same =
     is_added past g 0
@@ -215,7 +215,7 @@ added_by_end [] g = tt
 added_by_end (e ∷ past) g =
     let By : ℕ → Type 0 = λ b. IsBy b (added (e ∷ past) g) in
     let more : length past + 1 ≡ length (e ∷ past) = omega arith in
-    subst By more (by_with (added_by (flat past) e.actor e.event) (length past) g (added past g) (added_by_end past g))
+    subst By more (by_with (page_added (flat past) e.actor e.event) (length past) g (added past g) (added_by_end past g))
 
 -- ---- a page that was not added has no changes
 
@@ -236,7 +236,7 @@ no_changes (e ∷ past) g k h =
     let m = flat (e ∷ past) in
     let writes = touched (flat past) e.actor e.event in
     let none : is_some (word_in m g k) ≡ false = sym (is_added (e ∷ past) g k) ∙ h in
-    let was = no_changes past g k (none_with (added_by (flat past) e.actor e.event) place g (added past g) h) in
+    let was = no_changes past g k (none_with (page_added (flat past) e.actor e.event) place g (added past g) h) in
     let one = says_none place (word_in m g k) (noted place m writes.first (word_at g k)) none (noted_says place m writes.first g k) in
     let two = says_none place (word_in m g k) (noted place m writes.second (word_at g k)) none (noted_says place m writes.second g k) in
     (λ i. (was i ++ one i) ++ two i)
@@ -357,13 +357,13 @@ behind_entry true e past g n k touches le was =
 behind_entry false e past g n k none le was =
     ap (λ xs. word_by (added (e ∷ past) g) xs n k)
     (not_written (length past + 1) (flat (e ∷ past)) (touched (flat past) e.actor e.event) (changes past (word_at g k)) g k none)
-    ∙ kept_or_new (added_by (flat past) e.actor e.event) (length past + 1) g (added past g) (changes past (word_at g k)) n k le
+    ∙ kept_or_new (page_added (flat past) e.actor e.event) (length past + 1) g (added past g) (changes past (word_at g k)) n k le
     (λ x is same. no_changes past g k (new_page past e x g is same))
-    ∙ ap (word_with (added_by (flat past) e.actor e.event) g k) was
+    ∙ ap (word_with (page_added (flat past) e.actor e.event) g k) was
     ∙ sym (words_after (flat past) e g k none)
 
 pub word_before : (past : List Entry) (g : Page) (n k : ℕ)
-    → word_by (added past g) (changes past (word_at g k)) n k ≡ word (before n past) g k
+    → word_by (added past g) (changes past (word_at g k)) n k ≡ word (first_entries n past) g k
 word_before [] g n k = ap (λ past. word past g k) (sym (before_all [] n (omega arith)))
 word_before (e ∷ past) g n k =
     elim (cases_lt (length past) n) [
@@ -374,7 +374,7 @@ word_before (e ∷ past) g n k =
       | inr up ↦
           found_before (added (e ∷ past) g) (changes (e ∷ past) (word_at g k)) (changes past (word_at g k)) n k
           (λ first. same_before e past g n k first up)
-          ∙ not_yet_added (added_by (flat past) e.actor e.event) (length past + 1) g (added past g) (changes past (word_at g k)) n k
+          ∙ not_yet_added (page_added (flat past) e.actor e.event) (length past + 1) g (added past g) (changes past (word_at g k)) n k
           (omega (arith, up)) (λ x is same. new_page past e x g is same)
           ∙ word_before past g n k
           ∙ ap (λ q. word q g k) (sym (before_more e past n up))

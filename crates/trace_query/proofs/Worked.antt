@@ -19,7 +19,7 @@ use Rattle.trace_places.specs.declared.moves.Where.{Where}
 use Rattle.trace_places.specs.declared.moves.Where.TheVariants.{Nowhere, At, Loading, Sealed}
 use Rattle.trace_places.specs.Places.{place_of}
 use Rattle.trace_query.specs.declared.page_moves.Move.{Move}
-use Rattle.trace_query.specs.Moves.{before, moves}
+use Rattle.trace_query.specs.Moves.{first_entries, moves}
 use Rattle.trace_query.specs.Spans.{cachers}
 
 abbrev frame : ℕ → Frame
@@ -54,19 +54,19 @@ moves_of_two = refl
 none_of_three : moves entries (page_at 1 3) ≡ []
 none_of_three = refl
 
-first_three : length (before 3 entries) ≡ 3
+first_three : length (first_entries 3 entries) ≡ 3
 first_three = refl
 
-before_all : place_of (before 0 entries) two ≡ Nowhere
+before_all : place_of (first_entries 0 entries) two ≡ Nowhere
 before_all = refl
 
-behind_two : place_of (before 2 entries) two ≡ At (frame 4)
+behind_two : place_of (first_entries 2 entries) two ≡ At (frame 4)
 behind_two = refl
 
-behind_three : place_of (before 3 entries) two ≡ Sealed 7
+behind_three : place_of (first_entries 3 entries) two ≡ Sealed 7
 behind_three = refl
 
-behind_all : place_of (before 7 entries) two ≡ At (frame 3)
+behind_all : place_of (first_entries 7 entries) two ≡ At (frame 3)
 behind_all = refl
 
 -- ---- the trace of a whole run
@@ -98,18 +98,18 @@ run =
 run_moves : moves run two ≡ to 5 (At (frame 4)) ∷ []
 run_moves = refl
 
-at_nine : place_of (before 9 run) two ≡ At (frame 4)
+at_nine : place_of (first_entries 9 run) two ≡ At (frame 4)
 at_nine = refl
 
-cached_at_nine : cachers (before 9 run) two ≡ record { 0 = 0 } ∷ []
+cached_at_nine : cachers (first_entries 9 run) two ≡ record { 0 = 0 } ∷ []
 cached_at_nine = refl
 
-cached_at_ten : cachers (before 10 run) two ≡ []
+cached_at_ten : cachers (first_entries 10 run) two ≡ []
 cached_at_ten = refl
 
-word_at_nine : word (before 9 run) two 0 ≡ Some 7
+word_at_nine : word (first_entries 9 run) two 0 ≡ Some 7
 unfolding lib.Count.ones
 word_at_nine = refl
 
-word_at_first : word (before 0 run) two 0 ≡ None
+word_at_first : word (first_entries 0 run) two 0 ≡ None
 word_at_first = refl

@@ -2,7 +2,7 @@
 use Rattle.std.proofs.Common.{◌≡◌, ◌+◌, ◌++◌, List, ◌∷◌, length, ap, ◌∙◌, arith}
 use Rattle.std.specs.HashMap.{get}
 use Rattle.flat_machine.specs.inner.Parts.{memory_of}
-use Rattle.flat_words.specs.Writes.{touched, added_by}
+use Rattle.flat_words.specs.Writes.{touched, page_added}
 use Rattle.sgx_rules.specs.declared.entries.Entry.{Entry}
 use Rattle.sgx_rules.specs.Flat.{flat, event_after}
 use Rattle.sgx_types.specs.declared.names.Page.{Page}
@@ -36,7 +36,7 @@ pub record Counts (old new : PageWords) : Type 0 where
 
 pub follows_more : (old took counted paged one two : PageWords) (e : Entry) (past : List Entry) (taken : Taken) → Follows old past
     → Takes old (event_after e.actor e.event (memory_of old.flat)) (touched (memory_of old.flat) e.actor e.event)
-    (added_by (memory_of old.flat) e.actor e.event) taken took
+    (page_added (memory_of old.flat) e.actor e.event) taken took
     → Counts took counted → NotesPage counted taken paged → Notes paged taken.writes.first one → Notes one taken.writes.second two
     → Follows two (e ∷ past)
 follows_more old took counted paged one two e past taken f takes counts page first second =
@@ -46,7 +46,7 @@ follows_more old took counted paged one two e past taken f takes counts page fir
     let one_memory : memory_of one.flat ≡ flat (e ∷ past) = ap memory_of first.memory ∙ paged_memory in
     let writes : taken.writes ≡ touched (flat past) e.actor e.event
     = takes.writes ∙ ap (λ m. touched m e.actor e.event) f.memory in
-    let new_page = takes.page ∙ ap (λ m. added_by m e.actor e.event) f.memory in
+    let new_page = takes.page ∙ ap (λ m. page_added m e.actor e.event) f.memory in
     let place : counted.len ≡ length past + 1 = omega (arith, counts.len, takes.len, f.len) in
     let paged_place : paged.len ≡ length past + 1 = page.len ∙ place in
     let one_place : one.len ≡ length past + 1 = first.len ∙ paged_place in

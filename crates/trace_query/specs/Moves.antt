@@ -7,8 +7,8 @@ use Rattle.trace_places.specs.Places.{moved_by}
 use Rattle.trace_query.specs.declared.page_moves.Move.{Move}
 
 -- the first n entries
-abbrev pub before : ℕ → List Entry → List Entry
-before n past = drop (length past - n) past
+abbrev pub first_entries : ℕ → List Entry → List Entry
+first_entries n past = drop (length past - n) past
 
 -- moves that are made at one place
 abbrev pub moves_at : ℕ → List Where → List Move

@@ -5,7 +5,7 @@ ghost use Rattle.sgx_rules.specs.declared.entries.Entry.{Entry};
 ghost use Rattle.flat_words.specs.Words.{word};
 ghost use Rattle.trace_places.specs.Places.{place_of};
 ghost use Rattle.trace_query.specs.Index.{Stands};
-ghost use Rattle.trace_query.specs.Moves.{before, moves};
+ghost use Rattle.trace_query.specs.Moves.{first_entries, moves};
 ghost use Rattle.trace_query.specs.Spans.{cachers};
 
 use crate::page_moves::{Move, PageMoves};
@@ -65,14 +65,14 @@ impl Index {
 
     /// Where a page was behind the first `n` entries, or behind all where there are fewer.
     pub fn where_is(&self, n: u64, page: Page) -> Where
-        ensures { (past : List Entry) → Stands self.now past → result ≡ place_of (before n past) page }
+        ensures { (past : List Entry) → Stands self.now past → result ≡ place_of (first_entries n past) page }
     {
         self.moves.where_is(n, page)
     }
 
     /// The processors that cached a page behind the first `n` entries, or behind all where there are fewer, rising.
     pub fn who_caches(&self, alloc: Global, n: u64, page: Page) -> Result<Vec<Cpu>, Memory>
-        ensures { IfOk result (λ cpus. (past : List Entry) → Stands self.now past → cpus.items ≡ cachers (before n past) page) }
+        ensures { IfOk result (λ cpus. (past : List Entry) → Stands self.now past → cpus.items ≡ cachers (first_entries n past) page) }
     {
         self.spans.who_caches(alloc, n, page)
     }
@@ -81,7 +81,7 @@ impl Index {
     /// before. A SECS and a version array page have no words.
     pub fn word_at(&self, n: u64, page: Page, index: u16) -> Option<u64>
         requires { index < 512 }
-        ensures { (past : List Entry) → Stands self.now past → result ≡ word (before n past) page index }
+        ensures { (past : List Entry) → Stands self.now past → result ≡ word (first_entries n past) page index }
     {
         self.words.word_at(n, page, index)
     }

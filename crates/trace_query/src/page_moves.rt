@@ -3,7 +3,7 @@
 ghost use Rattle.std.specs.Prelude.{◌≡◌, ◌∷◌, [], List, length, IfOk, OnOk, OnErr};
 ghost use Rattle.sgx_rules.specs.declared.entries.Entry.{Entry};
 ghost use Rattle.trace_places.specs.Places.{place_of};
-ghost use Rattle.trace_query.specs.Moves.{before, moves};
+ghost use Rattle.trace_query.specs.Moves.{first_entries, moves};
 ghost use Rattle.trace_query.specs.inner.Kept.{Follows, HasRoom, HasRoomIf, Keeps, Notes, HasRoomToNote};
 
 use crate::move_lists::MoveLists;
@@ -52,7 +52,7 @@ impl PageMoves {
     /// Where a page was behind the first `n` entries, or behind all where there are fewer. The SECS of enclave E is asked for as page
     /// 4294967295 of E, and the version array page that was made as the K-th, counted from 0, as page K of enclave 0.
     pub fn where_is(&self, n: u64, page: Page) -> Where
-        ensures { (past : List Entry) → Follows self.now past → result ≡ place_of (before n past) page }
+        ensures { (past : List Entry) → Follows self.now past → result ≡ place_of (first_entries n past) page }
     {
         self.lists.at(n, page)
     }

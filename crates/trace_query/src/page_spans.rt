@@ -3,7 +3,7 @@
 ghost use Rattle.std.specs.Prelude.{◌≡◌, ◌+◌, ◌<◌, ◌^◌, ◌∷◌, [], List, length, IfOk, OnOk, OnErr, Some};
 ghost use Rattle.sgx_rules.specs.declared.entries.Entry.{Entry};
 ghost use Rattle.trace_query.specs.declared.steps.Step.TheVariants as steps;
-ghost use Rattle.trace_query.specs.Moves.{before};
+ghost use Rattle.trace_query.specs.Moves.{first_entries};
 ghost use Rattle.trace_query.specs.Spans.{caches, cachers};
 ghost use Rattle.trace_spans.specs.declared.span_lists.SpanKey.{SpanKey};
 ghost use Rattle.trace_spans.specs.inner.SpanLists.{spans_in, Covers};
@@ -48,7 +48,7 @@ impl PageSpans {
     /// The processors that cached a page behind the first `n` entries, or behind all where there are fewer, rising. The SECS of enclave
     /// E is asked for as page 4294967295 of E.
     pub fn who_caches(&self, alloc: Global, n: u64, page: Page) -> Result<Vec<Cpu>, Memory>
-        ensures { IfOk result (λ cpus. (past : List Entry) → Follows self.now past → cpus.items ≡ cachers (before n past) page) }
+        ensures { IfOk result (λ cpus. (past : List Entry) → Follows self.now past → cpus.items ≡ cachers (first_entries n past) page) }
     {
         let mut cpus = Vec::new(alloc);
         for number in 0..self.lists.cpus() {
@@ -62,7 +62,7 @@ impl PageSpans {
 
     // Whether a processor cached a page behind the first `n` entries.
     fn caches(&self, n: u64, cpu: u8, page: Page) -> bool
-        ensures { (past : List Entry) → Follows self.now past → result ≡ caches (before n past) cpu page }
+        ensures { (past : List Entry) → Follows self.now past → result ≡ caches (first_entries n past) cpu page }
     {
         self.lists.at(
             n,

@@ -8,8 +8,8 @@ ghost use Rattle.sgx_rules.specs.Flat.{first_words, event_after, accepts, is_vis
 ghost use Rattle.flat_machine.specs.inner.Parts.{memory_of};
 ghost use Rattle.flat_machine.specs.inner.Step.{IsItsActor, step_of};
 ghost use Rattle.flat_words.specs.Words.{word};
-ghost use Rattle.flat_words.specs.Writes.{touched, writes_of, nothing, new_page, added_by};
-ghost use Rattle.trace_query.specs.Moves.{before};
+ghost use Rattle.flat_words.specs.Writes.{touched, writes_of, nothing, new_page, page_added};
+ghost use Rattle.trace_query.specs.Moves.{first_entries};
 ghost use Rattle.trace_query.specs.inner.WordLists.{word_at, changes_in, Rises};
 ghost use Rattle.trace_query.specs.inner.Written.{Follows, HasRoomToNote, HasRoomIf, HasRoomForPage, Keeps, Takes, Notes};
 ghost use Rattle.trace_query.specs.inner.Written.{AreIndices, IsIndexIf, added_in, added_with, is_asked, is_processor, word_by};
@@ -83,7 +83,7 @@ impl PageWords {
     /// before. A SECS and a version array page have no words.
     pub fn word_at(&self, n: u64, page: Page, index: u16) -> Option<u64>
         requires { index < 512 }
-        ensures { (past : List Entry) → Follows self.now past → result ≡ word (before n past) page index }
+        ensures { (past : List Entry) → Follows self.now past → result ≡ word (first_entries n past) page index }
     {
         let added = self.added.get(&page_key(page)).copied();
         self.word_by(n, added, page, index)
@@ -128,7 +128,7 @@ impl PageWords {
     fn take(&mut self, alloc: Global, entry: &Entry) -> Result<Taken, Memory>
         ensures takes { IfOk result (λ taken. Takes self.old (event_after entry.now.actor entry.now.event (memory_of self.old.flat))
             (touched (memory_of self.old.flat) entry.now.actor entry.now.event)
-            (added_by (memory_of self.old.flat) entry.now.actor entry.now.event) taken self.new) }
+            (page_added (memory_of self.old.flat) entry.now.actor entry.now.event) taken self.new) }
         ensures room { IfOk result (λ taken. HasRoomToNote self.new taken) }
         ensures indices { IfOk result (λ taken. AreIndices taken.writes) }
         ensures refused { OnErr result (Keeps self.old self.new) }

@@ -9,7 +9,7 @@ use Rattle.sgx_types.specs.declared.names.Actor.TheVariants as actors
 use Rattle.text_words.specs.Words.{Words}
 use Rattle.trace_text.specs.declared.edition.Edition.{Edition}
 use Rattle.trace_text.specs.Readable.{AreReadable, IsReadable}
-use Rattle.trace_text.specs.Fields.{event_fields, words_of}
+use Rattle.trace_text.specs.Fields.{event_fields, words_of_fields}
 use Rattle.trace_text.specs.TraceText.{actor_word, spelling}
 use Rattle.trace_lines.proofs.LineReads.{same_entry}
 use Rattle.trace_reader.specs.declared.lines.Stage.{Stage}
@@ -34,7 +34,7 @@ begins-other (actors.Cpu p) words same = let f : true ≡ false = ap is-e (same 
 module _ (edition : Edition) where
   pub last-no_entry : (e : Entry) (count : ℕ) → last_line count ≡ spelling edition e → ⊥
   unfolding spelling
-  last-no_entry e count same = begins-other e.actor (words_of edition (event_fields e.event)) (ap (take 1) same)
+  last-no_entry e count same = begins-other e.actor (words_of_fields edition (event_fields e.event)) (ap (take 1) same)
 
   -- ---- what a trace has behind some of its entries' lines
 

@@ -4,7 +4,7 @@ use Rattle.std.proofs.Common.{refl, ap, subst, arith}
 use Rattle.sgx_rules.specs.declared.entries.Action.{Action}
 use Rattle.sgx_rules.specs.declared.refusals.Refusal.{Refusal}
 use Rattle.trace_tally.specs.declared.refusals.RefusalCount.{RefusalCount}
-use Rattle.trace_tally.specs.Tally.{is_of, counted, with_refusal}
+use Rattle.trace_tally.specs.Tally.{is_of, one_more, with_refusal}
 
 -- none of the first rows is of this kind
 pub NoneBefore : Action → Refusal → ℕ → List RefusalCount → Type 0
@@ -32,7 +32,7 @@ none_more action why n rows d within before here =
 
 pub counted_here : (action : Action) (why : Refusal) (place n : ℕ) (rows : List RefusalCount) (d : RefusalCount) → n < length rows
     → NoneBefore action why n rows → is_of (get_or rows n d) action why ≡ true
-    → set rows n (counted (get_or rows n d)) ≡ with_refusal action why place rows
+    → set rows n (one_more (get_or rows n d)) ≡ with_refusal action why place rows
 unfolding NoneBefore
 counted_here action why place n [] d within before here = absurd (omega (arith, within))
 counted_here action why place zero (row ∷ rows) d within before here = rw here refl

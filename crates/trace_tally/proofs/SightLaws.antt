@@ -4,7 +4,7 @@ use Rattle.std.proofs.lemmas.Bool.{eqb-true}
 use Rattle.sgx_rules.specs.declared.entries.Entry.{Entry}
 use Rattle.trace_tally.specs.declared.blocks.Blocked.{Blocked}
 use Rattle.trace_tally.specs.declared.blocks.Blocks.{Blocks}
-use Rattle.trace_tally.specs.Tests.{blocked_by, untracked_by, is_frame, is_page_entered, page_in, was_entered, untracked}
+use Rattle.trace_tally.specs.Tests.{blocked_by, untracked_by, is_frame, is_page_entered, tenant_page, was_entered, untracked}
 use Rattle.trace_tally.specs.inner.Blocks.{blocked_in, blocked_after, Follows}
 use Rattle.trace_tally.specs.inner.Sights.{is_blocked_entered}
 
@@ -27,12 +27,12 @@ frame_untracked false true is known count h = ap (λ k. k + 1) h
 frame_untracked false false is known count h = h
 
 entered_if : (o : Option ℕ) (past : List Entry) (n : ℕ) (is was : Bool) → is ≡ is_blocked_entered past o
-    → (if is_frame o n then is else was) ≡ (if is_frame o n then is_page_entered past (page_in past n) else was)
+    → (if is_frame o n then is else was) ≡ (if is_frame o n then is_page_entered past (tenant_page past n) else was)
 entered_if None past n is was h = refl
 entered_if (Some m) past n is was h = by_test (m == n) refl
   where
-    by_test : (b : Bool) → (m == n) ≡ b → (if b then is else was) ≡ (if b then is_page_entered past (page_in past n) else was)
-    by_test true same = h ∙ ap (λ k. is_page_entered past (page_in past k)) (eqb-true m n same)
+    by_test : (b : Bool) → (m == n) ≡ b → (if b then is else was) ≡ (if b then is_page_entered past (tenant_page past n) else was)
+    by_test true same = h ∙ ap (λ k. is_page_entered past (tenant_page past k)) (eqb-true m n same)
     by_test false other = refl
 
 pub blocks_more : (old new : Blocks) (e : Entry) (past : List Entry) (is : Bool) → Follows old past

@@ -43,14 +43,14 @@ abbrev pub is_of : RefusalCount → Action → Refusal → Bool
 is_of row action why =
     same_name (action_name row.action) (action_name action) && same_name (refusal_name row.why) (refusal_name why)
 
-abbrev pub counted : RefusalCount → RefusalCount
-counted row = record { action = row.action; why = row.why; count = row.count + 1; place = row.place }
+abbrev pub one_more : RefusalCount → RefusalCount
+one_more row = record { action = row.action; why = row.why; count = row.count + 1; place = row.place }
 
 -- one refusal more, at this place
 abbrev pub with_refusal : Action → Refusal → ℕ → List RefusalCount → List RefusalCount
 with_refusal action why place [] = record { action = action; why = why; count = 1; place = place } ∷ []
 with_refusal action why place (row ∷ rows) =
-    if is_of row action why then counted row ∷ rows else row ∷ with_refusal action why place rows
+    if is_of row action why then one_more row ∷ rows else row ∷ with_refusal action why place rows
 
 abbrev pub refusals_with : Event → ℕ → List RefusalCount → List RefusalCount
 refusals_with (Refused action why) place rows = with_refusal action why place rows

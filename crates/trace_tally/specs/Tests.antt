@@ -10,14 +10,15 @@ use Rattle.sgx_rules.specs.declared.entries.Answer.TheVariants.{Moved}
 use Rattle.sgx_rules.specs.declared.refusals.Refusal.{Refusal}
 use Rattle.sgx_rules.specs.declared.refusals.Refusal.TheVariants.{EpochSpent, VersionSpent, NotTracked}
 use Rattle.sgx_types.specs.declared.names.Page.{Page}
-use Rattle.trace_places.specs.Places.{tenant, page_at_frame, is_page}
+use Rattle.trace_places.specs.Places.{tenant, page_at_frame}
+use Rattle.sgx_rules.specs.Frames.{is_this}
 use Rattle.trace_query.specs.Spans.{is_entered, is_cached}
 
 -- ---- the page of a frame
 
 -- the page that a frame has or awaits
-abbrev pub page_in : List Entry → ℕ → Option Page
-page_in past n = page_at_frame (tenant past n)
+abbrev pub tenant_page : List Entry → ℕ → Option Page
+tenant_page past n = page_at_frame (tenant past n)
 
 abbrev pub is_page_entered : List Entry → Option Page → Bool
 is_page_entered past None = false
@@ -46,7 +47,7 @@ is_frame (Some m) n = m == n
 -- when the frame was blocked last, a processor was inside the enclave of its page
 abbrev pub was_entered : List Entry → ℕ → Bool
 was_entered [] n = false
-was_entered (e ∷ past) n = if is_frame (blocked_by e.event) n then is_page_entered past (page_in past n) else was_entered past n
+was_entered (e ∷ past) n = if is_frame (blocked_by e.event) n then is_page_entered past (tenant_page past n) else was_entered past n
 
 -- how often its write-out was refused so since then
 abbrev pub untracked : List Entry → ℕ → ℕ
@@ -65,7 +66,7 @@ back_by event = None
 -- a page came back
 abbrev pub was_back : List Entry → Page → Bool
 was_back [] g = false
-was_back (e ∷ past) g = is_page (back_by e.event) g || was_back past g
+was_back (e ∷ past) g = is_this (back_by e.event) g || was_back past g
 
 abbrev pub is_page_back : List Entry → Option Page → Bool
 is_page_back past None = false
@@ -85,7 +86,7 @@ is_entered_then past event = false
 
 -- a page is blocked that a processor caches
 abbrev pub is_cached_now : List Entry → Event → Bool
-is_cached_now past (Did (Block f) answer) = is_page_cached past (page_in past f.0)
+is_cached_now past (Did (Block f) answer) = is_page_cached past (tenant_page past f.0)
 is_cached_now past event = false
 
 -- a page is reloaded
@@ -100,10 +101,10 @@ is_again past event = is_page_back past (back_by event)
 -- ---- what a right driver is never refused
 
 -- the processor's numbers are spent, which is nobody's fault
-abbrev pub is_spent : Refusal → Bool
-is_spent EpochSpent = true
-is_spent VersionSpent = true
-is_spent why = false
+abbrev pub is_spent_number : Refusal → Bool
+is_spent_number EpochSpent = true
+is_spent_number VersionSpent = true
+is_spent_number why = false
 
 abbrev pub is_paging : Action → Bool
 is_paging (Block f) = true
@@ -114,7 +115,7 @@ is_paging (Eld f) = true
 is_paging action = false
 
 abbrev pub is_refused_paging : Event → Bool
-is_refused_paging (Refused action why) = is_paging action && not (is_spent why)
+is_refused_paging (Refused action why) = is_paging action && not (is_spent_number why)
 is_refused_paging event = false
 
 -- the third refusal since the frame was blocked, where this one is as not tracked

@@ -4,10 +4,10 @@ ghost use Rattle.std.specs.Prelude.{◌≡◌, ◌||◌, ◌∷◌, [], List, On
 ghost use Rattle.least_reloads.specs.Plans.{has};
 ghost use Rattle.sgx_rules.specs.declared.entries.Entry.{Entry};
 ghost use Rattle.sgx_types.specs.declared.names.Page.{Page};
-ghost use Rattle.trace_places.specs.Places.{is_page};
+ghost use Rattle.sgx_rules.specs.Frames.{is_this};
 ghost use Rattle.trace_tally.specs.Tests.{back_by, blocked_by, is_again, is_odd, is_page_entered, is_page_cached, is_refused_paging};
-ghost use Rattle.trace_tally.specs.Tests.{is_spent, is_paging};
-ghost use Rattle.trace_tally.specs.Tests.{page_in};
+ghost use Rattle.trace_tally.specs.Tests.{is_spent_number, is_paging};
+ghost use Rattle.trace_tally.specs.Tests.{tenant_page};
 ghost use Rattle.trace_tally.specs.inner.Sights.{is_blocked_entered, seen, Knows};
 
 use crate::blocks::{Blocks, blocked_by, untracked_by};
@@ -94,7 +94,7 @@ impl Sights {
 
     // Whether a processor is inside the enclave of a frame's page.
     fn is_entered(&self, frame: Frame) -> bool
-        ensures { (past : List Entry) → Knows self.now past → result ≡ is_page_entered past (page_in past frame.0) }
+        ensures { (past : List Entry) → Knows self.now past → result ≡ is_page_entered past (tenant_page past frame.0) }
     {
         match self.page(frame) {
             Some(page) => self.insides.is_entered(page.enclave),
@@ -104,7 +104,7 @@ impl Sights {
 
     // Whether a processor caches a frame's page.
     fn is_cached(&self, frame: Frame) -> bool
-        ensures { (past : List Entry) → Knows self.now past → result ≡ is_page_cached past (page_in past frame.0) }
+        ensures { (past : List Entry) → Knows self.now past → result ≡ is_page_cached past (tenant_page past frame.0) }
     {
         match self.page(frame) {
             Some(page) => self.insides.is_cached(page),
@@ -114,7 +114,7 @@ impl Sights {
 
     // The page that a frame has or awaits.
     fn page(&self, frame: Frame) -> Option<Page>
-        ensures { (past : List Entry) → Knows self.now past → result ≡ page_in past frame.0 }
+        ensures { (past : List Entry) → Knows self.now past → result ≡ tenant_page past frame.0 }
     {
         match self.places.tenant(frame)? {
             Tenant::Has(page) | Tenant::Awaits(page) => Some(page),
@@ -144,7 +144,7 @@ impl Sights {
 
 // Notes the page that comes back, if one does.
 fn note_back(back: &mut PageSet, event: &Event) -> Result<(), Memory>
-    ensures { OnOk result ((g : Page) → has back.new g ≡ (is_page (back_by event.now) g || has back.old g)) }
+    ensures { OnOk result ((g : Page) → has back.new g ≡ (is_this (back_by event.now) g || has back.old g)) }
 {
     if let Some(page) = back_by(event) {
         back.insert(page)?;
@@ -189,7 +189,7 @@ fn is_paging(action: &Action) -> bool
 
 // Whether the processor's numbers are spent.
 fn is_spent(why: &Refusal) -> bool
-    ensures { result ≡ is_spent why.now }
+    ensures { result ≡ is_spent_number why.now }
 {
     matches!(why, Refusal::EpochSpent | Refusal::VersionSpent)
 }

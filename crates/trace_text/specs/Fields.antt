@@ -64,8 +64,8 @@ Fits (page p) = (p.enclave < 2 ^ 16) × (p.number < 2 ^ 32)
 Fits (digest bytes) = IsDigest bytes
 
 -- the words of fields, one behind the other
-abbrev pub words_of : Edition → List Field → Words
-words_of edition fields = flat_map (field_words edition) fields
+abbrev pub words_of_fields : Edition → List Field → Words
+words_of_fields edition fields = flat_map (field_words edition) fields
 
 abbrev pub AllFit : List Field → Type 0
 AllFit fields = AllByRecursion Fits fields

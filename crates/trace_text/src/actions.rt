@@ -5,7 +5,7 @@ ghost use Rattle.std.specs.Fmt.{decimal};
 ghost use Rattle.text_words.specs.inner.Room.{HasRoom, UsesRoom};
 ghost use Rattle.text_words.specs.Words.{enclave_word, hexadecimal};
 ghost use Rattle.text_words.specs.inner.Words.{with_words};
-ghost use Rattle.trace_text.specs.Fields.{action_fields, init_fields, page_words, words_of};
+ghost use Rattle.trace_text.specs.Fields.{action_fields, init_fields, page_words, words_of_fields};
 
 use crate::edition::Edition;
 use crate::names::{access_name, cause_name, kind_name, perms_name};
@@ -21,7 +21,7 @@ use text_words::words::{write_spaced, write_words};
 #[tactic(auto, using(crate::proofs::FieldLaws::add_words, crate::proofs::FieldLaws::init_words))]
 pub(crate) fn write_action(edition: Edition, action: &Action, onto: &mut Vec<u8>)
     requires { HasRoom ACTION_ROOM onto.old }
-    ensures text { onto.new.items ≡ with_words onto.old.items (words_of edition (action_fields action.now)) }
+    ensures text { onto.new.items ≡ with_words onto.old.items (words_of_fields edition (action_fields action.now)) }
     ensures room { UsesRoom ACTION_ROOM onto.old onto.new }
 {
     match *action {
@@ -98,7 +98,7 @@ fn write_valued(name: &'static str, value: u64, onto: &mut Vec<u8>)
 
 fn write_aex(cause: Cause, onto: &mut Vec<u8>)
     requires { HasRoom ACTION_ROOM onto.old }
-    ensures text { onto.new.items ≡ with_words onto.old.items (words_of Edition.Two (action_fields (Action.Aex cause))) }
+    ensures text { onto.new.items ≡ with_words onto.old.items (words_of_fields Edition.Two (action_fields (Action.Aex cause))) }
     ensures room { UsesRoom ACTION_ROOM onto.old onto.new }
 {
     write_words(&[Name("aex"), Name(cause_name(cause))], onto);
@@ -106,7 +106,7 @@ fn write_aex(cause: Cause, onto: &mut Vec<u8>)
 
 fn write_track(enclave: u16, onto: &mut Vec<u8>)
     requires { HasRoom ACTION_ROOM onto.old }
-    ensures text { onto.new.items ≡ with_words onto.old.items (words_of Edition.Two (action_fields (Action.Track enclave))) }
+    ensures text { onto.new.items ≡ with_words onto.old.items (words_of_fields Edition.Two (action_fields (Action.Track enclave))) }
     ensures room { UsesRoom ACTION_ROOM onto.old onto.new }
 {
     write_words(&[Name("track"), Enclave(enclave.into())], onto);
@@ -115,7 +115,7 @@ fn write_track(enclave: u16, onto: &mut Vec<u8>)
 fn write_create(enclave: u16, frame: Frame, base: u64, size: u64, onto: &mut Vec<u8>)
     requires { HasRoom ACTION_ROOM onto.old }
     ensures text { onto.new.items ≡ with_words onto.old.items
-        (words_of Edition.Two (action_fields (Action.Create enclave frame base size))) }
+        (words_of_fields Edition.Two (action_fields (Action.Create enclave frame base size))) }
     ensures room { UsesRoom ACTION_ROOM onto.old onto.new }
 {
     write_words(
@@ -141,7 +141,7 @@ fn write_add(
 )
     requires { HasRoom ACTION_ROOM onto.old }
     ensures text { onto.new.items ≡ with_words onto.old.items
-        (words_of Edition.Two (action_fields (Action.Add enclave number frame kind perm init))) }
+        (words_of_fields Edition.Two (action_fields (Action.Add enclave number frame kind perm init))) }
     ensures room { UsesRoom ACTION_ROOM onto.old onto.new }
 {
     write_words(
@@ -160,7 +160,7 @@ fn write_add(
 
 fn write_page_init(init: PageInit, onto: &mut Vec<u8>)
     requires { HasRoom 150 onto.old }
-    ensures text { onto.new.items ≡ with_words onto.old.items (words_of Edition.Two (init_fields init)) }
+    ensures text { onto.new.items ≡ with_words onto.old.items (words_of_fields Edition.Two (init_fields init)) }
     ensures room { UsesRoom 150 onto.old onto.new }
 {
     match init {
@@ -174,7 +174,7 @@ fn write_page_init(init: PageInit, onto: &mut Vec<u8>)
 
 fn write_extend(frame: Frame, chunk: u8, onto: &mut Vec<u8>)
     requires { HasRoom ACTION_ROOM onto.old }
-    ensures text { onto.new.items ≡ with_words onto.old.items (words_of Edition.Two (action_fields (Action.Extend frame chunk))) }
+    ensures text { onto.new.items ≡ with_words onto.old.items (words_of_fields Edition.Two (action_fields (Action.Extend frame chunk))) }
     ensures room { UsesRoom ACTION_ROOM onto.old onto.new }
 {
     write_words(&[Name("extend"), frame.into(), Decimal(chunk.into())], onto);
@@ -182,7 +182,7 @@ fn write_extend(frame: Frame, chunk: u8, onto: &mut Vec<u8>)
 
 fn write_init(enclave: u16, expect: Option<[u8; 32]>, onto: &mut Vec<u8>)
     requires { HasRoom ACTION_ROOM onto.old }
-    ensures text { onto.new.items ≡ with_words onto.old.items (words_of Edition.Two (action_fields (Action.Init enclave expect))) }
+    ensures text { onto.new.items ≡ with_words onto.old.items (words_of_fields Edition.Two (action_fields (Action.Init enclave expect))) }
     ensures room { UsesRoom ACTION_ROOM onto.old onto.new }
 {
     let expected = match expect {
@@ -221,7 +221,7 @@ fn write_entering(
 // Nearly all lines are accesses and the fills before them, so the words of these are written one by one, with no list of them.
 fn write_fill(number: u32, frame: Frame, onto: &mut Vec<u8>)
     requires { HasRoom ACTION_ROOM onto.old }
-    ensures text { onto.new.items ≡ with_words onto.old.items (words_of Edition.Two (action_fields (Action.Fill number frame))) }
+    ensures text { onto.new.items ≡ with_words onto.old.items (words_of_fields Edition.Two (action_fields (Action.Fill number frame))) }
     ensures room { UsesRoom ACTION_ROOM onto.old onto.new }
 {
     write_spaced(Name("fill"), onto);
@@ -231,7 +231,7 @@ fn write_fill(number: u32, frame: Frame, onto: &mut Vec<u8>)
 
 fn write_load(off: u64, onto: &mut Vec<u8>)
     requires { HasRoom ACTION_ROOM onto.old }
-    ensures text { onto.new.items ≡ with_words onto.old.items (words_of Edition.Two (action_fields (Action.Load off))) }
+    ensures text { onto.new.items ≡ with_words onto.old.items (words_of_fields Edition.Two (action_fields (Action.Load off))) }
     ensures room { UsesRoom ACTION_ROOM onto.old onto.new }
 {
     write_spaced(Name("load"), onto);
@@ -251,7 +251,7 @@ fn write_update(name: &'static str, off: u64, value: u64, onto: &mut Vec<u8>)
 
 fn write_pf(access: AccessOp, off: u64, onto: &mut Vec<u8>)
     requires { HasRoom ACTION_ROOM onto.old }
-    ensures text { onto.new.items ≡ with_words onto.old.items (words_of Edition.Two (action_fields (Action.Pf access off))) }
+    ensures text { onto.new.items ≡ with_words onto.old.items (words_of_fields Edition.Two (action_fields (Action.Pf access off))) }
     ensures room { UsesRoom ACTION_ROOM onto.old onto.new }
 {
     write_words(
@@ -262,7 +262,7 @@ fn write_pf(access: AccessOp, off: u64, onto: &mut Vec<u8>)
 
 fn write_outload(enclave: u16, off: u64, onto: &mut Vec<u8>)
     requires { HasRoom ACTION_ROOM onto.old }
-    ensures text { onto.new.items ≡ with_words onto.old.items (words_of Edition.Two (action_fields (Action.OutLoad enclave off))) }
+    ensures text { onto.new.items ≡ with_words onto.old.items (words_of_fields Edition.Two (action_fields (Action.OutLoad enclave off))) }
     ensures room { UsesRoom ACTION_ROOM onto.old onto.new }
 {
     write_words(
@@ -273,7 +273,7 @@ fn write_outload(enclave: u16, off: u64, onto: &mut Vec<u8>)
 
 fn write_outstore(enclave: u16, off: u64, value: u64, onto: &mut Vec<u8>)
     requires { HasRoom ACTION_ROOM onto.old }
-    ensures text { onto.new.items ≡ with_words onto.old.items (words_of Edition.Two (action_fields (Action.OutStore enclave off value))) }
+    ensures text { onto.new.items ≡ with_words onto.old.items (words_of_fields Edition.Two (action_fields (Action.OutStore enclave off value))) }
     ensures room { UsesRoom ACTION_ROOM onto.old onto.new }
 {
     write_words(
@@ -289,7 +289,7 @@ fn write_outstore(enclave: u16, off: u64, value: u64, onto: &mut Vec<u8>)
 
 fn write_ewbstart(frame: Frame, slot: SlotAt, onto: &mut Vec<u8>)
     requires { HasRoom ACTION_ROOM onto.old }
-    ensures text { onto.new.items ≡ with_words onto.old.items (words_of Edition.Two (action_fields (Action.EwbStart frame slot))) }
+    ensures text { onto.new.items ≡ with_words onto.old.items (words_of_fields Edition.Two (action_fields (Action.EwbStart frame slot))) }
     ensures room { UsesRoom ACTION_ROOM onto.old onto.new }
 {
     write_words(
@@ -305,7 +305,7 @@ fn write_ewbstart(frame: Frame, slot: SlotAt, onto: &mut Vec<u8>)
 
 fn write_eldstart(edition: Edition, frame: Frame, page: Page, slot: SlotAt, onto: &mut Vec<u8>)
     requires { HasRoom ACTION_ROOM onto.old }
-    ensures text { onto.new.items ≡ with_words onto.old.items (words_of edition (action_fields (Action.EldStart frame page slot))) }
+    ensures text { onto.new.items ≡ with_words onto.old.items (words_of_fields edition (action_fields (Action.EldStart frame page slot))) }
     ensures room { UsesRoom ACTION_ROOM onto.old onto.new }
 {
     write_words(&[Name("eldstart"), frame.into()], onto);

@@ -1,7 +1,7 @@
 //! The text of a trace.
 
 ghost use Rattle.std.specs.Prelude.{◌≡◌, ◌++◌, drop, reverse, IfOk};
-ghost use Rattle.trace_text.specs.Fields.{answer_fields, event_fields, refusal_fields, words_of};
+ghost use Rattle.trace_text.specs.Fields.{answer_fields, event_fields, refusal_fields, words_of_fields};
 ghost use Rattle.trace_text.specs.TraceText.{actor_word, entry_text, first_line, last_line, spelling, trace_of};
 ghost use Rattle.text_words.specs.inner.Room.{HasRoom, UsesRoom};
 ghost use Rattle.text_words.specs.inner.Words.{with_words};
@@ -92,7 +92,7 @@ fn write_actor(actor: &Actor, onto: &mut Vec<u8>)
 #[tactic(auto, using(text_words::proofs::LineLaws::with_words_append, crate::proofs::FieldLaws::words_append))]
 fn write_event(edition: Edition, event: &Event, onto: &mut Vec<u8>)
     requires { HasRoom EVENT_ROOM onto.old }
-    ensures text { onto.new.items ≡ with_words onto.old.items (words_of edition (event_fields event.now)) }
+    ensures text { onto.new.items ≡ with_words onto.old.items (words_of_fields edition (event_fields event.now)) }
     ensures room { UsesRoom EVENT_ROOM onto.old onto.new }
 {
     match event {
@@ -110,7 +110,7 @@ fn write_event(edition: Edition, event: &Event, onto: &mut Vec<u8>)
 #[tactic(auto, using(text_words::proofs::LineLaws::with_words_append, crate::proofs::FieldLaws::refused_words))]
 fn write_refused(edition: Edition, action: &Action, why: &Refusal, onto: &mut Vec<u8>)
     requires { HasRoom EVENT_ROOM onto.old }
-    ensures text { onto.new.items ≡ with_words onto.old.items (words_of edition (event_fields (Event.Refused action.now why.now))) }
+    ensures text { onto.new.items ≡ with_words onto.old.items (words_of_fields edition (event_fields (Event.Refused action.now why.now))) }
     ensures room { UsesRoom EVENT_ROOM onto.old onto.new }
 {
     write_spaced(Name("refused"), onto);
@@ -120,7 +120,7 @@ fn write_refused(edition: Edition, action: &Action, why: &Refusal, onto: &mut Ve
 
 fn write_age(edition: Edition, page: Page, look: Look, onto: &mut Vec<u8>)
     requires { HasRoom EVENT_ROOM onto.old }
-    ensures text { onto.new.items ≡ with_words onto.old.items (words_of edition (event_fields (Event.Age page look))) }
+    ensures text { onto.new.items ≡ with_words onto.old.items (words_of_fields edition (event_fields (Event.Age page look))) }
     ensures room { UsesRoom EVENT_ROOM onto.old onto.new }
 {
     write_spaced(Name("age"), onto);
@@ -130,7 +130,7 @@ fn write_age(edition: Edition, page: Page, look: Look, onto: &mut Vec<u8>)
 
 fn write_kick(cpu: Cpu, onto: &mut Vec<u8>)
     requires { HasRoom EVENT_ROOM onto.old }
-    ensures text { onto.new.items ≡ with_words onto.old.items (words_of Edition.Two (event_fields (Event.Kick cpu))) }
+    ensures text { onto.new.items ≡ with_words onto.old.items (words_of_fields Edition.Two (event_fields (Event.Kick cpu))) }
     ensures room { UsesRoom EVENT_ROOM onto.old onto.new }
 {
     write_words(&[Name("kick"), Decimal(cpu.0.into())], onto);
@@ -138,7 +138,7 @@ fn write_kick(cpu: Cpu, onto: &mut Vec<u8>)
 
 fn write_bus(edition: Edition, page: Page, why: BusWhy, onto: &mut Vec<u8>)
     requires { HasRoom EVENT_ROOM onto.old }
-    ensures text { onto.new.items ≡ with_words onto.old.items (words_of edition (event_fields (Event.Bus page why))) }
+    ensures text { onto.new.items ≡ with_words onto.old.items (words_of_fields edition (event_fields (Event.Bus page why))) }
     ensures room { UsesRoom EVENT_ROOM onto.old onto.new }
 {
     write_spaced(Name("bus"), onto);
@@ -148,7 +148,7 @@ fn write_bus(edition: Edition, page: Page, why: BusWhy, onto: &mut Vec<u8>)
 
 fn write_answer(edition: Edition, answer: &Answer, onto: &mut Vec<u8>)
     requires { HasRoom ANSWER_ROOM onto.old }
-    ensures text { onto.new.items ≡ with_words onto.old.items (words_of edition (answer_fields answer.now)) }
+    ensures text { onto.new.items ≡ with_words onto.old.items (words_of_fields edition (answer_fields answer.now)) }
     ensures room { UsesRoom ANSWER_ROOM onto.old onto.new }
 {
     match *answer {
@@ -165,7 +165,7 @@ fn write_answer(edition: Edition, answer: &Answer, onto: &mut Vec<u8>)
 
 fn write_hash(digest: [u8; 32], onto: &mut Vec<u8>)
     requires { HasRoom ANSWER_ROOM onto.old }
-    ensures text { onto.new.items ≡ with_words onto.old.items (words_of Edition.Two (answer_fields (Answer.Hash digest))) }
+    ensures text { onto.new.items ≡ with_words onto.old.items (words_of_fields Edition.Two (answer_fields (Answer.Hash digest))) }
     ensures room { UsesRoom ANSWER_ROOM onto.old onto.new }
 {
     write_words(&[Digest(digest)], onto);
@@ -173,7 +173,7 @@ fn write_hash(digest: [u8; 32], onto: &mut Vec<u8>)
 
 fn write_moved(edition: Edition, page: Page, version: u64, tag: [u8; 32], onto: &mut Vec<u8>)
     requires { HasRoom ANSWER_ROOM onto.old }
-    ensures text { onto.new.items ≡ with_words onto.old.items (words_of edition (answer_fields (Answer.Moved page version tag))) }
+    ensures text { onto.new.items ≡ with_words onto.old.items (words_of_fields edition (answer_fields (Answer.Moved page version tag))) }
     ensures room { UsesRoom ANSWER_ROOM onto.old onto.new }
 {
     write_page(edition, page, onto);
@@ -184,7 +184,7 @@ fn write_moved(edition: Edition, page: Page, version: u64, tag: [u8; 32], onto: 
 #[tactic(auto, using(text_words::proofs::LineLaws::with_words_named))]
 fn write_refusal(refusal: &Refusal, onto: &mut Vec<u8>)
     requires { HasRoom ANSWER_ROOM onto.old }
-    ensures text { onto.new.items ≡ with_words onto.old.items (words_of Edition.Two (refusal_fields refusal.now)) }
+    ensures text { onto.new.items ≡ with_words onto.old.items (words_of_fields Edition.Two (refusal_fields refusal.now)) }
     ensures room { UsesRoom ANSWER_ROOM onto.old onto.new }
 {
     write_words(&[Name(refusal_name(refusal))], onto);
@@ -193,7 +193,7 @@ fn write_refusal(refusal: &Refusal, onto: &mut Vec<u8>)
 
 fn write_refusal_fields(refusal: &Refusal, onto: &mut Vec<u8>)
     requires { HasRoom 250 onto.old }
-    ensures text { onto.new.items ≡ with_words onto.old.items (drop 1 (words_of Edition.Two (refusal_fields refusal.now))) }
+    ensures text { onto.new.items ≡ with_words onto.old.items (drop 1 (words_of_fields Edition.Two (refusal_fields refusal.now))) }
     ensures room { UsesRoom 250 onto.old onto.new }
 {
     match *refusal {

@@ -9,7 +9,7 @@ use Rattle.sgx_rules.specs.Ends.{EndsOut, IsBack}
 use Rattle.sgx_rules.specs.Frames.{content, page_there}
 use Rattle.sgx_rules.specs.Rules.{Along, EvictRule, RefusalRule}
 use Rattle.sgx_rules.specs.Starts.{Start, open_start}
-use Rattle.worked_away.specs.Machine.{making, ready, tag_of}
+use Rattle.worked_away.specs.Machine.{making, ready, some_tag}
 
 pub ready_table : Along (RefusalRule making) ready
 unfolding any_below count_below least_below ones
@@ -20,7 +20,7 @@ ready_drained = search
 
 -- the end of a write-out
 pub ends_out : (past : List Entry) (n : ℕ) (page : Page) (version : ℕ) (start : Start) → page_there (content past n) ≡ Some page
-    → open_start past n ≡ Some start → start.loads ≡ None → EndsOut past n (Moved page version (tag_of version))
+    → open_start past n ≡ Some start → start.loads ≡ None → EndsOut past n (Moved page version (some_tag version))
 ends_out past n page version start held opened writes = record {
   page = page;
   held = held;
@@ -28,17 +28,17 @@ ends_out past n page version start held opened writes = record {
   opened = opened;
   writes = writes;
   version = version;
-  tag = tag_of version;
+  tag = some_tag version;
   told = refl;
 }
 
 -- .. and of a load
 pub is_back : (past : List Entry) (n : ℕ) (page : Page) (version : ℕ) (start : Start) → open_start past n ≡ Some start
-    → start.loads ≡ Some page → IsBack past n (Moved page version (tag_of version))
+    → start.loads ≡ Some page → IsBack past n (Moved page version (some_tag version))
 is_back past n page version start opened loads = record {
   page = page;
   ends = record { start = start; opened = opened; loads = loads };
   version = version;
-  tag = tag_of version;
+  tag = some_tag version;
   told = refl;
 }

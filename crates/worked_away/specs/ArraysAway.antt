@@ -7,8 +7,9 @@ use Rattle.sgx_rules.specs.declared.entries.Cause.TheVariants as causes
 use Rattle.sgx_rules.specs.declared.entries.Entry.{Entry}
 use Rattle.sgx_rules.specs.declared.refusals.Refusal.TheVariants as why
 use Rattle.sgx_types.specs.Pages.{page_at, va_page}
-use Rattle.worked_away.specs.Machine.{block, cpu, did, epa, frame_at, is_in, is_out, keeps_in, keeps_out, ready, refused, slot_at}
-use Rattle.worked_away.specs.Machine.{starts_in, starts_out, tag_of, track}
+use Rattle.worked_away.specs.Machine.{block, cpu, did, epa, comes_in, is_out, keeps_in, keeps_out, ready, refused, slot_at}
+use Rattle.sgx_types.specs.Pages.{frame_at}
+use Rattle.worked_away.specs.Machine.{starts_in, starts_out, some_tag, track}
 
 -- a second version array page is made, and the page of sevens goes out into its first slot
 abbrev pub page_out : List Entry
@@ -23,16 +24,16 @@ array_out = is_out 5 (va_page 1) 2 ∷ starts_out 5 (slot_at 0 0) 2 ∷ keeps_in
 -- it is back in another frame, and the page of sevens comes back by the version in it
 abbrev pub array_in : List Entry
 array_in =
-    is_in 6 (va_page 1) 2 ∷ starts_in 6 (va_page 1) (slot_at 0 0) 2
+    comes_in 6 (va_page 1) 2 ∷ starts_in 6 (va_page 1) (slot_at 0 0) 2
     ∷ keeps_out 4 (page_at 1 2) (slot_at 5 0) why.BadKind ∷ array_out
 
 abbrev pub page_in : List Entry
-page_in = is_in 4 (page_at 1 2) 1 ∷ starts_in 4 (page_at 1 2) (slot_at 6 0) 1 ∷ array_in
+page_in = comes_in 4 (page_at 1 2) 1 ∷ starts_in 4 (page_at 1 2) (slot_at 6 0) 1 ∷ array_in
 
 -- it goes out again, and its old record does not bring it back
 abbrev pub array_kept_out : List Entry
 array_kept_out =
-    refused cpu (actions.Eld (frame_at 6)) (why.MacFail (tag_of 2) (tag_of 4))
+    refused cpu (actions.Eld (frame_at 6)) (why.MacFail (some_tag 2) (some_tag 4))
     ∷ starts_in 6 (va_page 1) (slot_at 0 0) 3 ∷ is_out 6 (va_page 1) 3 ∷ starts_out 6 (slot_at 0 0) 3 ∷ page_in
 
 -- ---- wrong

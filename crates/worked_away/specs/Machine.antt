@@ -17,12 +17,10 @@ use Rattle.sgx_types.specs.declared.names.SlotAt.{SlotAt}
 use Rattle.sgx_rules.specs.declared.refusals.Refusal.{Refusal}
 use Rattle.sgx_types.specs.Pages.{no_perm}
 use Rattle.sgx_types.specs.Making.{Making}
+use Rattle.sgx_types.specs.Pages.{frame_at}
 
 abbrev pub making : Making
 making = record { frames = 8; cpus = 1; key = replicate 32 0; first_epoch = 1; first_version = 1 }
-
-abbrev pub frame_at : ℕ → Frame
-frame_at n = record { 0 = n }
 
 -- the slot of this index in a frame
 abbrev pub slot_at : ℕ → ℕ → SlotAt
@@ -41,8 +39,8 @@ abbrev pub rw_perm : Perm
 rw_perm = record { r = true; w = true; x = false }
 
 -- a tag, by one byte of it: no rule of this crate looks into tags
-abbrev pub tag_of : ℕ → List ℕ
-tag_of byte = replicate 32 byte
+abbrev pub some_tag : ℕ → List ℕ
+some_tag byte = replicate 32 byte
 
 -- ---- the entries that the traces share
 
@@ -61,7 +59,7 @@ starts_out n at version = did Reclaimer (actions.EwbStart (frame_at n) at) (answ
 
 -- .. and is out
 abbrev pub is_out : ℕ → Page → ℕ → Entry
-is_out n page version = did Reclaimer (actions.Ewb (frame_at n)) (answers.Moved page version (tag_of version))
+is_out n page version = did Reclaimer (actions.Ewb (frame_at n)) (answers.Moved page version (some_tag version))
 
 abbrev pub keeps_in : ℕ → SlotAt → Refusal → Entry
 keeps_in n at why = refused Reclaimer (actions.EwbStart (frame_at n) at) why
@@ -71,8 +69,8 @@ abbrev pub starts_in : ℕ → Page → SlotAt → ℕ → Entry
 starts_in n page at version = did cpu (actions.EldStart (frame_at n) page at) (answers.Version version)
 
 -- .. and is in
-abbrev pub is_in : ℕ → Page → ℕ → Entry
-is_in n page version = did cpu (actions.Eld (frame_at n)) (answers.Moved page version (tag_of version))
+abbrev pub comes_in : ℕ → Page → ℕ → Entry
+comes_in n page version = did cpu (actions.Eld (frame_at n)) (answers.Moved page version (some_tag version))
 
 abbrev pub keeps_out : ℕ → Page → SlotAt → Refusal → Entry
 keeps_out n page at why = refused cpu (actions.EldStart (frame_at n) page at) why

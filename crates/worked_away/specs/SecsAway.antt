@@ -6,7 +6,7 @@ use Rattle.sgx_rules.specs.declared.entries.Answer.TheVariants as answers
 use Rattle.sgx_rules.specs.declared.entries.Entry.{Entry}
 use Rattle.sgx_rules.specs.declared.refusals.Refusal.TheVariants as why
 use Rattle.sgx_types.specs.Pages.{page_at, secs_page}
-use Rattle.worked_away.specs.Machine.{block, cpu, did, is_in, is_out, keeps_in, keeps_out, ready, refused, slot_at}
+use Rattle.worked_away.specs.Machine.{block, cpu, did, comes_in, is_out, keeps_in, keeps_out, ready, refused, slot_at}
 use Rattle.worked_away.specs.Machine.{starts_in}
 use Rattle.worked_away.specs.Machine.{starts_out, track}
 
@@ -37,7 +37,7 @@ nothing_goes =
 
 -- it is back, and then a page
 abbrev pub secs_in : List Entry
-secs_in = is_in 1 (secs_page 1) 4 ∷ starts_in 1 (secs_page 1) (slot_at 0 3) 4 ∷ nothing_goes
+secs_in = comes_in 1 (secs_page 1) 4 ∷ starts_in 1 (secs_page 1) (slot_at 0 3) 4 ∷ nothing_goes
 
 abbrev pub child_comes : List Entry
 child_comes = keeps_in 1 (slot_at 0 3) (why.ChildPresent 1) ∷ starts_in 2 (page_at 1 0) (slot_at 0 0) 1 ∷ secs_in

@@ -15,7 +15,7 @@ use Rattle.driver_rules.specs.Spares.{outs}
 use Rattle.driver_rules.proofs.DecidedLaws.{age_tells, ended_tells, kick_tells, script_tells}
 use Rattle.history_rules.specs.declared.rules.Rule.{Rule}
 use Rattle.history_rules.specs.declared.rules.Rule.TheVariants as rules
-use Rattle.history_rules.specs.Histories.{Before, FailsFirst, FailsHere, History, Keeps, Says, rank}
+use Rattle.history_rules.specs.Histories.{Before, FailsFirst, FailsHere, History, Keeps, RuleSays, rank}
 use Rattle.history_rules.specs.inner.Histories.{is_machines}
 use Rattle.worked_driver.specs.inner.Faults.{breaks_at_last, breaks_first, is_history, keeps_eleven, keeps_all_six}
 use Rattle.worked_driver.specs.inner.Faults.{keeps_machines}
@@ -27,7 +27,7 @@ use Rattle.worked_driver.proofs.LawfulLaws.{lawful_says, misdone_breaks, none_of
 use Rattle.worked_driver.proofs.SettledLaws.{settled}
 
 -- what a rule of the machine says of a place alone
-says_of_place : (j : JobView) (past : List Entry) (rule : Rule) → is_settled j past ≡ true → is_machines rule ≡ true → Says j rule past None
+says_of_place : (j : JobView) (past : List Entry) (rule : Rule) → is_settled j past ≡ true → is_machines rule ≡ true → RuleSays j rule past None
 says_of_place j past rules.Refusal h own = tt
 says_of_place j past rules.Flat h own = tt
 says_of_place j past rules.Fits h own = (tt, (settled j past h).0)
@@ -41,7 +41,7 @@ says_of_place j past rules.Age h own = cc
 says_of_place j past rules.Kick h own = cc
 
 pub machines_say : (j : JobView) (past : List Entry) (e : Entry) → keeps_machines j past e ≡ true → (rule : Rule) → is_machines rule ≡ true
-    → Says j rule past (Some e)
+    → RuleSays j rule past (Some e)
 machines_say j past e h rule own =
     let k = both_true (is_lawful j past e.actor e.event) (is_settled j past) h in
     lawful_says j past e.actor e.event rule k.0 own (says_of_place j past rule k.1 own)
@@ -49,7 +49,7 @@ machines_say j past e h rule own =
 -- ---- along a trace
 
 six_before : (j : JobView) (past : List Entry) (rule : Rule) → all_along (keeps_six_there j) past ≡ true → is_of_six rule ≡ true
-    → is_machines rule ≡ true → Before (Says j rule) past
+    → is_machines rule ≡ true → Before (RuleSays j rule) past
 six_before j [] rule h six own = tt
 six_before j (e ∷ past) rule h six own =
     let k = both_true (keeps_six_there j past e) (all_along (keeps_six_there j) past) h in
@@ -80,7 +80,7 @@ refuted true P told h x = false≢true h
 refuted false P told h x = false≢true (told x)
 
 before_refusal : (j : JobView) (past : List Entry) (e : Entry) → keeps_script j past e ≡ true → (r : Rule) → rank r < 1
-    → Says j r past (Some e)
+    → RuleSays j r past (Some e)
 before_refusal j past e script rules.Script low = (script_tells j past e).0 script
 before_refusal j past e script rules.Refusal low = absurd (omega (arith, low))
 before_refusal j past e script rules.Flat low = absurd (omega (arith, low))
@@ -94,7 +94,7 @@ before_refusal j past e script rules.Age low = absurd (omega (arith, low))
 before_refusal j past e script rules.Kick low = absurd (omega (arith, low))
 
 before_age : (j : JobView) (past : List Entry) (e : Entry) → keeps_script j past e ≡ true
-    → ((rule : Rule) → is_machines rule ≡ true → Says j rule past (Some e)) → (r : Rule) → rank r < 9 → Says j r past (Some e)
+    → ((rule : Rule) → is_machines rule ≡ true → RuleSays j rule past (Some e)) → (r : Rule) → rank r < 9 → RuleSays j r past (Some e)
 before_age j past e script machines rules.Script low = (script_tells j past e).0 script
 before_age j past e script machines rules.Age low = absurd (omega (arith, low))
 before_age j past e script machines rules.Kick low = absurd (omega (arith, low))
@@ -133,7 +133,7 @@ first_broken j past e rules.Kick h =
     }
   where
     before_kick : keeps_script j past e ≡ true → keeps_machines j past e ≡ true → keeps_age j past e ≡ true → (r : Rule) → rank r < 10
-        → Says j r past (Some e)
+        → RuleSays j r past (Some e)
     before_kick script machines age rules.Age low = (age_tells j past (outs j past) e).0 age
     before_kick script machines age rules.Kick low = absurd (omega (arith, low))
     before_kick script machines age rules.Script low = (script_tells j past e).0 script
@@ -142,8 +142,8 @@ first_broken j past e _ h = absurd (false≢true h)
 
 -- an `init` that answers its enclave's measurement
 init_says : (j : JobView) (past : List Entry) (a : Actor) → is_none (case_at (machine_of j) past a (Init 1 None)) ≡ true
-    → accepts (flat past) a (Init 1 None) ≡ true → (rule : Rule) → is_machines rule ≡ true → Says j rule past None
-    → Says j rule past (Some (measured_init a past))
+    → accepts (flat past) a (Init 1 None) ≡ true → (rule : Rule) → is_machines rule ≡ true → RuleSays j rule past None
+    → RuleSays j rule past (Some (measured_init a past))
 init_says j past a row taken rules.Refusal own h = (none_of (case_at (machine_of j) past a (Init 1 None)) row, (measurement past 1, refl))
 init_says j past a row taken rules.Flat own h = λ seen. record { taken = taken; same = refl }
 init_says j past a row taken rules.Fits own h = ((tt, tt), h.1)
@@ -167,7 +167,7 @@ init_breaks_age j past a script row taken place broken = record {
 
 -- ---- whole histories, and where a trace fails first
 
-says_eleven : (j : JobView) (past : List Entry) (e : Entry) (rule : Rule) → keeps_eleven j past e ≡ true → Says j rule past (Some e)
+says_eleven : (j : JobView) (past : List Entry) (e : Entry) (rule : Rule) → keeps_eleven j past e ≡ true → RuleSays j rule past (Some e)
 says_eleven j past e rule h =
     let one = both_true (keeps_machines j past e) (keeps_script j past e && (keeps_age j past e && keeps_kick j past e)) h in
     let two = both_true (keeps_script j past e) (keeps_age j past e && keeps_kick j past e) one.1 in
@@ -175,7 +175,7 @@ says_eleven j past e rule h =
     by_rule one.0 two.0 three.0 three.1 rule
   where
     by_rule : keeps_machines j past e ≡ true → keeps_script j past e ≡ true → keeps_age j past e ≡ true → keeps_kick j past e ≡ true
-        → (rule : Rule) → Says j rule past (Some e)
+        → (rule : Rule) → RuleSays j rule past (Some e)
     by_rule machines script age kick rules.Script = (script_tells j past e).0 script
     by_rule machines script age kick rules.Age = (age_tells j past (outs j past) e).0 age
     by_rule machines script age kick rules.Kick = (kick_tells j past e).0 kick
@@ -188,7 +188,7 @@ says_eleven j past e rule h =
     by_rule machines script age kick rules.Sealed = machines_say j past e machines rules.Sealed refl
     by_rule machines script age kick rules.Measure = machines_say j past e machines rules.Measure refl
 
-eleven_before : (j : JobView) (past : List Entry) (rule : Rule) → all_along (keeps_eleven j) past ≡ true → Before (Says j rule) past
+eleven_before : (j : JobView) (past : List Entry) (rule : Rule) → all_along (keeps_eleven j) past ≡ true → Before (RuleSays j rule) past
 eleven_before j [] rule h = tt
 eleven_before j (e ∷ past) rule h =
     let k = both_true (keeps_eleven j past e) (all_along (keeps_eleven j) past) h in

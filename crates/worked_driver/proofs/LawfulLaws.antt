@@ -40,7 +40,7 @@ use Rattle.driver_rules.specs.inner.Same.{same_numbers}
 use Rattle.driver_rules.proofs.SameLaws.{action-refl, action-true}
 use Rattle.history_rules.specs.declared.rules.Rule.{Rule}
 use Rattle.history_rules.specs.declared.rules.Rule.TheVariants as rules
-use Rattle.history_rules.specs.Histories.{Says}
+use Rattle.history_rules.specs.Histories.{RuleSays}
 use Rattle.history_rules.specs.inner.Histories.{is_machines}
 use Rattle.worked_driver.specs.inner.Lawful.{case_at, goes_out, is_case, is_ended_in, is_ended_out, is_formed, is_in_slot}
 use Rattle.worked_driver.specs.inner.Lawful.{is_lawful, is_misdone}
@@ -319,8 +319,8 @@ fresh_tells first past a ev h =
 -- a rule of the six says of an entry no more than of its place
 by_six : (j : JobView) (past : List Entry) (a : Actor) (ev : Event) (rule : Rule) → keeps_refusal (machine_of j) past a ev ≡ true
     → keeps_flat past a ev ≡ true → keeps_fits j.epc past ev ≡ true → keeps_stale past a ev ≡ true → keeps_evict past ev ≡ true
-    → keeps_fresh j.start_version past ev ≡ true → is_of_six rule ≡ true → Says j rule past None
-    → Says j rule past (Some (record { actor = a; event = ev }))
+    → keeps_fresh j.start_version past ev ≡ true → is_of_six rule ≡ true → RuleSays j rule past None
+    → RuleSays j rule past (Some (record { actor = a; event = ev }))
 by_six j past a ev rules.Refusal refusal flat fits stale evict fresh own says = refusal_tells (machine_of j) past a ev refusal
 by_six j past a ev rules.Flat refusal flat fits stale evict fresh own says = flat_tells past a ev flat
 by_six j past a ev rules.Fits refusal flat fits stale evict fresh own says = (fits_tell j.epc past a ev fits, says.1)
@@ -330,7 +330,7 @@ by_six j past a ev rules.Fresh refusal flat fits stale evict fresh own says = fr
 by_six j past a ev _ refusal flat fits stale evict fresh own says = absurd (false≢true own)
 
 pub six_say : (j : JobView) (past : List Entry) (a : Actor) (ev : Event) (rule : Rule) → keeps_six j past a ev ≡ true
-    → is_of_six rule ≡ true → Says j rule past None → Says j rule past (Some (record { actor = a; event = ev }))
+    → is_of_six rule ≡ true → RuleSays j rule past None → RuleSays j rule past (Some (record { actor = a; event = ev }))
 six_say j past a ev rule h own says =
     let refusal = keeps_refusal (machine_of j) past a ev in
     let flat = keeps_flat past a ev in
@@ -346,7 +346,7 @@ six_say j past a ev rule h own says =
     by_six j past a ev rule one.0 two.0 three.0 four.0 five.0 five.1 own says
 
 untold : (j : JobView) (past : List Entry) (a : Actor) (ev : Event) → not (tells_digest ev) ≡ true
-    → Says j rules.Sealed past (Some (record { actor = a; event = ev })) × Says j rules.Measure past
+    → RuleSays j rules.Sealed past (Some (record { actor = a; event = ev })) × RuleSays j rules.Measure past
     (Some (record { actor = a; event = ev }))
 untold j past a (Did (Init enclave expect) answer) h = absurd (false≢true h)
 untold j past a (Refused (Init enclave expect) refusal) h = absurd (false≢true h)
@@ -355,8 +355,8 @@ untold j past a _ h = (tt, tt)
 
 -- a rule of the machine says of a lawful entry no more than of the place
 by_eight : (j : JobView) (past : List Entry) (a : Actor) (ev : Event) (rule : Rule) → keeps_six j past a ev ≡ true
-    → not (tells_digest ev) ≡ true → is_machines rule ≡ true → Says j rule past None
-    → Says j rule past (Some (record { actor = a; event = ev }))
+    → not (tells_digest ev) ≡ true → is_machines rule ≡ true → RuleSays j rule past None
+    → RuleSays j rule past (Some (record { actor = a; event = ev }))
 by_eight j past a ev rules.Sealed six untold_there own says = (untold j past a ev untold_there).0
 by_eight j past a ev rules.Measure six untold_there own says = (untold j past a ev untold_there).1
 by_eight j past a ev rules.Refusal six untold_there own says = six_say j past a ev rules.Refusal six refl says
@@ -368,6 +368,6 @@ by_eight j past a ev rules.Fresh six untold_there own says = six_say j past a ev
 by_eight j past a ev _ six untold_there own says = absurd (false≢true own)
 
 pub lawful_says : (j : JobView) (past : List Entry) (a : Actor) (ev : Event) (rule : Rule) → is_lawful j past a ev ≡ true
-    → is_machines rule ≡ true → Says j rule past None → Says j rule past (Some (record { actor = a; event = ev }))
+    → is_machines rule ≡ true → RuleSays j rule past None → RuleSays j rule past (Some (record { actor = a; event = ev }))
 lawful_says j past a ev rule h own says =
     let k = both_true (keeps_six j past a ev) (not (tells_digest ev)) h in by_eight j past a ev rule k.0 k.1 own says

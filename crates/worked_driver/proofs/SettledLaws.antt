@@ -23,7 +23,7 @@ use Rattle.sgx_rules.specs.Rules.{IsCurrent, IsStill, IsUndisturbed, NoPageTwice
 use Rattle.sgx_types.proofs.Pages.{same_pages}
 use Rattle.sgx_types.proofs.Truths.{apart, both_true}
 use Rattle.job_grammar.specs.Jobs.{JobView}
-use Rattle.script_rules.specs.Script.{frame_at}
+use Rattle.sgx_types.specs.Pages.{frame_at}
 use Rattle.driver_rules.specs.inner.Decided.{all_along}
 use Rattle.driver_rules.specs.inner.Same.{same_kind, same_perm}
 use Rattle.driver_rules.proofs.SameLaws.{action-true}

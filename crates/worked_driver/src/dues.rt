@@ -5,7 +5,7 @@ ghost use Rattle.sgx_rules.specs.declared.entries.Action.TheVariants as actions;
 ghost use Rattle.sgx_rules.specs.declared.entries.BusWhy.TheVariants as reasons;
 ghost use Rattle.sgx_rules.specs.declared.entries.Cause.TheVariants as causes;
 ghost use Rattle.sgx_types.specs.Pages.{page_at};
-ghost use Rattle.script_rules.specs.Script.{frame_at};
+ghost use Rattle.sgx_types.specs.Pages.{frame_at};
 ghost use Rattle.driver_rules.specs.declared.waits.Why.TheVariants as waits;
 ghost use Rattle.driver_rules.specs.Dues.{Asks, Ends, Fetches, Finished, KicksAll, LooksAt, Makes, Reports, Stopped, TriesOut, Waits};
 ghost use Rattle.driver_rules.specs.Holds.{is_held};

@@ -4,7 +4,7 @@ ghost use Rattle.std.specs.Prelude.{◌≡◌, true, List, ◌∷◌, Some, leng
 ghost use Rattle.sgx_rules.specs.declared.entries.Entry.{Entry};
 ghost use Rattle.job_grammar.specs.Jobs.{JobView};
 ghost use Rattle.history_rules.specs.declared.rules.Rule.{Rule};
-ghost use Rattle.history_rules.specs.Histories.{FailsFirst, FailsHere, History, Keeps, Says};
+ghost use Rattle.history_rules.specs.Histories.{FailsFirst, FailsHere, History, Keeps, RuleSays};
 ghost use Rattle.history_rules.specs.inner.Histories.{is_machines};
 ghost use Rattle.worked_driver.specs.inner.Lawful.{is_of_six};
 ghost use Rattle.worked_driver.specs.inner.Faults.{breaks_at_last, breaks_first, is_history, keeps_all_six, keeps_machines};
@@ -12,7 +12,7 @@ ghost use Rattle.worked_driver.specs.inner.Faults.{breaks_at_last, breaks_first,
 /// An entry that passes keeps the rules Refusal, Flat, Fits, Stale, Evict, Fresh, Sealed and Measure.
 pub fn the_test_of_the_machines_rules_tells_them()
     ensures { (j : JobView) (past : List Entry) (e : Entry) → keeps_machines j past e ≡ true
-        → (rule : Rule) → is_machines rule ≡ true → Says j rule past (Some e) }
+        → (rule : Rule) → is_machines rule ≡ true → RuleSays j rule past (Some e) }
 {}
 
 /// Where the test passes for a rule, the entry breaks this rule, and of the eleven rules none that is named before it.

@@ -14,7 +14,7 @@ use Rattle.job_grammar.specs.Jobs.{JobView}
 use Rattle.script_rules.specs.Script.{action_of}
 use Rattle.history_rules.specs.declared.rules.Rule.{Rule}
 use Rattle.history_rules.specs.declared.rules.Rule.TheVariants as rules
-use Rattle.history_rules.specs.Histories.{Says}
+use Rattle.history_rules.specs.Histories.{RuleSays}
 use Rattle.history_rules.specs.inner.Histories.{is_machines}
 use Rattle.audit_machine.specs.inner.Forms.{has_form}
 
@@ -37,7 +37,7 @@ pub record AreRivals (e made : Entry) : Type 0 where
 
 -- an entry keeps each rule of the machine
 pub record KeepsMachines (j : JobView) (past : List Entry) (e : Entry) : Type 0 where
-  pub each : (r : Rule) → is_machines r ≡ true → Says j r past (Some e)
+  pub each : (r : Rule) → is_machines r ≡ true → RuleSays j r past (Some e)
 
 -- ---- the rule
 

@@ -13,7 +13,7 @@ use Rattle.sgx_types.specs.Pages.{is_own_page, secs_page, va_page}
 use Rattle.sgx_rules.specs.Frames.{least_free}
 use Rattle.sgx_types.specs.Sealed.{Sealed}
 use Rattle.sgx_rules.specs.inner.Starts.{BareStart}
-use Rattle.script_rules.specs.Script.{frame_at}
+use Rattle.sgx_types.specs.Pages.{frame_at}
 use Rattle.std.specs.Global.{Box}
 use Rattle.seal_record.specs.declared.unseal.UnsealWork.{UnsealWork}
 use Rattle.machine_laws.specs.inner.State.{State}

@@ -8,7 +8,7 @@ use Rattle.sgx_rules.specs.Frames.{vas_made}
 use Rattle.sgx_rules.specs.Processors.{Stay, stay}
 use Rattle.job_grammar.specs.declared.jobs.Op.{Op}
 use Rattle.job_grammar.specs.Jobs.{JobView, lines_at, tcs_line}
-use Rattle.script_rules.specs.Script.{is_interrupted, saved, script_of}
+use Rattle.script_rules.specs.Script.{is_interrupted, saved_frames, script_of}
 use Rattle.driver_rules.specs.Holds.{holds, is_among}
 use Rattle.driver_rules.specs.Needs.{access_page, Interruption, interruption, last_save, listed, needs_of, next_op}
 use Rattle.job_grammar.specs.declared.jobs.Op.TheVariants as ops
@@ -22,8 +22,8 @@ pages_by j enclave tcs n op =
 -- inside, the state save page is the one that an exit uses
 abbrev pub three_by : JobView → List Entry → Option Stay → Option Interruption → Option Op → List Page
 three_by j past s i None = []
-three_by j past (Some s) i (Some op) = pages_by j s.seat.enclave s.seat.tcs (saved past (page_at s.seat.enclave s.seat.tcs) + 1) op
-three_by j past None (Some i) (Some op) = pages_by j i.enclave i.tcs (saved past (page_at i.enclave i.tcs)) op
+three_by j past (Some s) i (Some op) = pages_by j s.seat.enclave s.seat.tcs (saved_frames past (page_at s.seat.enclave s.seat.tcs) + 1) op
+three_by j past None (Some i) (Some op) = pages_by j i.enclave i.tcs (saved_frames past (page_at i.enclave i.tcs)) op
 three_by j past None None (Some op) = needs_of j past (Some op)
 
 abbrev pub three : JobView → List Entry → ℕ → List Page

@@ -13,7 +13,8 @@ use Rattle.sgx_types.specs.declared.names.VaSlot.{VaSlot}
 use Rattle.sgx_rules.specs.Frames.{is_sealing}
 use Rattle.sgx_rules.specs.Sights.{sight_at}
 use Rattle.sgx_rules.specs.Slots.{is_busy_at, version_in}
-use Rattle.sgx_rules.specs.Table.{allowed, Case, DrainSight, SlotSight, when, ◌otherwise◌}
+use Rattle.sgx_types.specs.Cases.{allowed, when, ◌otherwise◌}
+use Rattle.sgx_rules.specs.Table.{DrainSight, Row, SlotSight}
 use Rattle.sgx_rules.specs.Starts.{open_start, Start, version_told}
 use Rattle.driver_rules.specs.Places.{Away, Place, place}
 use Rattle.driver_laws.specs.inner.Sound.{is_write_start, slot_of, slot_outside}
@@ -73,20 +74,20 @@ slot_with frames past at version = record {
 }
 
 -- .. a load, by the version in its slot
-abbrev pub load_left : ℕ → List Case
+abbrev pub load_left : ℕ → Row
 load_left version =
     when (version == 0) why.SlotEmpty
     otherwise allowed
 
 -- .. a write-out of a SECS or a version array page, by the version in its slot and by whether all versions were drawn
-abbrev pub start_left : ℕ → Bool → List Case
+abbrev pub start_left : ℕ → Bool → Row
 start_left version is_spent =
     when (not (version == 0)) (why.SlotOccupied version)
     otherwise when is_spent why.VersionSpent
     otherwise allowed
 
 -- .. and of a page that was taken and blocked, by its tracking first
-abbrev pub left_to_refuse : DrainSight → ℕ → Bool → List Case
+abbrev pub left_to_refuse : DrainSight → ℕ → Bool → Row
 left_to_refuse drain version is_spent =
     when (not drain.is_drained) (why.NotTracked drain.epoch drain.kept_back)
     otherwise start_left version is_spent

@@ -23,7 +23,7 @@ use Rattle.sgx_types.specs.Making.{Making}
 use Rattle.sgx_rules.specs.Slots.{next_version}
 use Rattle.driver_slots.specs.inner.Keeper.{AllOut, IsLeast, Keeper, is_ours, is_out}
 use Rattle.job_grammar.specs.Jobs.{JobView}
-use Rattle.script_rules.specs.Script.{frame_at}
+use Rattle.sgx_types.specs.Pages.{frame_at}
 use Rattle.driver_rules.specs.Dues.{Due, KicksAll, LooksAt, Makes, TriesOut, Waits, is_look}
 use Rattle.driver_rules.specs.inner.Slotted.{fixed_slot}
 use Rattle.driver_rules.specs.declared.waits.Why.TheVariants as waits

@@ -7,7 +7,7 @@ use Rattle.sgx_rules.specs.declared.entries.Event.{Event}
 use Rattle.sgx_rules.specs.declared.entries.Event.TheVariants.{Refused}
 use Rattle.sgx_types.specs.declared.names.Page.{Page}
 use Rattle.job_grammar.specs.Jobs.{JobView}
-use Rattle.script_rules.specs.Script.{frame_at}
+use Rattle.sgx_types.specs.Pages.{frame_at}
 use Rattle.driver_rules.specs.Dues.{Due, Ends, Finished, KicksAll, LooksAt, Makes, Stopped, TriesOut, Waits}
 use Rattle.driver_rules.specs.Ages.{Ahead, ahead, EndsNext, GoesOn, head_of, Looks, TriesNext}
 use Rattle.driver_rules.specs.Holds.{is_held}

@@ -24,7 +24,8 @@ use Rattle.job_grammar.specs.Jobs.{JobView}
 use Rattle.script_rules.specs.declared.steps.BuildStep.{BuildStep}
 use Rattle.script_rules.specs.declared.steps.BuildStep.TheVariants as builds
 use Rattle.script_rules.specs.inner.Cursor.{left}
-use Rattle.script_rules.specs.Script.{frame_at, script_of, step_action}
+use Rattle.script_rules.specs.Script.{script_of, step_action}
+use Rattle.sgx_types.specs.Pages.{frame_at}
 use Rattle.driver_list.specs.declared.page_states.PageState.{PageState}
 use Rattle.driver_list.specs.declared.page_states.PageState.TheVariants as states
 use Rattle.driver_list.specs.inner.States.{StateTable, state_of as page_state}

@@ -10,7 +10,7 @@ use Rattle.sgx_rules.specs.Processors.{stay}
 use Rattle.job_grammar.specs.declared.jobs.PageLine.{PageLine}
 use Rattle.job_grammar.specs.declared.jobs.PageLine.TheVariants as lines
 use Rattle.job_grammar.specs.Jobs.{JobView, lines_at, tcs_line}
-use Rattle.script_rules.specs.Script.{is_seated_at, saved}
+use Rattle.script_rules.specs.Script.{is_seated_at, saved_frames}
 use Rattle.machine_laws.specs.inner.Columns.{HasColumns}
 use Rattle.sgx_machine.specs.inner.Parts.{Parts, state_of}
 use Rattle.driver_rules.specs.Dues.{Due, Ends, Finished, Makes, Reports, Stopped, Waits}
@@ -72,7 +72,7 @@ IsWithin n _ = Unit {0}
 
 -- how many are in use, with the one that a processor inside by the TCS page takes when it leaves
 abbrev pub in_use : List Entry → ℕ → Page → ℕ
-in_use past p g = if is_seated_at g (stay past p) then saved past g + 1 else saved past g
+in_use past p g = if is_seated_at g (stay past p) then saved_frames past g + 1 else saved_frames past g
 
 -- ---- the frame of a page
 

@@ -7,7 +7,7 @@ use Rattle.sgx_types.specs.declared.names.Page.{Page}
 use Rattle.job_grammar.specs.Jobs.{JobView, lines_at, tcs_line, va_pages}
 use Rattle.job_grammar.specs.inner.Valid.{IsValid}
 use Rattle.script_rules.specs.inner.Cursor.{IsCursor, left}
-use Rattle.script_rules.specs.Script.{build_of, built, is_initialised, replied, saved}
+use Rattle.script_rules.specs.Script.{build_of, built, is_initialised, replied, saved_frames}
 use Rattle.driver_rules.specs.Needs.{interruption}
 use Rattle.driver_rules.specs.Stops.{is_spent}
 use Rattle.driver_rules.specs.Turns.{is_kicked, last_of}
@@ -40,7 +40,7 @@ pub record ShowsTurns (j : JobView) (past : List Entry) (t : Turns) : Type 0 whe
   pub cpus : (p : ℕ) → p < length j.scripts → ShowsCpu past p (turn_at t.cpus p)
   pub each : length t.cpus ≡ length j.scripts
   -- of each TCS page its line, and how many of its state save pages are in use
-  pub saves : (g : Page) → tcs_at t.tcs g ≡ tcs_by (tcs_line (lines_at j.enclaves g.enclave) g.number) (saved past g)
+  pub saves : (g : Page) → tcs_at t.tcs g ≡ tcs_by (tcs_line (lines_at j.enclaves g.enclave) g.number) (saved_frames past g)
   pub places : map length t.tcs ≡ va_pages j ∷ page_counts j
   pub last : t.last ≡ last_actor past
   pub spent : t.is_spent ≡ is_spent past

@@ -4,7 +4,7 @@ use Rattle.sgx_rules.specs.declared.entries.AccessOp.{AccessOp}
 use Rattle.sgx_rules.specs.declared.entries.AccessOp.TheVariants as accesses
 use Rattle.sgx_types.specs.declared.names.Frame.{Frame}
 use Rattle.sgx_types.specs.declared.names.Perm.{Perm}
-use Rattle.sgx_rules.specs.Table.{Case, load_row, store_row, xadd_row}
+use Rattle.sgx_rules.specs.Table.{Row, load_row, store_row, xadd_row}
 use Rattle.sgx_rules.specs.Flat.{word_index}
 use Rattle.epcm_entry.specs.inner.Epc.{EpcFrame, word_at, with_word}
 use Rattle.cached_translations.specs.declared.cache.Translation.{Translation}
@@ -34,7 +34,7 @@ abbrev pub perm_at : List Translation → ℕ → Option Perm
 perm_at cache off = perm_of (translation_at cache off)
 
 -- the row of each kind of access
-abbrev pub row_of : AccessOp → ℕ → Bool → Option Perm → List Case
+abbrev pub row_of : AccessOp → ℕ → Bool → Option Perm → Row
 row_of accesses.Load off is_inside perm = load_row off is_inside perm
 row_of accesses.Store off is_inside perm = store_row off is_inside perm
 row_of accesses.Xadd off is_inside perm = xadd_row off is_inside perm

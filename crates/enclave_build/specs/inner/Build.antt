@@ -12,7 +12,8 @@ use Rattle.sgx_rules.specs.declared.refusals.Refusal.{Refusal}
 use Rattle.sgx_rules.specs.declared.refusals.Refusal.TheVariants as why
 use Rattle.sgx_types.specs.Pages.{no_perm, page_at}
 use Rattle.sgx_rules.specs.Frames.{Content, Holds, secs_frame}
-use Rattle.sgx_rules.specs.Table.{Case, allowed, when, ◌otherwise◌, EnclaveSight, SecsSight, init_row}
+use Rattle.sgx_types.specs.Cases.{allowed, when, ◌otherwise◌}
+use Rattle.sgx_rules.specs.Table.{EnclaveSight, Row, SecsSight, init_row}
 use Rattle.sgx_rules.specs.Sights.{secs_seen}
 use Rattle.sgx_rules.specs.Flat.{first_words}
 use Rattle.epcm_entry.specs.inner.Epc.{EpcFrame, with_page, with_words, bytes_at, entry_at}
@@ -41,7 +42,7 @@ abbrev pub secs_sight : List EpcFrame → ℕ → SecsSight
 secs_sight epc enclave = secs_seen (λ n. goes_out (entry_at epc n)) (secs_frame (length epc) (held_in epc) enclave)
 
 -- the cases that a SECS gives
-abbrev pub secs_row : SecsSight → List Case
+abbrev pub secs_row : SecsSight → Row
 secs_row s = when s.is_away why.Absent otherwise when s.is_sealing why.Conflict otherwise allowed
 
 -- ---- ECREATE
@@ -83,7 +84,7 @@ is_expected None made = true
 is_expected (Some wanted) made = bytes_eq wanted made
 
 -- the row of `init`, with the measurement as its last case
-abbrev pub measured_row : EnclaveSight → SecsSight → Option (List ℕ) → List ℕ → List Case
+abbrev pub measured_row : EnclaveSight → SecsSight → Option (List ℕ) → List ℕ → Row
 measured_row enclave secs expect made = init_row (Some enclave) secs
     ++ (when (not (is_expected expect made)) (why.BadMeasure made) otherwise allowed)
 

@@ -4,7 +4,9 @@ use Rattle.sgx_types.specs.declared.layouts.TcsFields.{TcsFields}
 use Rattle.sgx_types.specs.declared.names.Frame.{Frame}
 use Rattle.sgx_rules.specs.declared.refusals.Refusal.TheVariants as why
 use Rattle.sgx_rules.specs.Frames.{Content, Holds}
-use Rattle.sgx_rules.specs.Table.{Case, when, TcsSight, EnterSight, enter_row, resume_row}
+use Rattle.sgx_rules.specs.declared.refusals.Refusal.{Refusal}
+use Rattle.sgx_types.specs.Cases.{Case, when}
+use Rattle.sgx_rules.specs.Table.{EnterSight, Row, TcsSight, enter_row, resume_row}
 use Rattle.sgx_rules.specs.Flat.{tcs_fields, with_cssa}
 use Rattle.epcm_entry.specs.inner.Epc.{EpcFrame, words_at, with_word, with_words}
 use Rattle.epcm_entry.specs.inner.Sights.{sight_in}
@@ -41,12 +43,12 @@ enter_sight epc secs mode tcs tf sf = record {
 
 -- ---- the two ways in
 
-abbrev pub row_of : WayIn → ℕ → ℕ → EnterSight → List Case
+abbrev pub row_of : WayIn → ℕ → ℕ → EnterSight → Row
 row_of entries.Enter enclave tcs s = enter_row enclave tcs s
 row_of entries.Resume enclave tcs s = resume_row enclave tcs s
 
 -- what is asked of CSSA
-abbrev pub frame_case : WayIn → TcsSight → Case
+abbrev pub frame_case : WayIn → TcsSight → Case Refusal
 frame_case entries.Enter fields = when (fields.cssa == fields.nssa) why.NoFrame
 frame_case entries.Resume fields = when (fields.cssa == 0) why.NoSaved
 

@@ -9,7 +9,8 @@ use Rattle.sgx_types.specs.declared.names.Perm.{Perm}
 use Rattle.sgx_types.specs.declared.names.SlotAt.{SlotAt}
 use Rattle.sgx_types.specs.Pages.{is_own_page, is_secs_page, is_va_page}
 use Rattle.sgx_rules.specs.Frames.{Content, Holds, IsLoading, SecsOf, enclave_in, secs_frame}
-use Rattle.sgx_rules.specs.Table.{Case, allowed, when, ◌otherwise◌, is_va, EnclaveSight, LoadSight, SecsSight, TrackSight}
+use Rattle.sgx_types.specs.Cases.{allowed, when, ◌otherwise◌}
+use Rattle.sgx_rules.specs.Table.{EnclaveSight, LoadSight, Row, SecsSight, TrackSight, is_va}
 use Rattle.sgx_rules.specs.Table.{SlotSight, UseSight}
 use Rattle.sgx_rules.specs.Table.{DrainSight, FrameSight, is_own}
 use Rattle.epcm_entry.specs.declared.entry_view.EntryView.{EntryView}
@@ -110,7 +111,7 @@ abbrev pub AreCountedIn : List EpcFrame → List (Option SecsState) → Type 0
 AreCountedIn epc table = AreCounted (length epc) (held_in epc) table
 
 -- the cases that a SECS gives
-abbrev pub secs_row : SecsSight → List Case
+abbrev pub secs_row : SecsSight → Row
 secs_row s = when s.is_away why.Absent otherwise when s.is_sealing why.Conflict otherwise allowed
 
 -- ---- enclaves
@@ -143,17 +144,17 @@ abbrev pub children_in : List EpcFrame → ℕ → ℕ
 children_in epc f = children_under (length epc) (held_in epc) (held_in epc f)
 
 -- a SECS stays while pages of its enclave are there
-abbrev pub children_row : ℕ → List Case
+abbrev pub children_row : ℕ → Row
 children_row count = when (not (count == 0)) (why.ChildPresent count) otherwise allowed
 
 -- a TCS or REG page stays until it is blocked, and then until its translations are gone
-abbrev pub track_row_from : Tracking → Option ℕ → List Case
+abbrev pub track_row_from : Tracking → Option ℕ → Row
 track_row_from t None = when true why.PageNotBlocked otherwise allowed
 track_row_from t (Some block) =
     when (not (drain_from block (Some t)).is_drained) (why.NotTracked t.epoch (number_up_to t block)) otherwise allowed
 
 -- the three cases of the row of `ewbstart` together
-abbrev pub stay_row : FrameSight → ℕ → DrainSight → List Case
+abbrev pub stay_row : FrameSight → ℕ → DrainSight → Row
 stay_row s children drain =
     when (not (children == 0)) (why.ChildPresent children)
     otherwise when (is_own s.content && not s.is_blocked) why.PageNotBlocked
@@ -161,7 +162,7 @@ stay_row s children drain =
     otherwise allowed
 
 -- the cases that a page to be loaded gives
-abbrev pub page_row : LoadSight → List Case
+abbrev pub page_row : LoadSight → Row
 page_row page =
     when (not page.is_known) why.Absent
     otherwise when page.secs.is_away why.Absent

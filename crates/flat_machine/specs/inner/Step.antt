@@ -10,7 +10,8 @@ use Rattle.sgx_rules.specs.declared.entries.AccessOp.{AccessOp}
 use Rattle.sgx_rules.specs.declared.entries.AccessOp.TheVariants as accesses
 use Rattle.sgx_types.specs.declared.names.Perm.{Perm}
 use Rattle.sgx_types.specs.declared.names.TheConstants.{PROCESSORS}
-use Rattle.sgx_rules.specs.Table.{Case, first_of_row, allows_read, allows_write, allows_update}
+use Rattle.sgx_types.specs.Cases.{first_of_row}
+use Rattle.sgx_rules.specs.Table.{Row, allows_read, allows_update, allows_write}
 use Rattle.sgx_rules.specs.Flat.{FlatMemory, is_processors, flat_cpu_row, flat_build_row, accepts, flat_answer, memory_after}
 use Rattle.flat_machine.specs.declared.reply.FlatReply.{FlatReply}
 use Rattle.flat_machine.specs.declared.reply.FlatReply.TheVariants.{Did, Refused}
@@ -31,10 +32,10 @@ MayNeedMemory (actions.Add enclave number f kind perm init) = Unit {0}
 MayNeedMemory _ = ⊥
 
 -- the row of an instruction
-abbrev pub flat_row : FlatMemory → Actor → Action → List Case
+abbrev pub flat_row : FlatMemory → Actor → Action → Row
 flat_row m actor action = if is_processors action then by_cpu actor else flat_build_row m action
   where
-    by_cpu : Actor → List Case
+    by_cpu : Actor → Row
     by_cpu (Cpu p) = flat_cpu_row m p.0 action
     by_cpu _ = flat_build_row m action
 

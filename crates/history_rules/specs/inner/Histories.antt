@@ -6,7 +6,7 @@ use Rattle.sgx_rules.specs.declared.entries.Event.TheVariants.{Age, Kick, Bus}
 use Rattle.job_grammar.specs.Jobs.{JobView}
 use Rattle.history_rules.specs.declared.rules.Rule.{Rule}
 use Rattle.history_rules.specs.declared.rules.Rule.TheVariants as rules
-use Rattle.history_rules.specs.Histories.{Says, Before, Keeps}
+use Rattle.history_rules.specs.Histories.{RuleSays, Before, Keeps}
 
 -- the rules that say nothing of a driver
 abbrev pub is_machines : Rule → Bool
@@ -24,7 +24,7 @@ is_note _ = false
 
 -- .. or a history that goes on: nothing is asked of its end
 pub record GoesOn (j : JobView) (past : List Entry) : Type 0 where
-  pub script : Before (Says j rules.Script) past
+  pub script : Before (RuleSays j rules.Script) past
   pub refusal : Keeps j rules.Refusal past
   pub flat : Keeps j rules.Flat past
   pub fits : Keeps j rules.Fits past

@@ -4,7 +4,7 @@ use Rattle.std.specs.Prelude.{◌⊎◌, List, [], ◌∷◌, ◌++◌, length, 
 use Rattle.std.specs.List.{IsDistinct}
 use Rattle.sgx_types.specs.declared.names.Page.{Page}
 use Rattle.sgx_types.specs.Pages.{same_page}
-use Rattle.least_reloads.specs.Plans.{StepView, has, after}
+use Rattle.least_reloads.specs.Plans.{StepView, has, held_behind}
 
 -- nothing goes and nothing is loaded
 abbrev pub stays : StepView
@@ -33,7 +33,7 @@ pub data IsBest (frames : ℕ) (held : List Page) (page : Page) (coming : List P
 -- such a step for each access
 abbrev pub IsBestRun : ℕ → List Page → List Page → List StepView → Type 0
 IsBestRun frames held [] [] = Unit {0}
-IsBestRun frames held (page ∷ coming) (step ∷ steps) = IsBest frames held page coming step × IsBestRun frames (after held step) coming steps
+IsBestRun frames held (page ∷ coming) (step ∷ steps) = IsBest frames held page coming step × IsBestRun frames (held_behind held step) coming steps
 IsBestRun frames held _ _ = ⊥
 
 -- pages that are held are distinct, and fit
@@ -76,5 +76,5 @@ pub record Chosen (frames i : ℕ) (page : Page) (coming held : List Page) (step
   pub others : List Page
   pub keeps : Keeps i (page ∷ coming) others look count
   pub absent : has others page ≡ false
-  pub same : (g : Page) → has (others ++ page ∷ []) g ≡ has (after held step) g
-  pub size : length (after held step) ≡ length others + 1
+  pub same : (g : Page) → has (others ++ page ∷ []) g ≡ has (held_behind held step) g
+  pub size : length (held_behind held step) ≡ length others + 1

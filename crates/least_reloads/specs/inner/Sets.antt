@@ -4,7 +4,7 @@ use Rattle.std.specs.Bool.{MatchBool}
 use Rattle.std.specs.List.{IsDistinct}
 use Rattle.sgx_types.specs.declared.names.Page.{Page}
 use Rattle.sgx_types.specs.Pages.{same_page}
-use Rattle.least_reloads.specs.Plans.{StepView, has, after, IsStep}
+use Rattle.least_reloads.specs.Plans.{StepView, has, held_behind, IsStep}
 
 -- the set has the pages of the list, which names each once
 pub record AreOf (set pages : List Page) : Type 0 where
@@ -33,4 +33,4 @@ Join old pages new = (page : Page) → has new page ≡ (has old page || has pag
 -- after it; where it is not, it could not be done.
 abbrev pub Serves : ℕ → List Page → Page → StepView → Bool → List Page → Type 0
 Serves frames old accessed step served new = (held : List Page) → AreOf old held
-    → MatchBool served (IsStep frames held accessed step × AreOf new (after held step)) (¬ (IsStep frames held accessed step))
+    → MatchBool served (IsStep frames held accessed step × AreOf new (held_behind held step)) (¬ (IsStep frames held accessed step))

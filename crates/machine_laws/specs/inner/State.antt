@@ -21,7 +21,8 @@ use Rattle.sgx_types.specs.Pages.{is_own_page, is_secs_page, is_va_page, same_pa
 use Rattle.sgx_rules.specs.Frames.{Content, Free, IsVa, SecsOf, Holds, IsLoading, enclave_in}
 use Rattle.sgx_rules.specs.Frames.{secs_frame}
 use Rattle.sgx_rules.specs.Processors.{Seat}
-use Rattle.sgx_rules.specs.Table.{Case, allowed, FrameSight, EnterSight, TrackSight, SlotSight, DrainSight, LoadSight, SecsSight}
+use Rattle.sgx_types.specs.Cases.{allowed}
+use Rattle.sgx_rules.specs.Table.{DrainSight, EnterSight, FrameSight, LoadSight, Row, SecsSight, SlotSight, TrackSight}
 use Rattle.sgx_rules.specs.Table.{UseSight}
 use Rattle.sgx_rules.specs.Table.{is_made, is_own, is_ready, is_va, epa_row, create_row}
 use Rattle.sgx_rules.specs.Table.{add_row, extend_row, init_row, enter_row, resume_row, inside_row, fill_row, load_row}
@@ -33,7 +34,7 @@ use Rattle.epcm_entry.specs.inner.Words.{words_of, zero_words}
 use Rattle.cached_translations.specs.declared.cache.Translation.{Translation}
 use Rattle.cached_translations.specs.inner.Translations.{translation_of, with_translation}
 use Rattle.measure_log.specs.declared.measure.Measure.{Measure}
-use Rattle.sgx_rules.specs.Flat.{FlatEnclave, enclave_sight_of, marked, settled, tcs_fields, with_cssa, first_words, word_index}
+use Rattle.sgx_rules.specs.Flat.{FlatEnclave, enclave_sight_of, as_initialised, settled, tcs_fields, with_cssa, first_words, word_index}
 use Rattle.sgx_rules.specs.Flat.{sum_of}
 use Rattle.sgx_rules.specs.Sights.{children_under, seat_of, secs_seen}
 use Rattle.sgx_types.specs.inner.Places.{same_place}
@@ -226,7 +227,7 @@ drain_sight s n = record {
 abbrev pub is_version_spent : State → Bool
 is_version_spent s = s.next_version == 2 ^ 64
 
-abbrev pub cpu_row_of : State → ℕ → Action → List Case
+abbrev pub cpu_row_of : State → ℕ → Action → Row
 cpu_row_of s p (Enter enclave tcs tf sf) = enter_row enclave tcs (enter_sight s p (seat_of enclave tcs tf.0 sf.0))
 cpu_row_of s p (Resume enclave tcs tf sf) = resume_row enclave tcs (enter_sight s p (seat_of enclave tcs tf.0 sf.0))
 cpu_row_of s p Exit = inside_row (is_some (s.inside p))
@@ -247,7 +248,7 @@ abbrev pub from_outside : State → State
 from_outside s = record s { inside = λ p. None }
 
 -- the row of a processor's instruction for who is inside no enclave
-abbrev pub row_outside : State → Action → List Case
+abbrev pub row_outside : State → Action → Row
 row_outside s action = cpu_row_of (from_outside s) 0 action
 
 -- whether the enclave of the page in a frame is initialised
@@ -256,7 +257,7 @@ is_closed s None = false
 is_closed s (Some enclave) = is_ready (enclave_sight_of (s.enclaves enclave))
 
 -- the row of an instruction
-abbrev pub row_of : State → Actor → Action → List Case
+abbrev pub row_of : State → Actor → Action → Row
 row_of s actor (Epa f) = epa_row (sight s f.0)
 row_of s actor (Create enclave f base size) = create_row enclave base size (is_some (s.enclaves enclave)) (sight s f.0)
 row_of s actor (Add enclave number f kind perm init) =
@@ -306,7 +307,7 @@ abbrev pub after_extend : State → ℕ → Measure → State
 after_extend s enclave longer = record s { measure = λ e. if e == enclave then Some longer else s.measure e }
 
 abbrev pub after_init : State → ℕ → State
-after_init s enclave = record s { enclaves = λ e. if e == enclave then marked (s.enclaves e) else s.enclaves e }
+after_init s enclave = record s { enclaves = λ e. if e == enclave then as_initialised (s.enclaves e) else s.enclaves e }
 
 -- the words of one frame are changed
 abbrev pub rewritten : (ℕ → List ℕ) → ℕ → (List ℕ → List ℕ) → ℕ → List ℕ

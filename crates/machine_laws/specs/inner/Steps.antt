@@ -26,7 +26,8 @@ use Rattle.sgx_rules.specs.Frames.{Content, IsLoading, IsVa, SecsOf, Holds, page
 use Rattle.sgx_rules.specs.PageBytes.{secs_bytes, secs_header, va_header}
 use Rattle.std.specs.List.{range_with_len}
 use Rattle.sgx_types.specs.declared.record.Header.{Header}
-use Rattle.sgx_rules.specs.Table.{Case, first_of_row, perm_in, fault_of}
+use Rattle.sgx_types.specs.Cases.{first_of_row}
+use Rattle.sgx_rules.specs.Table.{Row, fault_of, perm_in}
 use Rattle.sgx_rules.specs.Flat.{FlatEnclave, all_ones, is_processors, sum_of}
 use Rattle.sgx_rules.specs.Sights.{seat_of}
 use Rattle.sgx_types.specs.Layouts.{flags_of, bytes_of, zeros}
@@ -259,7 +260,7 @@ abbrev pub IsComingHeader : State → ℕ → Header → Type 0
 IsComingHeader s f header = (coming : IsComing s f) × (header ≡ coming.header)
 
 -- the row of the commit of ELDU, where this record was brought
-abbrev pub commit_row : (s : State) (f : ℕ) → IsComing s f → Sealed → List Case
+abbrev pub commit_row : (s : State) (f : ℕ) → IsComing s f → Sealed → Row
 commit_row s f coming rec = eld_row rec (tag s.key coming.start.version rec.header rec.cipher) (Some coming.header)
 
 -- the load into a frame may end with a record: it does not bring a version array page that a frame holds

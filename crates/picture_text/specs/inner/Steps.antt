@@ -11,7 +11,7 @@ use Rattle.picture_text.specs.declared.events.Mark.TheVariants as marks
 use Rattle.picture_text.specs.declared.events.Open.{Open}
 use Rattle.picture_text.specs.declared.events.PictureEvent.{PictureEvent}
 use Rattle.picture_text.specs.Events.{frame_in, frame_lane, in_use, is_outside, lane_of, marked, more_or_less, page_lane, pages_by}
-use Rattle.picture_text.specs.Events.{steps, version_after}
+use Rattle.picture_text.specs.Events.{steps, drawn_after}
 use Rattle.picture_text.specs.Open.{open_if, open_on}
 
 abbrev pub steps_if : ℕ → Option Lane → Open → Open → List PictureEvent
@@ -52,5 +52,5 @@ counts_by event before after counts = record {
   frames = more_or_less (in_use before.frame) (in_use after.frame) counts.frames;
   pages = more_or_less (is_outside before.named) (is_outside after.named)
       (more_or_less (is_outside before.former) (is_outside after.former) counts.pages);
-  version = version_after event counts.version;
+  version = drawn_after event counts.version;
 }

@@ -31,7 +31,7 @@ use Rattle.due_tables.specs.inner.Shown.{ShowsTurns}
 use Rattle.history_rules.specs.Calls.{before}
 use Rattle.history_rules.specs.Given.{UnforgedRun, gift, made_in}
 use Rattle.history_rules.specs.Honest.{IsHonest}
-use Rattle.history_rules.specs.Stored.{Tells}
+use Rattle.history_rules.specs.Stored.{TellsOfStore}
 use Rattle.run_calls.specs.inner.Stores.{TellsStore}
 use Rattle.run_calls.specs.inner.Comes.{Comes}
 use Rattle.driver_rules.specs.Stops.{is_bus}
@@ -78,7 +78,7 @@ pub record KeepsBook (made : Making) (j : JobView) (past : List Entry) (told : O
 -- of its record
 pub record IsTold (j : JobView) (past : List Entry) (e : Entry) (calls longer : List Call) (d d' : Driver) : Type 0 where
   pub comes : Comes e calls longer d d'
-  pub tells : Tells j.key past (gift past (before e.event longer)) e.event longer
+  pub tells : TellsOfStore j.key past (gift past (before e.event longer)) e.event longer
 
 abbrev pub AreTold : JobView → List Entry → Entry → Option (List Call) → Option (List Call) → Driver → Driver → Type 0
 AreTold j past e (Some calls) (Some longer) d d' = IsTold j past e calls longer d d'

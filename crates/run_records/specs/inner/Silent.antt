@@ -6,7 +6,7 @@ use Rattle.sgx_types.specs.declared.names.Cpu.{Cpu}
 use Rattle.sgx_types.specs.declared.names.Page.{Page}
 use Rattle.sgx_types.specs.Sealed.{Sealed}
 use Rattle.backing_store.specs.Calls.{Call}
-use Rattle.history_rules.specs.Stored.{Tells}
+use Rattle.history_rules.specs.Stored.{TellsOfStore}
 use Rattle.run_calls.specs.inner.Comes.{bus_of}
 use Rattle.driver_faults.specs.declared.answers.FaultAnswer.{FaultAnswer}
 use Rattle.driver_faults.specs.declared.answers.FaultAnswer.TheVariants as answers
@@ -19,7 +19,7 @@ use Rattle.run_records.specs.inner.Builds.{is_building}
 -- it tells nothing of a record, and builds no enclave
 pub record IsSilent (e : Entry) : Type 0 where
   pub building : is_building e.event ≡ false
-  pub tells : (key : List ℕ) (past : List Entry) (gifts : ℕ → Option Sealed) (calls : List Call) → Tells key past gifts e.event calls
+  pub tells : (key : List ℕ) (past : List Entry) (gifts : ℕ → Option Sealed) (calls : List Call) → TellsOfStore key past gifts e.event calls
 
 -- the answer of a fault step has no entry
 abbrev pub HasNoEntry : FaultAnswer → Type 0

@@ -8,7 +8,7 @@ use Rattle.sgx_rules.specs.declared.entries.Event.{Event}
 use Rattle.sgx_rules.specs.declared.entries.Event.TheVariants.{Did}
 use Rattle.sgx_rules.specs.declared.entries.Action.TheVariants.{Create, Init}
 use Rattle.sgx_types.specs.declared.names.Page.{Page}
-use Rattle.sgx_rules.specs.Flat.{FlatEnclave, added_as, flat, marked}
+use Rattle.sgx_rules.specs.Flat.{FlatEnclave, added_as, flat, as_initialised}
 use Rattle.sgx_types.specs.Pages.{is_secs_page, is_va_page, page_at}
 use Rattle.sgx_rules.specs.Frames.{added, vas_made}
 use Rattle.sgx_rules.specs.Processors.{stay}
@@ -16,7 +16,7 @@ use Rattle.sgx_rules.specs.Processors.{stay}
 abbrev pub created_by : Event → ℕ → Option FlatEnclave → Option FlatEnclave
 created_by (Did (Create enclave f base size) answer) n before =
     if n == enclave then Some (record { base = base; size = size; is_init = false }) else before
-created_by (Did (Init enclave expect) answer) n before = if n == enclave then marked before else before
+created_by (Did (Init enclave expect) answer) n before = if n == enclave then as_initialised before else before
 created_by _ n before = before
 
 -- the range of an enclave that was created, and whether it was initialised

@@ -17,7 +17,7 @@ use Rattle.sgx_types.specs.declared.names.Kind.TheVariants as kinds
 use Rattle.sgx_types.specs.declared.names.Perm.{Perm}
 use Rattle.text_words.specs.Words.{Words}
 use Rattle.trace_text.specs.declared.edition.Edition.TheVariants as editions
-use Rattle.trace_text.specs.Fields.{refusal_fields, words_of}
+use Rattle.trace_text.specs.Fields.{refusal_fields, words_of_fields}
 use Rattle.trace_text.specs.Names.{access_word, cause_word, fault_word, kind_word, look_word, perms_word, stop_word}
 use Rattle.trace_lines.specs.declared.names.Row.{Row}
 use Rattle.trace_lines.specs.declared.names.Row.TheVariants as rows
@@ -95,7 +95,7 @@ stop_in word = unwrap_or (named stop_word all word) stops.GetFailed
 
 -- the one word of a refusal that has no fields
 abbrev pub bare_word : Refusal → List ℕ
-bare_word refusal = first (words_of editions.Two (refusal_fields refusal))
+bare_word refusal = first (words_of_fields editions.Two (refusal_fields refusal))
   where
     first : Words → List ℕ
     first [] = []

@@ -13,7 +13,7 @@ use Rattle.trace_places.specs.declared.moves.PageMove.{PageMove}
 use Rattle.trace_places.specs.declared.moves.Where.{Where}
 use Rattle.trace_places.specs.declared.places.PageKey.{PageKey}
 use Rattle.trace_places.specs.declared.places.Places.{Places}
-use Rattle.trace_places.specs.Places.{change_by, frame_changed, tenant_of, tenant_after, tenant, is_tenant, put_in, take_out, frames}
+use Rattle.trace_places.specs.Places.{change_by, frame_changed, tenant_of, tenant_after, tenant, is_tenant, put_in, take_out, frames_having}
 use Rattle.trace_places.specs.Places.{least, gone_after, gone_last, where_by, moved, va_number, page_at_frame, page_named, other_than}
 use Rattle.trace_places.specs.inner.Frames.{frames_in, HasRoomFor}
 
@@ -38,7 +38,7 @@ place_in known g = where_by (least (frames_in known.frames (Has g))) (least (fra
 -- the tables stand for these entries
 pub record Stands (known : Places) (past : List Entry) : Type 0 where
   pub tenants : (n : ℕ) → tenant_in known n ≡ tenant past n
-  pub frames : (t : Tenant) → frames_in known.frames t ≡ frames past t
+  pub frames : (t : Tenant) → frames_in known.frames t ≡ frames_having past t
   pub gone : (g : Page) → gone_in known g ≡ gone_last past g
   pub next_va : known.next_va ≡ va_number (vas_made past)
 

@@ -15,7 +15,7 @@ use Rattle.flat_words.specs.declared.writes.NewPage.{NewPage}
 use Rattle.flat_words.specs.declared.writes.WordAt.{WordAt}
 use Rattle.flat_words.specs.declared.writes.Writes.{Writes}
 use Rattle.flat_words.specs.Words.{word_in}
-use Rattle.flat_words.specs.Writes.{touched, added_by}
+use Rattle.flat_words.specs.Writes.{touched, page_added}
 use Rattle.trace_query.specs.declared.word_lists.Change.{Change}
 use Rattle.trace_query.specs.declared.page_words.Added.{Added}
 use Rattle.trace_query.specs.declared.page_words.Taken.{Taken}
@@ -62,7 +62,7 @@ added_with (Some x) place g before =
 -- at which place a page was added, and with which words
 abbrev pub added : List Entry → Page → Option Added
 added [] g = None
-added (e ∷ past) g = added_with (added_by (flat past) e.actor e.event) (length past + 1) g (added past g)
+added (e ∷ past) g = added_with (page_added (flat past) e.actor e.event) (length past + 1) g (added past g)
 
 -- ---- what is kept
 

@@ -8,7 +8,7 @@ use Rattle.trace_places.specs.inner.Tables.{Stands}
 use Rattle.trace_query.specs.inner.Insides as insides
 use Rattle.trace_tally.specs.declared.sights.Sights.{Sights}
 use Rattle.trace_tally.specs.declared.counts.Seen.{Seen}
-use Rattle.trace_tally.specs.Tests.{is_page_entered, page_in, was_back, is_written, is_entered_then, is_cached_now, is_reloaded, is_again}
+use Rattle.trace_tally.specs.Tests.{is_page_entered, tenant_page, was_back, is_written, is_entered_then, is_cached_now, is_reloaded, is_again}
 use Rattle.trace_tally.specs.Tests.{is_odd}
 use Rattle.trace_tally.specs.inner.Blocks as blocks
 
@@ -21,7 +21,7 @@ pub record Knows (known : Sights) (past : List Entry) : Type 0 where
 -- a processor is inside the enclave of the page of the frame that is blocked, if one is
 abbrev pub is_blocked_entered : List Entry → Option ℕ → Bool
 is_blocked_entered past None = false
-is_blocked_entered past (Some n) = is_page_entered past (page_in past n)
+is_blocked_entered past (Some n) = is_page_entered past (tenant_page past n)
 
 -- all that an event is
 abbrev pub seen : List Entry → Event → Seen

@@ -30,7 +30,7 @@ use Rattle.sgx_rules.specs.Rules.{case_of, seen_answer}
 use Rattle.sgx_rules.specs.Sights.{row_at}
 use Rattle.sgx_rules.specs.Slots.{next_version, version_at, version_in}
 use Rattle.sgx_rules.specs.Starts.{Start, open_start}
-use Rattle.sgx_rules.specs.Table.{first_of_row}
+use Rattle.sgx_types.specs.Cases.{first_of_row}
 use Rattle.job_grammar.specs.Jobs.{JobView}
 use Rattle.script_rules.specs.Machines.{machine_of}
 use Rattle.driver_rules.specs.inner.Same.{same_numbers}

@@ -16,7 +16,7 @@ use Rattle.sgx_rules.specs.declared.entries.Look.TheVariants as looks
 use Rattle.job_grammar.specs.declared.jobs.PageLine.TheVariants as lines
 use Rattle.job_grammar.specs.declared.jobs.Op.TheVariants as ops
 use Rattle.job_grammar.specs.Jobs.{JobView}
-use Rattle.script_rules.specs.Script.{frame_at}
+use Rattle.sgx_types.specs.Pages.{frame_at}
 use Rattle.worked_driver.specs.inner.Words.{add_reg, add_tcs, block, cpu, did, enter, epa, exit, init, rw_perm, slot_at, start_out}
 use Rattle.worked_driver.specs.inner.Words.{track, try_refused}
 

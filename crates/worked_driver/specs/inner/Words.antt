@@ -22,7 +22,7 @@ use Rattle.sgx_rules.specs.declared.refusals.Refusal.{Refusal}
 use Rattle.sgx_rules.specs.declared.refusals.Refusal.TheVariants as why
 use Rattle.sgx_types.specs.Pages.{no_perm, page_at}
 use Rattle.measure_log.specs.Rule.{measurement}
-use Rattle.script_rules.specs.Script.{frame_at}
+use Rattle.sgx_types.specs.Pages.{frame_at}
 
 abbrev pub rw_perm : Perm
 rw_perm = record { r = true; w = true; x = false }

@@ -1,7 +1,7 @@
 use Rattle.std.proofs.Common.{get_or, subst, arith}
 use Rattle.std.proofs.lemmas.Bool.{MatchBool-at_true}
 use Rattle.sgx_types.specs.declared.names.Page.{Page}
-use Rattle.least_reloads.specs.Plans.{StepView, IsStep, after}
+use Rattle.least_reloads.specs.Plans.{StepView, IsStep, held_behind}
 use Rattle.least_reloads.specs.inner.Sets.{AreOf}
 use Rattle.least_reloads.proofs.RunLaws.{run_none, run_more}
 use Rattle.least_reloads.proofs.lawful.is_run.Goals as goal
@@ -15,7 +15,7 @@ loop-i-preserved c =
     let none : Page = record { enclave = 0; number = 0 } in
     let Done : StepView → Type 0 = λ step.
     IsStep c.args.frames so_far.pages (get_or c.args.accesses.now c.loop-i.i none) step × AreOf c.serves.new.held
-    (after so_far.pages step) in
+    (held_behind so_far.pages step) in
     let done = subst Done c.index-steps-i.is
     (MatchBool-at_true _ _ c.if-not-branch.false (c.in_ok-serves.ensures so_far.pages so_far.of)) in
     run_more c.args.frames c.args.accesses.now c.args.steps.now c.loop-i.held c.serves.new.held c.loop-i.i none c.index-steps-i.result

@@ -3,7 +3,7 @@ use Rattle.std.specs.Prelude.{codes}
 use Rattle.std.specs.Fmt.{decimal}
 use Rattle.std.specs.List.{sum_by}
 use Rattle.text_words.specs.Words.{line_text}
-use Rattle.page_commands.specs.Summary.{loaded, summary_of, xadds}
+use Rattle.page_commands.specs.Summary.{loaded_value, summary_of, xadds}
 use Rattle.page_commands.proofs.SumLaws.{four_texts}
 use Rattle.page_commands.proofs.summary.print_summary.Goals as goal
 
@@ -23,5 +23,5 @@ returns c =
     (four_texts
     (line_text (codes "pages" ∷ decimal (c.args.size + 9) ∷ []))
     (line_text (codes "operations" ∷ decimal (4 * (c.args.size + 2)) ∷ []))
-    (line_text (codes "loads" ∷ decimal (sum_by loaded c.args.entries.now % 2 ^ 64) ∷ []))
+    (line_text (codes "loads" ∷ decimal (sum_by loaded_value c.args.entries.now % 2 ^ 64) ∷ []))
     (line_text (codes "xadds" ∷ decimal (xadds c.args.job.now (reverse c.args.entries.now)) ∷ [])))

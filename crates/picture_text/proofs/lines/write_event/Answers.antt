@@ -2,7 +2,7 @@ use Rattle.std.proofs.Common.{◌++◌, ◌+◌, ℕ, List, ap, sym, ◌∙◌}
 use Rattle.std.specs.Prelude.{codes}
 use Rattle.std.specs.Fmt.{decimal}
 use Rattle.picture_text.specs.declared.events.Mark.{Mark}
-use Rattle.picture_text.specs.PictureText.{cause, event_words, mark_text, on_lane, shown, span_words}
+use Rattle.picture_text.specs.PictureText.{cause, event_words, mark_text, on_lane, spaced, span_words}
 use Rattle.picture_text.proofs.AppendLaws.{pushed_six, pushed_three}
 use Rattle.picture_text.proofs.TextLaws.{count_parts, line_parts}
 use Rattle.picture_text.proofs.lines.write_event.Goals as goal
@@ -12,7 +12,7 @@ returns-in-Begins-clause-text c = λ lanes numbered.
     let o = c.args.onto.now.items in
     let event = c.args.event.now in
     let on = on_lane lanes event.lane in
-    let named = shown (span_words c.in-Begins.span) in
+    let named = spaced (span_words c.in-Begins.span) in
     let why = cause c.args.entry.now event.place in
     let lead = codes "{\"ph\":\"B\"," in
     let time = codes ",\"ts\":" in
@@ -32,7 +32,7 @@ returns-in-Does-clause-text c = λ lanes numbered.
     let o = c.args.onto.now.items in
     let event = c.args.event.now in
     let on = on_lane lanes event.lane in
-    let named = shown (event_words c.args.entry.now.event) in
+    let named = spaced (event_words c.args.entry.now.event) in
     let why = cause c.args.entry.now event.place in
     let lead = codes "{\"ph\":\"X\"," in
     let time = codes ",\"ts\":" in

@@ -10,7 +10,7 @@ use Rattle.sgx_machine.proofs.EntryBridge.{inside_at, inside_allowed, its_enclav
 use Rattle.sgx_machine.proofs.WholeMachines.{whole, done_step, by_view}
 use Rattle.sgx_types.specs.declared.names.Actor.TheVariants as actors
 use Rattle.sgx_rules.specs.declared.entries.Action.TheVariants.{Aex}
-use Rattle.sgx_rules.specs.Table.{first_of_row}
+use Rattle.sgx_types.specs.Cases.{first_of_row}
 use Rattle.sgx_machine.proofs.machine.Machine.aex.Goals as goal
 
 pub aex-requires-clause-enclave : goal.aex-requires-clause-enclave

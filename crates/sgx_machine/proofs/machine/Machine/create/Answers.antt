@@ -1,5 +1,6 @@
 use Rattle.std.proofs.Common.{◌≡◌, ◌<◌, ◌∙◌, sym, arith, None, Some, is_some, length, length-set}
-use Rattle.sgx_rules.specs.Table.{create_row, first_of_row}
+use Rattle.sgx_types.specs.Cases.{first_of_row}
+use Rattle.sgx_rules.specs.Table.{create_row}
 use Rattle.sgx_rules.proofs.Rows.{none_holds}
 use Rattle.epcm_entry.specs.inner.Sights.{sight_in}
 use Rattle.enclave_build.proofs.Columns.{length-with_secs}

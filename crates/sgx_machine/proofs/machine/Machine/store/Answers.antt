@@ -7,7 +7,8 @@ use Rattle.sgx_machine.proofs.AccessBridge.{access_row_at, through, store_leaves
 use Rattle.sgx_machine.proofs.WholeMachines.{whole, whole_same, done_step, refused_step, by_view}
 use Rattle.sgx_types.specs.declared.names.Actor.TheVariants as actors
 use Rattle.sgx_rules.specs.declared.entries.Action.TheVariants.{Store}
-use Rattle.sgx_rules.specs.Table.{first_of_row, allows_write}
+use Rattle.sgx_types.specs.Cases.{first_of_row}
+use Rattle.sgx_rules.specs.Table.{allows_write}
 use Rattle.sgx_machine.proofs.machine.Machine.store.Goals.{in-Ok, in-Err}
 use Rattle.sgx_machine.proofs.machine.Machine.store.Goals as goal
 

@@ -11,7 +11,8 @@ use Rattle.sgx_rules.specs.Flat.{sum_of}
 use Rattle.enclave_access.specs.inner.Access.{with_stored}
 use Rattle.sgx_rules.specs.declared.entries.Answer.TheVariants.{Value}
 use Rattle.machine_laws.specs.inner.Steps.{did_by}
-use Rattle.sgx_rules.specs.Table.{first_of_row, allows_update}
+use Rattle.sgx_types.specs.Cases.{first_of_row}
+use Rattle.sgx_rules.specs.Table.{allows_update}
 use Rattle.sgx_machine.proofs.machine.Machine.xadd.Goals.{in-Ok, in-Err}
 use Rattle.sgx_machine.proofs.machine.Machine.xadd.Goals as goal
 
