@@ -33,7 +33,7 @@ use Rattle.script_rules.specs.Script.{build_of, built, is_initialised, is_interr
 use Rattle.machine_laws.specs.inner.Columns.{seat_of_stay}
 use Rattle.sgx_machine.specs.inner.Parts.{seat_of_mode}
 use Rattle.driver_rules.specs.Needs.{Interruption, interrupted_by, interrupted_in, interruption, interruption_after}
-use Rattle.driver_rules.specs.Stops.{spends}
+use Rattle.driver_rules.specs.Stops.{is_bus, spends}
 use Rattle.driver_rules.specs.Turns.{start_fails}
 use Rattle.driver_rules.specs.Turns.{fails_with, is_kicked, kicked_after, last_by, last_of, load_of}
 use Rattle.driver_laws.specs.inner.Loads.{EndsOwn, LoadsAreTheirs}
@@ -408,6 +408,7 @@ noted_shown j past old new before e is s can = record {
   places = ap (map length) is.tcs ∙ places_stay e.event (page_left e.actor before) old.tcs ∙ s.places;
   last = is.last;
   spent = is.spent ∙ ap (λ b. if spends e.event then true else b) s.spent;
+  loss = is.loss ∙ ap (λ b. if is_bus e.event then true else b) s.loss;
 }
   where
     stands : Stands j (e ∷ past) new.cursor

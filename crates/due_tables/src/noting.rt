@@ -59,6 +59,7 @@ impl Turns {
         note_step(&mut self.cursor, job, entry.actor);
         self.last = Some(entry.actor);
         self.is_spent = spends(&entry.event) || self.is_spent;
+        self.has_loss = matches!(entry.event, Event::Bus { .. }) || self.has_loss;
     }
 }
 

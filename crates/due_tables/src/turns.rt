@@ -11,8 +11,8 @@ use sgx_types::names::{Actor, Memory};
 use std::alloc::Global;
 
 /// What stands of the builder and of the processors of a job: how far the builder is, which enclaves are initialised, how its entries
-/// left each processor, the state save pages in use, whose the last entry of all is, and whether the run was stopped for want of an
-/// epoch or a version. No call but `new` takes memory, and each takes constant time.
+/// left each processor, the state save pages in use, whose the last entry of all is, whether the run was stopped for want of an epoch or
+/// a version, and whether a page could not be reloaded. No call but `new` takes memory, and each takes constant time.
 #[derive(Drop)]
 pub struct Turns {
     pub cursor: BuildCursor,
@@ -22,6 +22,7 @@ pub struct Turns {
     pub tcs: TcsTurns,
     pub last: Option<Actor>,
     pub is_spent: bool,
+    pub has_loss: bool,
 }
 
 impl Turns {
@@ -36,6 +37,7 @@ impl Turns {
             tcs: TcsTurns::new(alloc, job.va_pages(), job.enclaves())?,
             last: None,
             is_spent: false,
+            has_loss: false,
         })
     }
 }

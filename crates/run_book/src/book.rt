@@ -5,7 +5,8 @@ ghost use Rattle.std.specs.Prelude.{reverse};
 ghost use Rattle.driver_laws.specs.inner.Agrees.{loaded_by};
 ghost use Rattle.driver_rules.specs.Turns.{last_of};
 ghost use Rattle.driver_rules.specs.inner.Stops.{frame_started};
-ghost use Rattle.driver_rules.specs.Stops.{last_event};
+ghost use Rattle.driver_rules.specs.Stops.{is_spent, last_event};
+ghost use Rattle.due_tables.specs.inner.Shown.{has_loss};
 ghost use Rattle.sgx_types.specs.declared.names.Actor.TheVariants as actors;
 ghost use Rattle.epoch_words.specs.inner.Known.{enclaves};
 ghost use Rattle.epoch_words.specs.inner.Seen.{starting_at};
@@ -137,6 +138,20 @@ impl<B: Backing> MachineBook<B> {
         ensures words { self.new.words ≡ self.old.words }
     {
         self.book.commit_opened(cpu, work)
+    }
+
+    /// Whether an epoch or a version was used up.
+    pub fn is_spent(&self) -> bool
+        ensures { result ≡ is_spent self.now.book.past }
+    {
+        self.book.is_spent()
+    }
+
+    /// Whether a page could not be reloaded.
+    pub fn has_loss(&self) -> bool
+        ensures { result ≡ has_loss self.now.book.past }
+    {
+        self.book.has_loss()
     }
 
     /// Keeps in mind that memory was refused to a worker: no turn does anything from now on.

@@ -4,7 +4,8 @@ ghost use Rattle.std.specs.Prelude.{◌≡◌, ◌<◌, [], false, true, IfOk, I
 ghost use Rattle.driver_laws.specs.inner.Agrees.{loaded_by};
 ghost use Rattle.driver_rules.specs.Turns.{last_of};
 ghost use Rattle.driver_rules.specs.inner.Stops.{frame_started};
-ghost use Rattle.driver_rules.specs.Stops.{last_event};
+ghost use Rattle.driver_rules.specs.Stops.{is_spent, last_event};
+ghost use Rattle.due_tables.specs.inner.Shown.{has_loss};
 ghost use Rattle.job_grammar.specs.inner.Valid.{IsValid};
 ghost use Rattle.sgx_types.specs.declared.names.Actor.TheVariants as actors;
 ghost use Rattle.run_course.specs.inner.Views.{Holds, IsBuild, IsLoadEnd, IsOutEnd, IsReclaim, IsRun, is_stopped, tells_stop};
@@ -136,6 +137,20 @@ impl<B: Backing> Book<B> {
         ensures { result ≡ is_stopped self.now }
     {
         self.out_of_memory || self.course.turns.is_spent
+    }
+
+    /// Whether an epoch or a version was used up.
+    pub fn is_spent(&self) -> bool
+        ensures { result ≡ is_spent self.now.past }
+    {
+        self.course.turns.is_spent
+    }
+
+    /// Whether a page could not be reloaded.
+    pub fn has_loss(&self) -> bool
+        ensures { result ≡ has_loss self.now.past }
+    {
+        self.course.turns.has_loss
     }
 
     /// Keeps in mind that memory was refused to a worker: no turn does anything from now on.

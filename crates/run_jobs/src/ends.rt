@@ -1,11 +1,10 @@
 //! How a run ended.
 
-ghost use Rattle.driver_rules.specs.Stops.{is_bus, spends};
+ghost use Rattle.std.specs.Prelude.{◌≡◌, List};
+ghost use Rattle.sgx_rules.specs.declared.entries.Entry.{Entry};
+ghost use Rattle.driver_rules.specs.Stops.{is_spent};
+ghost use Rattle.due_tables.specs.inner.Shown.{has_loss};
 ghost use Rattle.run_jobs.specs.Ends.{IsEndOf};
-ghost use Rattle.std.specs.Prelude.{◌≡◌, reverse};
-
-use sgx_rules::entries::{Entry, Event};
-use sgx_rules::refusals::Refusal;
 
 /// How a run ended (this project's own).
 #[derive(Clone, Copy)]
@@ -20,36 +19,17 @@ pub enum End {
     Spent,
 }
 
-/// How a run ended whose entries these are, oldest first, in one walk.
-pub fn end_of(entries: &[Entry]) -> End
-    ensures { IsEndOf (reverse entries.now) result }
-{
-    let mut is_lost = false;
-    for entry in entries {
-        if has_spent(&entry.event) {
-            return End::Spent;
+impl End {
+    /// How a run ended, by whether an epoch or a version was used up and whether a page could not be reloaded.
+    pub fn of(spent: bool, lost: bool) -> End
+        ensures { (past : List Entry) → spent ≡ is_spent past → lost ≡ has_loss past → IsEndOf past result }
+    {
+        if spent {
+            End::Spent
+        } else if lost {
+            End::Bus
+        } else {
+            End::Done
         }
-        is_lost = is_lost || has_loss(&entry.event);
     }
-    if is_lost { End::Bus } else { End::Done }
-}
-
-// Whether an epoch or a version was used up.
-fn has_spent(event: &Event) -> bool
-    ensures { result ≡ spends event.now }
-{
-    matches!(
-        event,
-        Event::Refused {
-            why: Refusal::EpochSpent | Refusal::VersionSpent,
-            ..
-        }
-    )
-}
-
-// Whether a page could not be reloaded.
-fn has_loss(event: &Event) -> bool
-    ensures { result ≡ is_bus event.now }
-{
-    matches!(event, Event::Bus { .. })
 }

@@ -3,7 +3,7 @@
 ghost use Rattle.run_jobs.specs.Runs.{WholeRun};
 ghost use Rattle.std.specs.Prelude.{◌≡◌, [], IfOk, IfSome, is_some, reverse};
 
-use crate::ends::{End, end_of};
+use crate::ends::End;
 use backing_store::backing::Backing;
 use epoch_words::words::Words;
 use job_grammar::jobs::Job;
@@ -45,12 +45,12 @@ pub fn run_job<R: Threads + Wait + Sync, B: Backing + Send, G: Gate + Sync>(
     let (words, seat, pass) = Words::new(alloc, &job)?;
     let book = MachineBook::start(alloc, job, store, seat)?;
     let book = run_workers(rt, alloc, book, &words, pass, gate)?;
+    let end = End::of(book.is_spent(), book.has_loss());
     let Parts {
         job,
         entries,
         store,
     } = book.into_parts();
-    let end = end_of(&entries);
     Ok(Run {
         job,
         entries,

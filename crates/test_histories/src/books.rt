@@ -7,7 +7,7 @@ use crate::turning::{Work, run};
 use backing_store::planned_store::PlannedStore;
 use job_text::reader::read_job;
 use run_course::book::Book;
-use run_jobs::ends::{End, end_of};
+use run_jobs::ends::End;
 use sgx_rules::entries::Entry;
 use sgx_types::names::Memory;
 use std::alloc::Global;
@@ -91,7 +91,10 @@ fn print_end(
     book: Option<Box<Book<PlannedStore>>>,
 ) -> io::Result<()> {
     match &book {
-        Some(book) => println!(rt; "{name} {}", name_of(end_of(book.entries()))),
+        Some(book) => println!(rt;
+            "{name} {}",
+            name_of(End::of(book.is_spent(), book.has_loss()))
+        ),
         None => println!(rt; "{name}: no run"),
     }
 }

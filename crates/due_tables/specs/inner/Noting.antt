@@ -20,7 +20,7 @@ use Rattle.job_grammar.specs.Jobs.{JobView}
 use Rattle.script_rules.specs.declared.cursor.BuildCursor.{BuildCursor}
 use Rattle.script_rules.specs.inner.Cursor.{IsCursor, left}
 use Rattle.script_rules.specs.Script.{is_reply}
-use Rattle.driver_rules.specs.Stops.{spends}
+use Rattle.driver_rules.specs.Stops.{is_bus, spends}
 use Rattle.due_tables.specs.declared.cpu_turns.CpuTurn.{CpuTurn}
 use Rattle.due_tables.specs.declared.cpu_turns.Interruption.{Interruption}
 use Rattle.due_tables.specs.declared.cpu_turns.Last.{Last}
@@ -146,6 +146,7 @@ pub record IsNoted (j : JobView) (old : Turns) (before : Mode) (e : Entry) (new 
   pub tcs : new.tcs ≡ saves_after e.event (page_left e.actor before) old.tcs
   pub last : new.last ≡ Some e.actor
   pub spent : new.is_spent ≡ (if spends e.event then true else old.is_spent)
+  pub loss : new.has_loss ≡ (if is_bus e.event then true else old.has_loss)
 
 -- ---- what the code asks
 

@@ -1,5 +1,5 @@
 -- The tables say what the entries say.
-use Rattle.std.specs.Prelude.{ℕ, ◌≡◌, ◌<◌, ◌≤◌, false, ◌∷◌, List, [], Option, None, Some, drop, length, map}
+use Rattle.std.specs.Prelude.{ℕ, ◌≡◌, ◌<◌, ◌≤◌, Bool, true, false, if◌then◌else◌, ◌∷◌, List, [], Option, None, Some, drop, length, map}
 use Rattle.std.specs.Prelude.{slice_index_or}
 use Rattle.sgx_types.specs.declared.names.Actor.{Actor}
 use Rattle.sgx_rules.specs.declared.entries.Entry.{Entry}
@@ -9,7 +9,7 @@ use Rattle.job_grammar.specs.inner.Valid.{IsValid}
 use Rattle.script_rules.specs.inner.Cursor.{IsCursor, left}
 use Rattle.script_rules.specs.Script.{build_of, built, is_initialised, replied, saved_frames}
 use Rattle.driver_rules.specs.Needs.{interruption}
-use Rattle.driver_rules.specs.Stops.{is_spent}
+use Rattle.driver_rules.specs.Stops.{is_bus, is_spent}
 use Rattle.driver_rules.specs.Turns.{is_kicked, last_of}
 use Rattle.driver_tables.specs.inner.Counts.{page_counts}
 use Rattle.due_tables.specs.declared.cpu_turns.CpuTurn.{CpuTurn}
@@ -28,6 +28,11 @@ pub record ShowsCpu (past : List Entry) (p : ℕ) (turn : CpuTurn) : Type 0 wher
   pub interruption : interruption_told turn.interruption ≡ interruption past p
   pub last : last_told turn.last ≡ last_of past p
 
+-- whether a page could not be reloaded
+abbrev pub has_loss : List Entry → Bool
+has_loss [] = false
+has_loss (e ∷ past) = if is_bus e.event then true else has_loss past
+
 pub record ShowsTurns (j : JobView) (past : List Entry) (t : Turns) : Type 0 where
   pub valid : IsValid j
   -- the steps of the builder that are left
@@ -44,3 +49,4 @@ pub record ShowsTurns (j : JobView) (past : List Entry) (t : Turns) : Type 0 whe
   pub places : map length t.tcs ≡ va_pages j ∷ page_counts j
   pub last : t.last ≡ last_actor past
   pub spent : t.is_spent ≡ is_spent past
+  pub loss : t.has_loss ≡ has_loss past

@@ -1,4 +1,4 @@
-use Rattle.std.proofs.Common.{subst, reverse}
+use Rattle.std.proofs.Common.{reverse, subst, sym}
 use Rattle.std.specs.Prelude.{List}
 use Rattle.run_jobs.proofs.RunLaws.{whole_of}
 use Rattle.run_jobs.specs.Ends.{IsEndOf}
@@ -7,8 +7,9 @@ use Rattle.run_jobs.proofs.run.run_job.Goals as goal
 
 pub returns-clause-run : goal.returns-clause-run
 returns-clause-run g c =
-    whole_of c.in_ok-book-2.book.book c.end_of-end.result c.into_parts-job.result.job (reverse c.into_parts-job.result.entries.items)
+    whole_of c.in_ok-book-2.book.book c.of-end.result c.into_parts-job.result.job (reverse c.into_parts-job.result.entries.items)
     (g.B.Backing.told c.into_parts-job.result.store) (g.B.Backing.plans c.into_parts-job.result.store) c.into_parts-job.ensures.holds
     c.in_ok-book-2.ensures.ended
-    (subst (λ (xs : List Entry). IsEndOf (reverse xs) c.end_of-end.result) c.deref.ensures.value c.end_of-end.ensures)
+    (subst (λ (past : List Entry). IsEndOf past c.of-end.result) (sym c.into_parts-job.ensures.entries)
+    (c.of-end.ensures c.in_ok-book-2.book.book.past c.is_spent.ensures c.has_loss.ensures))
     c.into_parts-job.ensures.job c.into_parts-job.ensures.entries c.into_parts-job.ensures.told c.into_parts-job.ensures.plans
