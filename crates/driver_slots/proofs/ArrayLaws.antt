@@ -9,32 +9,7 @@ use Rattle.std.proofs.lemmas.List.{get_or-set_same, get_or-set_other, length-set
 use Rattle.std.proofs.lemmas.List.Sums.{sum_by-set, count_by-le-length, fails_before_first, passes_at_first}
 use Rattle.std.proofs.lemmas.List.Folds.{sum_by-replicate}
 use Rattle.driver_slots.specs.inner.Keeper.{all_free, ArrayView, free_of, is_free_at, IsArray}
-
--- ---- marks
-
--- one more is true, and one less
-pub count_by-set_true : (xs : List Bool) (i : ℕ) → i < length xs → get_or xs i false ≡ false
-    → count_by (λ b. b) (set xs i true) ≡ count_by (λ b. b) xs + 1
-count_by-set_true xs i low e =
-    let law : count_by (λ b. b) (set xs i true) + cond (get_or xs i false) 1 0 ≡ count_by (λ b. b) xs + 1 =
-    sum_by-set (λ b. cond b 1 0) xs i true false low in
-    sym (add-zero (count_by (λ b. b) (set xs i true))) ∙ rw e at law
-
-pub count_by-set_false : (xs : List Bool) (i : ℕ) → i < length xs → get_or xs i false ≡ true
-    → count_by (λ b. b) (set xs i false) + 1 ≡ count_by (λ b. b) xs
-count_by-set_false xs i low e =
-    let law : count_by (λ b. b) (set xs i false) + cond (get_or xs i false) 1 0 ≡ count_by (λ b. b) xs + 0 =
-    sum_by-set (λ b. cond b 1 0) xs i false false low in
-    (rw e at law) ∙ add-zero (count_by (λ b. b) xs)
-
--- the first place that passes, where there is one
-position_some : (p : Bool → Bool) (xs : List Bool) (i : ℕ) → position p xs ≡ Some i → (position_or_len p xs ≡ i) × (i < length xs)
-position_some p xs i h = by_test (nat_lt (position_or_len p xs) (length xs)) refl h
-  where
-    by_test : (b : Bool) → nat_lt (position_or_len p xs) (length xs) ≡ b → cond b (Some (position_or_len p xs)) None ≡ Some i
-        → (position_or_len p xs ≡ i) × (i < length xs)
-    by_test true is k = let same : position_or_len p xs ≡ i = cc in (same, grind arith)
-    by_test false is k = cc
+use Rattle.free_map.proofs.Marks.{count_by-set_false, count_by-set_true, position_some}
 
 -- ---- all slots
 

@@ -16,7 +16,8 @@ use Rattle.driver_slots.specs.inner.Keeper.{Adds, AllOut, array_at, ArrayView, c
 use Rattle.driver_slots.specs.inner.Keeper.{is_added, is_at_most, is_free_at, is_in, is_of, is_ours, is_ours_by, is_out, is_out_by}
 use Rattle.driver_slots.specs.inner.Keeper.{IsArray, IsLeast, Keeper, slots_of, Takes, va_slot}
 use Rattle.driver_slots.specs.inner.KeeperKept.{AreApart}
-use Rattle.driver_slots.proofs.ArrayLaws.{count_by-set_false, count_by-set_true, free_within, least_first}
+use Rattle.driver_slots.proofs.ArrayLaws.{free_within, least_first}
+use Rattle.free_map.proofs.Marks.{count_by-set_false, count_by-set_true}
 
 -- a page that is none
 pub no_array : ArrayView
