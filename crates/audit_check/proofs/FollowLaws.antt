@@ -26,7 +26,7 @@ use Rattle.sgx_rules.specs.Sights.{enclave_of_stay, row_at, secs_sight_at, sight
 use Rattle.sgx_rules.specs.Slots.{is_busy_at}
 use Rattle.sgx_rules.specs.Table.{EnclaveSight, SecsSight, access_row, add_row, fill_row, is_busy}
 use Rattle.sgx_rules.proofs.Contents.{free_there}
-use Rattle.sgx_rules.proofs.Rows.{NoneHolds, none_holds}
+use Rattle.sgx_rules.proofs.Rows.{NoneHolds, none_holds, start_names}
 use Rattle.seal_record.specs.inner.Sealing.{made_by}
 use Rattle.machine_copies.proofs.StartLaws.{add_free}
 use Rattle.job_grammar.specs.Jobs.{JobView}
@@ -46,12 +46,6 @@ use Rattle.audit_check.specs.inner.Named.{is_named}
 use Rattle.audit_check.specs.inner.Tests.{is_commit}
 
 -- ---- frames
-
--- the two frames of a start
-start_names : (frames f slot : ℕ) (other : Bool) → ((leb frames f || leb frames slot) || other) ≡ false → (f < frames) × (slot < frames)
-start_names frames f slot other within =
-    let both = neither (leb frames f) (leb frames slot) (neither (leb frames f || leb frames slot) other within).0 in
-    (leb-false _ _ both.0, leb-false _ _ both.1)
 
 module _ (k : Making) (past : List Entry) (a : Actor) where
   add_within : (number : ℕ) (kind : Kind) (perm : Perm) (init : PageInit) (o : Option EnclaveSight) (secs : SecsSight) (is_added : Bool)

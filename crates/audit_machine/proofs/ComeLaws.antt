@@ -1,8 +1,8 @@
 -- The end of a load.
-use Rattle.std.specs.Prelude.{MatchOption, not, bytes_eq, ◌&&◌}
+use Rattle.std.specs.Prelude.{MatchOption, not, bytes_eq}
 use Rattle.std.proofs.Common.{◌≡◌, ℕ, ◌<◌, ◌==◌, true, false, refl, sym, ap, subst, ◌∙◌, ◌⊎◌}
 use Rattle.std.proofs.Common.{inl, inr, List, [], ◌∷◌, Option, Some, None}
-use Rattle.std.proofs.lemmas.Bool.{eqb-true, eq-eqb, and_from, false≢true}
+use Rattle.std.proofs.lemmas.Bool.{eqb-true, eq-eqb, false≢true}
 use Rattle.std.proofs.lemmas.Slice.Eq.{bytes_eq-Decides}
 use Rattle.std.proofs.lemmas.Option.{none-some, same_Some}
 use Rattle.sgx_rules.specs.declared.entries.Entry.{Entry}
@@ -29,10 +29,11 @@ use Rattle.sgx_rules.specs.Starts.{Start}
 use Rattle.sgx_rules.specs.inner.Starts.{BareStart, bare_start, without_place}
 use Rattle.sgx_types.specs.Cases.{first_of_row}
 use Rattle.sgx_rules.specs.Table.{is_loading}
-use Rattle.sgx_types.proofs.Truths.{both_true, not_false, tested}
+use Rattle.sgx_types.proofs.Truths.{not_false, tested}
 use Rattle.seal_record.specs.Cipher.{tag}
 use Rattle.seal_record.specs.Records.{Made}
 use Rattle.seal_record.specs.inner.Row.{same_header}
+use Rattle.seal_record.proofs.HeaderLaws.{same_headers, same_header-refl}
 use Rattle.job_grammar.specs.Jobs.{JobView}
 use Rattle.machine_copies.specs.inner.Copies.{InFrame, InSlot, OneLiveCopy, copy}
 use Rattle.machine_copies.specs.inner.Once.{IsGone, KeepsMoves, StartsApart}
@@ -91,20 +92,6 @@ none_comes s e f own idle j cpus past records h = refusal_fails j past e (no-end
         false≢true (sym idle ∙ ap is_loading (content_is h.shaped.shape.columns f.0 ∙ loading))
 
 -- ---- headers
-
-header-same : (a b : Header) → same_header a b ≡ true → a ≡ b
-header-same a b is =
-    let first = both_true ((a.enclave == b.enclave) && (a.address == b.address)) (a.flags == b.flags) is in
-    let second = both_true (a.enclave == b.enclave) (a.address == b.address) first.0 in
-    λ i. record {
-      enclave = eqb-true a.enclave b.enclave second.0 i;
-      address = eqb-true a.address b.address second.1 i;
-      flags = eqb-true a.flags b.flags first.1 i;
-    }
-
-header-own : (a : Header) → same_header a a ≡ true
-header-own a =
-    and_from _ _ (and_from _ _ (eq-eqb a.enclave a.enclave refl) (eq-eqb a.address a.address refl)) (eq-eqb a.flags a.flags refl)
 
 number-apart : (n : ℕ) → other_number n ≡ n → ⊥
 number-apart n e = by_test (tested (n == 0))
@@ -180,7 +167,7 @@ module _ (k : Making) (s : State) (past : List Entry) (records : List Made) (f :
       let fits : bytes_eq rec.tag (tag s.key coming.start.version rec.header rec.cipher) ≡ true = (bytes_eq-Decides _ _).1
       (own-tag coming) in
       let headed : same_header rec.header coming.header ≡ true =
-      subst (λ x. same_header rec.header x ≡ true) (own-header coming) (header-own rec.header) in
+      subst (λ x. same_header rec.header x ≡ true) (own-header coming) (same_header-refl rec.header) in
       rw (fits, headed) refl
 
 -- ---- a load that is told as done
@@ -247,14 +234,14 @@ does-not-fit past g own (why.MacFail given computed) headed unfit = λ same.
 does-not-fit past g own (why.BadHeader enclave address flags) headed unfit = λ told.
     let same : own ≡ record { enclave = enclave; address = address; flags = flags } = same_Some _ _ (sym headed ∙ told) in
     let is : same_header own (record { enclave = enclave; address = address; flags = flags }) ≡ true =
-    subst (λ x. same_header own x ≡ true) same (header-own own) in
+    subst (λ x. same_header own x ≡ true) same (same_header-refl own) in
     false≢true (sym (ap not is) ∙ unfit)
 does-not-fit past g own reason headed unfit = absurd cc
 
 fits : (past : List Entry) (g : Page) (own : Header) (reason : Refusal) → header_at past g ≡ Some own → is_unfit own reason ≡ false
     → DoesNotFit past g reason → ⊥
 fits past g own (why.MacFail given computed) headed fit unfit = unfit ((bytes_eq-Decides given computed).0 (not_false _ fit))
-fits past g own (why.BadHeader enclave address flags) headed fit unfit = unfit (headed ∙ ap Some (header-same own _ (not_false _ fit)))
+fits past g own (why.BadHeader enclave address flags) headed fit unfit = unfit (headed ∙ ap Some (same_headers own _ (not_false _ fit)))
 fits past g own reason headed fit unfit = unfit
 
 -- a reason that cannot be so

@@ -1,7 +1,7 @@
 -- An entry that is another than the machine's, of the same instruction at the same place, breaks the rule that `rule_of` names, and
 -- none before it.
 use Rattle.std.proofs.Common.{◌≡◌, ℕ, Bool, true, false, refl, sym, ap, subst, ◌∙◌, ◌⊎◌, inl, inr, List, Option, Some}
-use Rattle.std.proofs.Common.{None, if◌then◌else◌, is_none}
+use Rattle.std.proofs.Common.{None, is_none}
 use Rattle.std.proofs.lemmas.Option.{none-some, same_Some}
 use Rattle.sgx_rules.specs.declared.entries.Entry.{Entry}
 use Rattle.sgx_rules.specs.declared.entries.Event.{Event}
@@ -15,11 +15,11 @@ use Rattle.sgx_rules.specs.declared.entries.Answer.{Answer}
 use Rattle.sgx_rules.specs.declared.entries.Answer.TheVariants as answers
 use Rattle.sgx_rules.specs.declared.refusals.Refusal.{Refusal}
 use Rattle.sgx_rules.specs.declared.refusals.Refusal.TheVariants as why
-use Rattle.sgx_rules.specs.Flat.{enclave_sight, flat, is_visible, settled}
+use Rattle.sgx_rules.specs.Flat.{enclave_sight, flat, is_visible}
 use Rattle.sgx_rules.specs.Rules.{HasForm, RefusalRule, case_of, seen_answer}
 use Rattle.sgx_rules.specs.Sights.{row_at, secs_sight_at}
 use Rattle.sgx_types.specs.Cases.{first_of_row}
-use Rattle.sgx_rules.specs.Table.{EnclaveSight, SecsSight, init_row}
+use Rattle.sgx_rules.proofs.Rows.{init_open}
 use Rattle.sgx_types.proofs.Truths.{tested}
 use Rattle.measure_log.specs.Rule.{IsExpected, IsOther, MeasureRule, measurement}
 use Rattle.job_grammar.specs.Jobs.{JobView}
@@ -43,19 +43,6 @@ not-both (Some wanted) digest is other = other is
 from-case : (enclave : ℕ) (expect : Option (List ℕ)) (found x : Refusal) → Some x ≡ case_of (Init enclave expect) found → x ≡ found
 from-case enclave expect (why.BadMeasure made) x e = absurd (none-some _ (sym e))
 from-case enclave expect found x e = same_Some _ _ e
-
--- a row of `init` that allows it allows it in flat memory too, where each SECS is in
-init-open : (o : Option EnclaveSight) (secs : SecsSight) → first_of_row (init_row o secs) ≡ None → first_of_row (init_row o settled) ≡ None
-init-open None secs allowed = allowed
-init-open (Some enclave) secs allowed = by_tests secs.is_away secs.is_sealing allowed
-  where
-    by_tests : (away sealing : Bool)
-        → (if away then Some why.Absent else if sealing then Some why.Conflict else if enclave.is_init then Some why.IsInit else None)
-        ≡ None
-        → (if enclave.is_init then Some why.IsInit else None) ≡ None
-    by_tests true sealing h = cc
-    by_tests false true h = cc
-    by_tests false false h = h
 
 module _ (j : JobView) (past : List Entry) (actor : Actor) where
   abbrev done : Action → Answer → Entry
@@ -91,7 +78,7 @@ module _ (j : JobView) (past : List Entry) (actor : Actor) where
   init-done enclave expect digest e keeps allows fails =
       measure_fails j past (done (Init enclave expect) (answers.Hash digest)) (allows, (digest, refl))
       (λ seen. record {
-        taken = ap is_none (init-open (enclave_sight (flat past) enclave) (secs_sight_at j.epc past enclave) allows);
+        taken = ap is_none (init_open (enclave_sight (flat past) enclave) (secs_sight_at j.epc past enclave) allows);
         same = refl;
       }) ((tt, tt), (keeps.each rules.Fits refl).1)
       (tt, (keeps.each rules.Stale refl).1) tt (record { rising = tt; reload = tt }) tt fails

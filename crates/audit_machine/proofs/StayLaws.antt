@@ -23,6 +23,7 @@ use Rattle.sgx_rules.specs.Rules.{RefusalRule}
 use Rattle.sgx_types.specs.Sealed.{Sealed}
 use Rattle.sgx_rules.specs.Starts.{Start, open_start}
 use Rattle.sgx_types.proofs.Pages.{same_pages}
+use Rattle.sgx_types.proofs.Lists.{Any-front}
 use Rattle.seal_record.specs.Records.{Made}
 use Rattle.seal_record.specs.Sealing.{made_with}
 use Rattle.seal_record.specs.inner.Sealing.{made_by}
@@ -30,7 +31,7 @@ use Rattle.seal_record.specs.declared.unseal.UnsealedWork.{UnsealedWork}
 use Rattle.machine_copies.specs.inner.Copies.{Copy, InFrame, InSlot, copy, copy_after, in_slot}
 use Rattle.machine_copies.specs.inner.Once.{Gone, IsGone, IsMade, gone_after}
 use Rattle.machine_copies.specs.inner.Once as history
-use Rattle.machine_copies.proofs.OpenStarts.{any_front, any_head, any_rest}
+use Rattle.machine_copies.proofs.OpenStarts.{any_head, any_rest}
 use Rattle.script_rules.specs.Script.{action_of}
 use Rattle.machine_laws.specs.inner.Histories.{StandsWithAllRules}
 use Rattle.machine_laws.specs.inner.State.{State}
@@ -113,7 +114,7 @@ module _ (key : List ℕ) (past : List Entry) (e : Entry) (f : Frame) (page : Pa
       (made_with version rec) refl)
 
   old : (one : Made) → IsMade key past one → IsMade key (e ∷ past) one
-  old one made = subst (Any (λ x. x ≡ one)) (sym more) (any_front (λ x. x ≡ one) (made_by key past) (made_with version rec ∷ []) made)
+  old one made = subst (Any (λ x. x ≡ one)) (sym more) (Any-front (λ x. x ≡ one) (made_by key past) (made_with version rec ∷ []) made)
 
   out-now : IsGone (e ∷ past) (record { page = page; version = version })
   out-now = rw told (any_head (λ one. one ≡ record { page = page; version = version }) _ (history.gone past) refl)

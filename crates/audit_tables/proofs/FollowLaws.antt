@@ -34,12 +34,12 @@ use Rattle.machine_laws.specs.inner.Steps.{did_by, refused_by}
 use Rattle.sgx_machine.specs.declared.starts.Start as starts
 use Rattle.sgx_machine.specs.inner.Parts.{Parts}
 use Rattle.driver_rules.specs.Places.{Loading, place, Away}
-use Rattle.driver_rules.specs.Turns.{Fails, Last, Loads, Other, WasEnded, last_of, start_fails}
+use Rattle.driver_rules.specs.Turns.{last_of, start_fails}
 use Rattle.driver_rules.specs.Spares.{outs}
 use Rattle.driver_laws.specs.inner.Agrees.{auditors, loaded_by}
 use Rattle.driver_laws.specs.inner.Keeps.{is_epa}
 use Rattle.driver_laws.specs.inner.Kinds.{is_quiet}
-use Rattle.driver_laws.specs.inner.Loads.{EndsOwn, load_ended}
+use Rattle.driver_laws.specs.inner.Loads.{load_ended}
 use Rattle.driver_laws.specs.inner.Sound.{is_absent, slot_at}
 use Rattle.driver_laws.specs.inner.Tracks.{is_reclaimers}
 use Rattle.driver_laws.proofs.EndLaws.{their_rule}
@@ -56,6 +56,7 @@ use Rattle.driver_tables.specs.inner.Tells.{Tells}
 use Rattle.due_tables.specs.declared.turns.Turns.{Turns}
 use Rattle.due_notes.specs.inner.Arrays.{HasAsMany, KeepsArrays}
 use Rattle.due_notes.proofs.ArrayLaws.{arrays_in_pass, arrays_stay}
+use Rattle.due_notes.proofs.NotedLaws.{idle_by}
 use Rattle.audit_tables.proofs.AgreeLaws.{tells_by_rules}
 use Rattle.audit_tables.specs.inner.Followed.{CanFollow, IsFollowed}
 use Rattle.audit_tables.specs.inner.Following.{ComesBack, DoesEvent, HasEnded, HasLooked, HasStarted, IsStarted, away_again, forgetting}
@@ -96,12 +97,6 @@ as_many : (old new : Keeper) → new ≡ old → HasAsMany old new
 as_many old new same = record { pages = ap (λ (k : Keeper). length k.arrays) same; room = ap (λ (k : Keeper). k.room) same }
 
 -- ---- loads
-
-idle_by : (l : Last) (ev : Event) → EndsOwn l ev → load_ended ev ≡ None → loaded_by l ≡ None
-idle_by (Loads n page) ev ends none = absurd (let bad : None ≡ Some n = sym none ∙ ends in cc)
-idle_by (Fails page reason) ev ends none = refl
-idle_by WasEnded ev ends none = refl
-idle_by Other ev ends none = refl
 
 -- a refused start loads nothing
 none_loads : (page : Page) (refusal : Refusal) → loaded_by (start_fails page refusal) ≡ None

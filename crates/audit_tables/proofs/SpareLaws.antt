@@ -1,5 +1,5 @@
 -- A SECS or a version array page that is looked at is due: it is here, and a version array page is full.
-use Rattle.std.proofs.Common.{◌≡◌, ℕ, zero, suc, ◌==◌, ◌+◌, ◌<◌, ◌&&◌, not, nat_lt, Bool, true, false, if◌then◌else◌, refl, sym, ap, subst}
+use Rattle.std.proofs.Common.{◌≡◌, ℕ, ◌==◌, ◌<◌, ◌&&◌, not, nat_lt, Bool, true, false, if◌then◌else◌, refl, sym, ap, subst}
 use Rattle.std.proofs.Common.{◌∙◌, List, Option, Some, None, length}
 use Rattle.std.proofs.lemmas.Bool.{false≢true, ltb-true}
 use Rattle.std.proofs.lemmas.Option.{same_Some}
@@ -35,6 +35,7 @@ use Rattle.driver_laws.specs.inner.Used.{SealingAreOpen}
 use Rattle.driver_laws.proofs.MarkLaws.{head_own}
 use Rattle.driver_laws.proofs.RowLaws.{array_stays}
 use Rattle.driver_laws.proofs.SoundLaws.{entry_of, head_here}
+use Rattle.driver_laws.proofs.DueLaws.{least_passes}
 
 -- ---- a page that is due
 
@@ -57,16 +58,6 @@ alone_due j past out e some h =
     let a = both_true (is_initialised past e && is_here (place past (secs_page e))) (children j.epc (content past) e == 0) h in
     let b = both_true (is_initialised past e) (is_here (place past (secs_page e))) a.0 in
     record { here = b.1; full = λ va. absurd (false≢true (sym some ∙ va)) }
-
--- the least that passes passes
-least_passes : (test : ℕ → Bool) (n count va : ℕ) → least_from test n count ≡ Some va → test va ≡ true
-least_passes test n zero va is = cc
-least_passes test n (suc count) va is = by_test (least_passes test (n + 1) count va) (test n) refl is
-  where
-    by_test : (least_from test (n + 1) count ≡ Some va → test va ≡ true) → (b : Bool) → test n ≡ b
-        → (if b then Some n else least_from test (n + 1) count) ≡ Some va → test va ≡ true
-    by_test further true passes h = let same : n ≡ va = cc in subst (λ m. test m ≡ true) same passes
-    by_test further false passes h = further h
 
 a_spare_due : (j : JobView) (past : List Entry) (out : Outs) (g : Page) → spare j past out ≡ Some g → IsDue past out g
 a_spare_due j past out g is = by_least (least_from (is_spare j past out) 0 (vas_made past)) refl is

@@ -10,9 +10,10 @@ use Rattle.driver_rules.proofs.DecidedLaws.{ended_tells}
 use Rattle.history_rules.specs.declared.rules.Rule.{Rule}
 use Rattle.history_rules.specs.declared.rules.Rule.TheVariants as rules
 use Rattle.history_rules.specs.Histories.{FailsFirst, History}
+use Rattle.history_rules.proofs.HistoryLaws.{ended_history}
 use Rattle.audit_trace.specs.declared.auditing.Auditing.{Auditing}
 use Rattle.audit_trace.specs.inner.Audits.{IsAuditing, IsJudged, KeepsAudit}
-use Rattle.audit_trace.proofs.RuleLaws.{ended_history, fails_at, not_ended}
+use Rattle.audit_trace.proofs.RuleLaws.{fails_at, not_ended}
 
 -- so many entries, the newest first
 abbrev pub before_place : List Entry → ℕ → List Entry

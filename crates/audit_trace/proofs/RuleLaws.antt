@@ -13,7 +13,7 @@ use Rattle.machine_laws.specs.inner.State.{State}
 use Rattle.machine_laws.proofs.TestLaws.{last_place}
 use Rattle.history_rules.specs.declared.rules.Rule.{Rule}
 use Rattle.history_rules.specs.declared.rules.Rule.TheVariants as rules
-use Rattle.history_rules.specs.Histories.{Before, FailsFirst, FailsHere, History, RuleSays, rank}
+use Rattle.history_rules.specs.Histories.{Before, FailsFirst, FailsHere, RuleSays, rank}
 use Rattle.history_rules.specs.inner.Histories.{GoesOn}
 use Rattle.audit_machine.specs.inner.Rivals.{KeepsMachines}
 use Rattle.audit_machine.proofs.KeptLaws.{last_kept, own_rules}
@@ -102,22 +102,6 @@ all_before j past h rules.Sealed = h.sealed.1
 all_before j past h rules.Measure = h.measure.1
 all_before j past h rules.Age = h.age.1
 all_before j past h rules.Kick = h.kick.1
-
--- a trace that goes on and is ended is a history
-pub ended_history : (j : JobView) (past : List Entry) → GoesOn j past → IsEnded j past → History j past
-ended_history j past h ended = record {
-  script = (ended, h.script);
-  refusal = h.refusal;
-  flat = h.flat;
-  fits = h.fits;
-  stale = h.stale;
-  evict = h.evict;
-  fresh = h.fresh;
-  sealed = h.sealed;
-  measure = h.measure;
-  age = h.age;
-  kick = h.kick;
-}
 
 -- one that isn't ended fails first at its end
 pub not_ended : (j : JobView) (past : List Entry) (place : ℕ) → GoesOn j past → (IsEnded j past → ⊥) → length past ≡ place

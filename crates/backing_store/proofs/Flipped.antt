@@ -1,20 +1,11 @@
 -- The record that stands in 4152 bytes.
-use Rattle.std.proofs.Common.{◌≡◌, ℕ, ◌+◌, ◌^◌, ◌<◌, ◌≤◌, List, length, get_or, take, drop, arith, ⊎_elim}
+use Rattle.std.proofs.Common.{◌≡◌, ℕ, ◌^◌, ◌<◌, List, length, get_or, take, drop, arith}
 use Rattle.std.proofs.Common.{length-take, length-drop}
 use Rattle.std.specs.Int.{w64, from_le_bytes}
-use Rattle.std.proofs.lemmas.Bool.{cases_lt}
-use Rattle.std.proofs.lemmas.List.{get_or-take, get_or-drop, get_or_past}
 use Rattle.sgx_types.specs.inner.Layouts.{long_at}
 use Rattle.sgx_types.specs.inner.Sealed.{IsRecord}
+use Rattle.sgx_types.proofs.Lists.{piece_below}
 use Rattle.backing_store.specs.inner.Flips.{record_in}
-
--- a piece of bytes has bytes
-piece_below : (n i : ℕ) (xs : List ℕ) → ((k : ℕ) → get_or xs k 0 < 256) → (k : ℕ) → get_or (take n (drop i xs)) k 0 < 256
-piece_below n i xs small k =
-    ⊎_elim (λ (low : k < n). rw (get_or-take n (drop i xs) k 0 low, get_or-drop i xs k 0) (small (i + k)))
-    (λ (past : n ≤ k). let short : length (take n (drop i xs)) ≤ k = simp length-take (omega arith) in
-    let none : get_or (take n (drop i xs)) k 0 ≡ 0 = get_or_past (take n (drop i xs)) k 0 short in omega arith)
-    (cases_lt k n)
 
 -- eight bytes make a number of 64 bits
 below : (bytes : List ℕ) → ((k : ℕ) → get_or bytes k 0 < 256) → from_le_bytes w64 bytes < 2 ^ 64

@@ -1,12 +1,12 @@
 -- New names for pages, given one after another.
 use Rattle.std.proofs.Common.{◌≡◌, ℕ, ◌+◌, ◌<◌, Bool, true, false, ◌||◌, cond, ◌⊎◌, inl, inr, ⊎_elim, List, []}
 use Rattle.std.proofs.Common.{◌∷◌, ◌++◌, length, take, get_or, map, Option, Some, None, refl, sym, ap, subst, ◌∙◌, arith}
-use Rattle.std.proofs.lemmas.Bool.{false≢true}
+use Rattle.std.proofs.lemmas.Bool.{false≢true, or_right}
 use Rattle.std.proofs.lemmas.List.{map-append, take_more}
 use Rattle.sgx_types.specs.declared.names.Page.{Page}
 use Rattle.sgx_types.specs.Pages.{same_page}
 use Rattle.sgx_types.proofs.Pages.{same_pages, same_page-refl}
-use Rattle.sgx_types.proofs.Truths.{apart}
+use Rattle.sgx_types.proofs.Truths.{apart, either}
 use Rattle.least_reloads.specs.Plans.{has}
 use Rattle.command_least.specs.declared.accesses.Access.{Access}
 use Rattle.command_least.specs.inner.Kept.{page_of}
@@ -55,27 +55,19 @@ own_names = record { to = λ g. g; back = λ g. g; there = λ g. refl; here = λ
 
 -- ---- pages among others
 
-or_later : (a b : Bool) → b ≡ true → (a || b) ≡ true
-or_later true b e = refl
-or_later false b e = e
-
-or_either : (a b : Bool) → (a || b) ≡ true → (a ≡ true) ⊎ (b ≡ true)
-or_either true b e = inl refl
-or_either false b e = inr e
-
 -- a page that is among these and one more is among these, or is that one
 has-append : (pages : List Page) (x g : Page) → has (pages ++ x ∷ []) g ≡ true → (has pages g ≡ true) ⊎ (same_page g x ≡ true)
-has-append [] x g h = ⊎_elim (λ same. inr same) (λ none. absurd (false≢true none)) (or_either (same_page g x) false h)
+has-append [] x g h = ⊎_elim (λ same. inr same) (λ none. absurd (false≢true none)) (either (same_page g x) false h)
 has-append (y ∷ pages) x g h =
     ⊎_elim (λ first. inl (ap (λ b. b || has pages g) first))
-    (λ among. ⊎_elim (λ before. inl (or_later (same_page g y) (has pages g) before)) (λ same. inr same) (has-append pages x g among))
-    (or_either (same_page g y) (has (pages ++ x ∷ []) g) h)
+    (λ among. ⊎_elim (λ before. inl (or_right (same_page g y) (has pages g) before)) (λ same. inr same) (has-append pages x g among))
+    (either (same_page g y) (has (pages ++ x ∷ []) g) h)
 
 map_agree : (f f' : Page → Page) (pages : List Page) → ((g : Page) → has pages g ≡ true → f g ≡ f' g) → map f pages ≡ map f' pages
 map_agree f f' [] agree = refl
 map_agree f f' (x ∷ pages) agree =
     ap (λ y. y ∷ map f pages) (agree x (ap (λ b. b || has pages x) (same_page-refl x)))
-    ∙ ap (λ rest. f' x ∷ rest) (map_agree f f' pages (λ g among. agree g (or_later (same_page g x) (has pages g) among)))
+    ∙ ap (λ rest. f' x ∷ rest) (map_agree f f' pages (λ g among. agree g (or_right (same_page g x) (has pages g) among)))
 
 -- ---- names given one after another
 

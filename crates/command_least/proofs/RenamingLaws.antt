@@ -59,7 +59,8 @@ kept_named r (x ∷ held) step =
     ∙ ap (λ rest. cond (not (has step.out x)) (r.to x ∷ rest) rest) (kept_named r held step)
     ∙ map_cond r (not (has step.out x)) x (kept held step) (kept held step)
 
-after_named : (r : Renaming) (held : List Page) (step : StepView) → held_behind (map r.to held) (step_named r step) ≡ map r.to (held_behind held step)
+after_named : (r : Renaming) (held : List Page) (step : StepView)
+    → held_behind (map r.to held) (step_named r step) ≡ map r.to (held_behind held step)
 after_named r held step =
     ap (λ rest. rest ++ map r.to step.load) (kept_named r held step) ∙ sym (map-append r.to (kept held step) step.load)
 

@@ -1,9 +1,9 @@
 -- How what was given and what is held go on over the parts of a picture.
-use Rattle.std.proofs.Common.{◌≡◌, ◌<◌, ℕ, ◌+◌, List, [], ◌++◌, length, take, drop, get_or, Option, Some}
+use Rattle.std.proofs.Common.{◌≡◌, ℕ, List, [], ◌++◌, length, take, drop, Option, Some}
 use Rattle.std.proofs.Common.{None, refl, sym, ap, ◌∙◌}
 use Rattle.std.proofs.Common.{append_assoc, reverse}
 use Rattle.std.specs.List.{flat_map}
-use Rattle.std.proofs.lemmas.List.{append-nil, flat_map_more, reverse-reverse, take_more, take-append-drop}
+use Rattle.std.proofs.lemmas.List.{append-nil, reverse-reverse, take-append-drop}
 use Rattle.std.proofs.lemmas.Grind.{flat_map-append}
 use Rattle.io_edges.specs.Sinks.{GivesPart}
 use Rattle.sgx_rules.specs.declared.entries.Entry.{Entry}
@@ -30,12 +30,6 @@ pub held_on : (first then now : Option (List ℕ)) (before held text more : List
     → IsHeld then now held (before ++ more) → IsHeld first now held (text ++ more)
 held_on first then now before held text more old new =
     held_then first then now (before ++ more) held (text ++ more) (held_more first then before more text old) new
-
--- one line more of a list of them
-pub lines_more : {A : Type 0} (f : A → List ℕ) (text : List ℕ) (xs : List A) (i : ℕ) (d : A) → i < length xs
-    → (text ++ flat_map f (take i xs)) ++ f (get_or xs i d) ≡ text ++ flat_map f (take (i + 1) xs)
-lines_more f text xs i d within =
-    flat_map_more f text (take i xs) (get_or xs i d) ∙ ap (λ ys. text ++ flat_map f ys) (sym (take_more xs i d within))
 
 -- .. and those that are still to come
 pub lines_parted : {A : Type 0} (f : A → List ℕ) (text : List ℕ) (xs : List A) (i : ℕ)

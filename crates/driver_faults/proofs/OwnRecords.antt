@@ -1,6 +1,5 @@
 -- The end of a load by the page's own record is not refused.
 use Rattle.std.proofs.Common.{◌≡◌, ℕ, true, false, List, Option, None, Some, MatchOption, refl, ap}
-use Rattle.std.proofs.lemmas.Bool.{eq-eqb}
 use Rattle.std.proofs.lemmas.Slice.Eq.{bytes_eq-Decides}
 use Rattle.std.specs.Str.{bytes_eq}
 use Rattle.sgx_types.specs.declared.names.Actor.{Actor}
@@ -11,7 +10,8 @@ use Rattle.sgx_rules.specs.declared.refusals.Refusal.{Refusal}
 use Rattle.sgx_types.specs.Sealed.{Sealed}
 use Rattle.sgx_types.specs.Cases.{first_of_row}
 use Rattle.seal_record.specs.Cipher.{tag}
-use Rattle.seal_record.specs.inner.Row.{eld_row, same_header}
+use Rattle.seal_record.specs.inner.Row.{eld_row}
+use Rattle.seal_record.proofs.HeaderLaws.{same_header-refl}
 use Rattle.machine_laws.specs.inner.State.{State}
 use Rattle.machine_laws.specs.inner.Steps.{IsReloaded, commit_row}
 use Rattle.driver_rules.specs.inner.Reclaims.{is_refused}
@@ -19,14 +19,11 @@ use Rattle.driver_rules.specs.inner.Reclaims.{is_refused}
 same_bytes : (xs : List ℕ) → bytes_eq xs xs ≡ true
 same_bytes xs = (bytes_eq-Decides xs xs).1 refl
 
-own_header : (h : Header) → same_header h h ≡ true
-own_header h = rw (eq-eqb h.enclave h.enclave refl, eq-eqb h.address h.address refl, eq-eqb h.flags h.flags refl) refl
-
 -- no case of the row holds of a record that has the page's header, and the tag that is computed of it
 own_row : (rec : Sealed) (computed : List ℕ) (header : Header) → rec.header ≡ header → rec.tag ≡ computed
     → first_of_row (eld_row rec computed (Some header)) ≡ None
 own_row rec computed header headed tagged =
-    rw (tagged, headed, same_bytes computed, own_header header) refl
+    rw (tagged, headed, same_bytes computed, same_header-refl header) refl
 
 row_done : (o : Option Refusal) (X : Type 0) (Y : Refusal → Type 0) → o ≡ None → MatchOption o X Y → X
 row_done None X Y none row = row

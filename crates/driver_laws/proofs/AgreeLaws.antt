@@ -1,11 +1,11 @@
 -- The keeper of the version slots agrees with the entries, one entry longer.
 use Rattle.std.proofs.Common.{◌≡◌, ℕ, ◌==◌, ◌&&◌, ◌||◌, ◌+◌, not, Bool, true, false, if◌then◌else◌, refl, sym, ◌⊎◌, inl, inr}
-use Rattle.std.proofs.Common.{◌∙◌, ap, subst, List, ◌∷◌, Option, Some, None, length, nat_le, nat_lt, arith}
+use Rattle.std.proofs.Common.{◌∙◌, ap, subst, List, ◌∷◌, Option, Some, None, length, nat_le, nat_lt}
 use Rattle.std.proofs.lemmas.Bool.{eqb-true, false≢true, or_left, or_right}
 use Rattle.std.proofs.lemmas.Option.{none-some, same_Some}
 use Rattle.std.proofs.Math.Bool.{or-false}
 use Rattle.sgx_types.proofs.Pages.{same_page-refl, same_pages, same_slots}
-use Rattle.sgx_types.proofs.Truths.{both_true}
+use Rattle.sgx_types.proofs.Truths.{both_true, lt_more, lt_one, lt_self, lt_other, lt_last}
 use Rattle.sgx_rules.specs.declared.entries.Action.TheVariants.{Add, Create, Eld, EldStart, Epa, Ewb, EwbStart}
 use Rattle.sgx_types.specs.declared.names.Actor.{Actor}
 use Rattle.sgx_rules.specs.declared.entries.Answer.{Answer}
@@ -563,21 +563,6 @@ shows_unkept k j keeper past a f to version keeps s =
     (λ t ours free. record { version = refl; idle = λ h. h; here = λ h. h })
 
 -- ---- the version array pages
-
-lt_more : (a m : ℕ) → nat_lt a m ≡ true → nat_lt a (m + 1) ≡ true
-lt_more a m low = grind (arith, low)
-
-lt_one : (a m : ℕ) → m ≡ a → nat_lt a (m + 1) ≡ true
-lt_one a m one = grind (arith, one)
-
-lt_self : (a m : ℕ) → m ≡ a → nat_lt a m ≡ false
-lt_self a m one = grind (arith, one)
-
-lt_other : (a m : ℕ) → (m == a) ≡ false → nat_lt a (m + 1) ≡ nat_lt a m
-lt_other a m other = grind (arith, other)
-
-lt_last : (a m : ℕ) → nat_lt a m ≡ false → nat_lt a (m + 1) ≡ true → (m == a) ≡ true
-lt_last a m high low = grind (arith, high, low)
 
 -- one more is made, before the first page is added
 pub shows_epa : (k : Keeping) (j : JobView) (old new : Keeper) (past : List Entry) (a : Actor) (f : Frame) (answer : Answer)

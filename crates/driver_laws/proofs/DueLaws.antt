@@ -1,7 +1,7 @@
 -- A page that is due can leave, whatever is told of which slots are out.
 use Rattle.std.proofs.Common.{◌≡◌, ℕ, zero, suc, ◌+◌, ◌<◌, ◌≤◌, ◌==◌, ◌&&◌, not, Bool, true, false, if◌then◌else◌, refl, sym, ◌∙◌, ap}
 use Rattle.std.proofs.Common.{subst, List, Option, Some, None, length, ⊎_elim, ◌⊎◌, inl, inr}
-use Rattle.std.proofs.lemmas.Bool.{cases_lt, eqb-true, false≢true}
+use Rattle.std.proofs.lemmas.Bool.{cases_lt, eqb-true, false≢true, not-true}
 use Rattle.std.proofs.lemmas.Option.{same_Some}
 use Rattle.sgx_types.proofs.Truths.{both_true}
 use Rattle.sgx_rules.specs.declared.entries.Entry.{Entry}
@@ -26,10 +26,6 @@ use Rattle.sgx_rules.specs.declared.entries.Look.TheVariants as looks
 pub record IsWithin (frames : ℕ) (past : List Entry) : Type 0 where
   pub children : (n e : ℕ) → frames ≤ n → is_child (content past n) e ≡ false
   pub named : (n va : ℕ) → frames ≤ n → is_of_va (open_slot past n) va ≡ false
-
-not_true : (b : Bool) → not b ≡ true → b ≡ false
-not_true true h = absurd (false≢true h)
-not_true false h = refl
 
 -- a SECS that is alone
 alone_leaves : (j : JobView) (past : List Entry) (e : ℕ) → (e == 0) ≡ false → IsWithin j.epc past → is_alone j past e ≡ true
@@ -58,8 +54,8 @@ spare_leaves j past out va within h =
     record {
       here = d.1;
       children = λ secs. absurd (false≢true secs);
-      first = λ is. not_true (va == 0) d.0;
-      named = λ is n. by_place n (cases_lt n j.epc) (not_true (is_va_in_use j.epc past va) b.1);
+      first = λ is. not-true (va == 0) d.0;
+      named = λ is n. by_place n (cases_lt n j.epc) (not-true (is_va_in_use j.epc past va) b.1);
     }
   where
     by_place : (n : ℕ) → (n < j.epc) ⊎ (j.epc ≤ n) → is_va_in_use j.epc past va ≡ false → is_of_va (open_slot past n) va ≡ false
@@ -71,7 +67,7 @@ spare_leaves j past out va within h =
         by_test false is = is
 
 -- the least that passes passes
-least_passes : (test : ℕ → Bool) (n count va : ℕ) → least_from test n count ≡ Some va → test va ≡ true
+pub least_passes : (test : ℕ → Bool) (n count va : ℕ) → least_from test n count ≡ Some va → test va ≡ true
 least_passes test n zero va is = cc
 least_passes test n (suc count) va is = by_test (least_passes test (n + 1) count va) (test n) refl is
   where

@@ -26,10 +26,10 @@ use Rattle.sgx_rules.proofs.Contents.{page_enclave}
 use Rattle.sgx_types.proofs.CountLaws.{count_below-zero}
 use Rattle.driver_rules.specs.Passes.{keepers, keepers_behind, keepers_from, keepers_in, keeps_from}
 use Rattle.driver_rules.specs.Places.{frame_leaving}
+use Rattle.driver_rules.proofs.ReclaimLaws.{other_secs}
 use Rattle.driver_laws.specs.inner.Sound.{IsSound}
 use Rattle.driver_laws.specs.inner.Tracks.{IsCalm, IsTracked, IsUntracked, IsWaiting, TryTells}
 use Rattle.driver_laws.proofs.TrackLaws.{drained_waiting, first_last, last_low, own_holds, waiting_holds}
-use Rattle.driver_laws.proofs.SoundLaws.{not_own_secs}
 use Rattle.driver_laws.specs.inner.Counted.{is_own_there}
 use Rattle.sgx_rules.specs.declared.refusals.Refusal.TheVariants as why
 
@@ -200,7 +200,7 @@ own_content (Holds page kind perm) h = refl
 own_content Free h = absurd (false≢true h)
 own_content (IsLoading page) h = absurd (false≢true h)
 own_content (IsVa n) h = absurd (false≢true h)
-own_content (SecsOf e) h = absurd (false≢true (sym (not_own_secs e) ∙ h))
+own_content (SecsOf e) h = absurd (false≢true (sym (other_secs e) ∙ h))
 
 -- a try tells what is so where it is answered by its row
 pub try_tells : (k : Making) (past : List Entry) (e : Entry) → RefusalRule k past e → TryTells past e.event

@@ -1,7 +1,7 @@
 -- In a history places, the list and the slots are sound throughout, and a pass keeps what it says of tracks and of its pages.
 use Rattle.std.proofs.Common.{◌≡◌, ℕ, ◌≤◌, ◌^◌, ◌==◌, ◌||◌, ◌&&◌, ◌⊎◌, inl, inr, not, Bool, true, false, if◌then◌else◌}
 use Rattle.std.proofs.Common.{refl, sym, ◌∙◌, ap, subst, List, [], ◌∷◌, Option, Some, None, is_some, nat_lt, arith}
-use Rattle.std.proofs.lemmas.Bool.{eqb-true, eq-eqb, false≢true, not-false}
+use Rattle.std.proofs.lemmas.Bool.{eqb-true, eq-eqb, false≢true, not-false, or_right}
 use Rattle.std.proofs.lemmas.Option.{same_Some}
 use Rattle.machine_copies.proofs.CopyLaws.{out_is_gone}
 use Rattle.machine_copies.proofs.DrawnLaws.{drawn_once}
@@ -54,6 +54,7 @@ use Rattle.driver_rules.specs.Scripts.{ScriptRule}
 use Rattle.driver_rules.specs.Spares.{due_with, outs}
 use Rattle.driver_rules.specs.Targets.{at_frame, slot_here}
 use Rattle.driver_rules.specs.Stops.{last_event}
+use Rattle.driver_rules.proofs.ReclaimLaws.{due_is_other, other_secs}
 use Rattle.driver_laws.specs.inner.Driven.{IsDriven}
 use Rattle.driver_laws.specs.inner.Kinds.{CanLeave, CanLook, CanMove}
 use Rattle.driver_laws.specs.inner.Sound.{is_absent, is_write_start, IsSound, load_slot, slot_at, slot_if, slot_of, stands_in, version_out}
@@ -65,8 +66,8 @@ use Rattle.driver_laws.proofs.EpochLaws.{try_tells}
 use Rattle.driver_laws.proofs.MarkLaws.{head_own}
 use Rattle.driver_laws.proofs.OwnLaws.{script_own}
 use Rattle.driver_laws.proofs.PassLaws.{tracks_stay}
-use Rattle.driver_laws.proofs.SoundLaws.{entry_of, first_sound, not_own_secs, stays_sound}
-use Rattle.driver_laws.proofs.StageLaws.{due_other, first_pages, left_before, pages_kept, takes}
+use Rattle.driver_laws.proofs.SoundLaws.{entry_of, first_sound, stays_sound}
+use Rattle.driver_laws.proofs.StageLaws.{first_pages, left_before, pages_kept, takes}
 use Rattle.driver_laws.proofs.StillLaws.{holds_here}
 use Rattle.driver_laws.proofs.WithinLaws.{HoldsNonePast, none_past, script_load, within_past}
 use Rattle.sgx_rules.specs.declared.entries.Action.TheVariants as actions
@@ -190,7 +191,7 @@ add_open number kind perm init (Some x) secs is_added v row = record { ready = r
 -- ---- where a page stands
 
 -- a page that stands in a frame is here, or leaves it
-stands_where : (p : Place) (n : ℕ) → stands_in p n ≡ true → (is_here p ≡ true) ⊎ (p ≡ Leaving n)
+pub stands_where : (p : Place) (n : ℕ) → stands_in p n ≡ true → (is_here p ≡ true) ⊎ (p ≡ Leaving n)
 stands_where (Here m) n h = inl refl
 stands_where (Leaving m) n h = inr (ap Leaving (eqb-true m n h))
 stands_where Absent n h = cc
@@ -445,7 +446,7 @@ can_move k j past e positive kept keeps fits script age = by_event e.event keeps
 
     is_due : (g : Page) → due_with j past (outs j past) ≡ Some g → (is_own_page g ≡ false) × CanLeave past g
     is_due g is = (
-      due_other j past (outs j past) (last_event past actors.Reclaimer) g is,
+      due_is_other j past (outs j past) (last_event past actors.Reclaimer) g is,
       due_leaves j past (outs j past) (last_event past actors.Reclaimer) g (within_past j.epc past s kept.past_epc) is,
     )
 
@@ -552,7 +553,7 @@ taken_init : (j : JobView) (past : List Entry) (page : Page) (a : Aside) (due : 
     → is_va_page (secs_page e) ≡ false → (due ≡ Some (secs_page e) → is_initialised past e ≡ true) → page ≡ secs_page e
     → IsAhead j past (ahead_by a due) (Age page looks.Taken) → is_initialised past e ≡ true
 taken_init j past page NoneAside None e s some init same h =
-    absurd (false≢true (sym (ap is_own_page same ∙ not_own_secs e) ∙ head_own past page s h.look.head))
+    absurd (false≢true (sym (ap is_own_page same ∙ other_secs e) ∙ head_own past page s h.look.head))
 taken_init j past page NoneAside (Some g) e s some init same h = init (ap Some (sym h ∙ same))
 taken_init j past page (IsToGo g) due e s some init same h = absurd h
 taken_init j past page (IsGoing g) due e s some init same h = absurd h
@@ -562,10 +563,6 @@ inits_kept : (j : JobView) (past : List Entry) (e : Entry) → IsSound past → 
 inits_kept j past e s script age before enclave n some out =
     by_case (left_before past e (secs_page enclave) n out)
   where
-    more : (b c : Bool) → c ≡ true → (b || c) ≡ true
-    more true c h = refl
-    more false c h = h
-
     by_event : (ev : Event) → ScriptRule j past (entry_of e.actor ev) → AgeRule j past (entry_of e.actor ev)
         → takes ev (secs_page enclave) ≡ true → is_initialised past enclave ≡ true
     by_event (Age page looks.Taken) sc ag is =
@@ -576,8 +573,8 @@ inits_kept j past e s script age before enclave n some out =
 
     by_case : (place past (secs_page enclave) ≡ Leaving n) ⊎ (takes e.event (secs_page enclave) ≡ true)
         → (is_init_of enclave e.event || is_initialised past enclave) ≡ true
-    by_case (inl was) = more (is_init_of enclave e.event) (is_initialised past enclave) (before enclave n some was)
-    by_case (inr is) = more (is_init_of enclave e.event) (is_initialised past enclave) (by_event e.event script age is)
+    by_case (inl was) = or_right (is_init_of enclave e.event) (is_initialised past enclave) (before enclave n some was)
+    by_case (inr is) = or_right (is_init_of enclave e.event) (is_initialised past enclave) (by_event e.event script age is)
 
 -- ---- all along
 

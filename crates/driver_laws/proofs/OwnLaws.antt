@@ -1,6 +1,6 @@
 -- By the rule Script looks, kicks, blocks, tracks and write-outs are the reclaimer's alone, and a load is begun for a page that is away.
 use Rattle.std.proofs.Common.{◌≡◌, ℕ, not, Bool, true, false, if◌then◌else◌, refl, sym, ◌∙◌, ap, List, Option, Some}
-use Rattle.std.proofs.Common.{None, slice_get, subst, ◌&&◌, ◌==◌}
+use Rattle.std.proofs.Common.{None, slice_get, subst}
 use Rattle.std.proofs.lemmas.Bool.{false≢true}
 use Rattle.sgx_rules.specs.declared.entries.AccessOp.{AccessOp}
 use Rattle.sgx_rules.specs.declared.entries.Action.{Action}
@@ -37,6 +37,7 @@ use Rattle.driver_rules.specs.Stops.{is_spent}
 use Rattle.driver_rules.specs.Turns.{accesses_by, builder_due, cpu_due, due_after, early_turn, enters, Fails, fetch, fetch_by, fetches}
 use Rattle.driver_rules.specs.Turns.{fills, first_away, inside_turn, is_built, is_kicked, is_last, Last, last_of, Loads, op_turn}
 use Rattle.driver_rules.specs.Turns.{Other, outside_turn, resumes, save_frame, stay_turn, step_turn, turn_due, WasEnded, with_pages}
+use Rattle.driver_rules.proofs.ReclaimLaws.{other_secs}
 use Rattle.sgx_rules.specs.declared.entries.AccessOp.TheVariants as accesses
 use Rattle.sgx_rules.specs.declared.entries.Action.TheVariants as actions
 use Rattle.sgx_types.specs.declared.names.Actor.TheVariants as actors
@@ -123,13 +124,6 @@ fetch_is j past t secs array = by_place (place past t) refl
     by_place (Leaving f) is = tt
     by_place (Loading f slot) is = tt
 
-not_own_secs : (e : ℕ) → is_own_page (secs_page e) ≡ false
-not_own_secs e = by_test (e == 0)
-  where
-    by_test : (b : Bool) → (not b && false) ≡ false
-    by_test true = refl
-    by_test false = refl
-
 -- the page that is brought back first has what it needs here
 pub target_is : (j : JobView) (past : List Entry) (g : Page) (slot : VaSlot) → place past g ≡ Away slot
     → FetchIs j past (fetch j.epc past (target_by past g (Away slot)))
@@ -153,7 +147,7 @@ target_is j past g slot is = by_own (is_own_page g) refl
         → FetchIs j past (fetch j.epc past (if b then (if is_here (place past (va_page slot.va)) then g else va_page slot.va)
         else secs_page g.enclave))
     by_secs true secs = by_array (is_here (place past (va_page slot.va))) refl secs
-    by_secs false secs = none (secs_page g.enclave) (not_own_secs g.enclave)
+    by_secs false secs = none (secs_page g.enclave) (other_secs g.enclave)
 
     by_own : (b : Bool) → is_own_page g ≡ b
         → FetchIs j past (fetch j.epc past (if b then target_from past g slot else g))

@@ -25,12 +25,13 @@ use Rattle.driver_rules.specs.Passes.{Pass, pass, pass_after, pass_by, Scan, sca
 use Rattle.driver_rules.specs.Passes.{ToKick, ToTrack, Tries}
 use Rattle.driver_rules.specs.Spares.{due_with, Outs}
 use Rattle.driver_rules.specs.Places.{active, Leaving, place}
+use Rattle.driver_rules.proofs.ReclaimLaws.{other_secs}
 use Rattle.sgx_rules.specs.Table.{is_own}
 use Rattle.driver_laws.specs.inner.Counted.{is_own_there}
 use Rattle.driver_laws.specs.inner.Sound.{IsSound}
 use Rattle.driver_laws.specs.inner.Tracks.{AllCalm, InForm, is_reclaimers, IsCalm, IsTracked, IsUntracked, KeepsTracks, moves_from}
 use Rattle.driver_laws.specs.inner.Tracks.{OwnRule, TryTells}
-use Rattle.driver_laws.proofs.SoundLaws.{entry_of, not_own_secs}
+use Rattle.driver_laws.proofs.SoundLaws.{entry_of}
 use Rattle.driver_laws.proofs.TrackLaws.{behind_kept, block_low, blocked_place, calm_drained, calm_kept, last_kept, none_since}
 use Rattle.driver_laws.proofs.TrackLaws.{waiting_kept}
 use Rattle.driver_laws.proofs.StillLaws.{frames_apart, holds_here}
@@ -144,7 +145,7 @@ own_there (Holds page kind perm) g h own = ap is_own_page (same_pages page g h) 
 own_there Free g h own = absurd (false≢true h)
 own_there (IsLoading page) g h own = absurd (false≢true h)
 own_there (IsVa n) g h own = absurd (false≢true (ap is_own_page (same_pages (va_page n) g h) ∙ own))
-own_there (SecsOf e) g h own = absurd (false≢true (sym (not_own_secs e) ∙ ap is_own_page (same_pages (secs_page e) g h) ∙ own))
+own_there (SecsOf e) g h own = absurd (false≢true (sym (other_secs e) ∙ ap is_own_page (same_pages (secs_page e) g h) ∙ own))
 
 drained_by : (past : List Entry) (g : Page) (f : ℕ) → IsSound past → IsFrame past g f
     → (is_own_there (content past f) ≡ true → is_drained past f ≡ true) → IsTracked past g → is_drained past f ≡ true

@@ -1,5 +1,5 @@
 -- What the rules say of a write-out; the slot of a page that is away is not busy; slots are used in a history.
-use Rattle.std.proofs.Common.{◌≡◌, ℕ, ◌+◌, ◌<◌, ◌≤◌, ◌||◌, not, nat_le, nat_lt, Bool, true, false, if◌then◌else◌, refl, sym}
+use Rattle.std.proofs.Common.{◌≡◌, ℕ, ◌<◌, ◌≤◌, ◌||◌, not, nat_le, nat_lt, true, false, refl, sym}
 use Rattle.std.proofs.Common.{◌∙◌, ap, subst, List, [], ◌∷◌, Option, Some, None, is_some, arith}
 use Rattle.sgx_rules.proofs.Rows.{none_holds}
 use Rattle.sgx_types.proofs.Truths.{neither}
@@ -16,7 +16,7 @@ use Rattle.sgx_types.specs.Making.{Making}
 use Rattle.sgx_rules.specs.Rules.{EvictRule, RefusalRule, RisingRule}
 use Rattle.sgx_rules.specs.Table.{is_busy, is_loading}
 use Rattle.sgx_rules.specs.Sights.{row_at, sight_at}
-use Rattle.sgx_rules.specs.Slots.{is_busy_at, is_draw, next_version}
+use Rattle.sgx_rules.specs.Slots.{is_busy_at}
 use Rattle.sgx_rules.specs.inner.Slots.{IsIdle}
 use Rattle.sgx_rules.specs.Starts.{open_start, Start, version_told}
 use Rattle.sgx_rules.proofs.Busy.{idle_by}
@@ -29,18 +29,9 @@ use Rattle.driver_laws.proofs.HistoryLaws.{driven_before, driven_can, driven_pag
 use Rattle.driver_laws.proofs.SoundLaws.{entry_of}
 use Rattle.driver_laws.proofs.AloneLaws.{alone}
 use Rattle.driver_laws.proofs.UsedLaws.{first_used, stays_used}
+use Rattle.machine_copies.proofs.DrawnLaws.{first_below}
 
 -- ---- what the rules say of a write-out
-
--- no version is below the first
-pub first_below : (first : ℕ) (past : List Entry) → first ≤ next_version first past
-first_below first [] = omega arith
-first_below first (e ∷ past) = by_draw (is_draw e.event) (first_below first past)
-  where
-    by_draw : (b : Bool) → first ≤ next_version first past
-        → first ≤ (if b then next_version first past + 1 else next_version first past)
-    by_draw true h = omega (arith, h)
-    by_draw false h = h
 
 -- no start of a frame is open that is not busy
 idle_none : (past : List Entry) (n : ℕ) → IsSound past → SealingAreOpen past → is_sealing past n ≡ false

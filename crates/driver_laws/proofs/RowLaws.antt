@@ -35,7 +35,8 @@ use Rattle.sgx_rules.proofs.Busy.{idle_free, StaysIn}
 use Rattle.sgx_rules.proofs.Contents.{held_page, IsHeld, there_is, va_no_free}
 use Rattle.driver_slots.specs.inner.Keeper.{is_ours, is_out, Keeper, va_slot}
 use Rattle.job_grammar.specs.Jobs.{JobView}
-use Rattle.driver_rules.specs.Places.{Absent, Away, Here, is_here, Leaving, Loading, Place, place}
+use Rattle.driver_rules.specs.Places.{Away, Here, is_here, Leaving, Place, place}
+use Rattle.driver_rules.proofs.ReclaimLaws.{other_secs}
 use Rattle.driver_laws.specs.inner.Agrees.{Keeping, ShowsSlots}
 use Rattle.driver_laws.specs.inner.Sound.{is_load_start, is_write_start, IsSound, slot_outside}
 use Rattle.driver_laws.specs.inner.Stages.{IsTaken}
@@ -43,7 +44,7 @@ use Rattle.driver_laws.specs.inner.Used.{left_to_refuse, load_left, SealingAreOp
 use Rattle.driver_laws.proofs.AloneLaws.{free_none}
 use Rattle.driver_laws.proofs.PlaceLaws.{holds_one, loads_no_page}
 use Rattle.driver_laws.proofs.ReadyLaws.{away_idle}
-use Rattle.driver_laws.proofs.SoundLaws.{entry_of, not_own_secs, own_none}
+use Rattle.driver_laws.proofs.SoundLaws.{entry_of, own_none, frame_of_here}
 use Rattle.driver_laws.proofs.StillLaws.{holds_here}
 
 -- ---- frames
@@ -87,14 +88,6 @@ array_within frames past n fits h = by_test (nat_le frames n) refl (held_within 
     by_test true k l = let high = leb-true frames n k in absurd (omega (arith, high, l))
 
 -- ---- pages that are here
-
--- the frame of a page that is here
-frame_of_here : (p : Place) → is_here p ≡ true → (f : ℕ) × (p ≡ Here f)
-frame_of_here (Here f) h = (f, refl)
-frame_of_here Absent h = cc
-frame_of_here (Leaving f) h = cc
-frame_of_here (Loading f slot) h = cc
-frame_of_here (Away slot) h = cc
 
 -- the page that stands in a frame, and is here, is not on its way out of it
 here_stays : (past : List Entry) (g : Page) (n : ℕ) → IsSound past → SealingAreOpen past → is_here (place past g) ≡ true
@@ -164,7 +157,7 @@ secs_there (SecsOf e) enclave some own h = ap (λ (g : Page). SecsOf g.enclave) 
 secs_there (IsVa k) enclave some own h =
     absurd (false≢true (sym some ∙ ap is_va_page (sym (same_pages (va_page k) (secs_page enclave) h))))
 secs_there (Holds page kind perm) enclave some own h =
-    absurd (false≢true (sym (not_own_secs enclave) ∙ ap is_own_page (sym (same_pages page (secs_page enclave) h))
+    absurd (false≢true (sym (other_secs enclave) ∙ ap is_own_page (sym (same_pages page (secs_page enclave) h))
     ∙ own page kind perm refl))
 secs_there Free enclave some own h = absurd (false≢true h)
 secs_there (IsLoading page) enclave some own h = absurd (false≢true h)
@@ -255,7 +248,7 @@ load_filled past g slot at u away found =
 pub own_held : (c : Content) (g : Page) → is_own_page g ≡ true → stands c g ≡ true → IsHeld c g
 own_held (Holds page kind perm) g own h = held_page (Holds page kind perm) g h
 own_held (SecsOf e) g own h =
-    absurd (false≢true (sym (not_own_secs e) ∙ ap is_own_page (same_pages (secs_page e) g h) ∙ own))
+    absurd (false≢true (sym (other_secs e) ∙ ap is_own_page (same_pages (secs_page e) g h) ∙ own))
 own_held (IsVa k) g own h = absurd (false≢true (ap is_own_page (same_pages (va_page k) g h) ∙ own))
 own_held Free g own h = absurd (false≢true h)
 own_held (IsLoading page) g own h = absurd (false≢true h)

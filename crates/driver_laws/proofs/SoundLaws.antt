@@ -37,6 +37,7 @@ use Rattle.driver_laws.specs.inner.Kinds.{CanMove}
 use Rattle.driver_rules.specs.Places.{Absent, active, after_look, Away, back_from, comes_into, gone_to, Here, is_here, leaves, Leaving}
 use Rattle.driver_rules.specs.Places.{Loading, looked_at, Place, place, to_tail}
 use Rattle.driver_rules.specs.Turns.{load_of}
+use Rattle.driver_rules.proofs.ReclaimLaws.{other_secs}
 use Rattle.driver_laws.specs.inner.Sound.{ArraysAreHere, is_absent, IsSound, ListIsHere, load_slot, once_listed, PlacesAreFrames}
 use Rattle.driver_laws.specs.inner.Sound.{slot_at, slot_if, slot_loading, slot_outside, SlotsAreApart, times, waiting}
 use Rattle.driver_laws.proofs.HereLaws.{arrays_closed, arrays_made, arrays_more, arrays_opened, arrays_taken, child_back, held_back}
@@ -77,19 +78,12 @@ sound_epa past a f answer can s = record {
   arrays = arrays_made (place past) (open_start past) (vas_made past) f.0 s.arrays;
 }
 
-pub not_own_secs : (e : ℕ) → is_own_page (secs_page e) ≡ false
-not_own_secs e = by_test (e == 0)
-  where
-    by_test : (b : Bool) → (not b && false) ≡ false
-    by_test true = refl
-    by_test false = refl
-
 pub sound_create : (past : List Entry) (a : Actor) (e : ℕ) (f : Frame) (base size : ℕ) (answer : Answer)
     → CanMove past (Did (Create e f base size) answer) → IsSound past → IsSound (entry_of a (Did (Create e f base size) answer) ∷ past)
 sound_create past a e f base size answer can s = record {
   places = put_here (place past) (content past) (open_start past) f.0 (secs_page e) (SecsOf e) s.places can.0 can.1 (λ g. refl) refl;
   list = list_beside (active past) (place past) (λ g. if same_page (secs_page e) g then Here f.0 else place past g)
-      (secs_page e) s.list (not_own_secs e) (λ g other. ap (λ b. if b then Here f.0 else place past g) other);
+      (secs_page e) s.list (other_secs e) (λ g other. ap (λ b. if b then Here f.0 else place past g) other);
   apart = apart_here (place past) (open_start past) (secs_page e) f.0 s.apart;
   versions =
       versions_less (place past) (λ g. if same_page (secs_page e) g then Here f.0 else place past g) (last_out past)
@@ -137,7 +131,7 @@ sound_add past a e n f kind perm init answer can s = record {
 -- ---- looks
 
 -- where a page is that is here
-frame_of_here : (p : Place) → is_here p ≡ true → (f : ℕ) × (p ≡ Here f)
+pub frame_of_here : (p : Place) → is_here p ≡ true → (f : ℕ) × (p ≡ Here f)
 frame_of_here (Here f) h = (f, refl)
 frame_of_here Absent h = cc
 frame_of_here (Leaving f) h = cc

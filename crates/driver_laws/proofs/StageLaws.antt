@@ -2,10 +2,10 @@
 use Rattle.std.proofs.Common.{◌≡◌, ℕ, ◌+◌, ◌-◌, ◌≤◌, ◌==◌, ◌||◌, ◌&&◌, not, Bool, true, false}
 use Rattle.std.proofs.Common.{if◌then◌else◌, zero, suc, refl, sym, ◌∙◌, ap, subst, List, [], ◌∷◌, ◌++◌, drop, length}
 use Rattle.std.proofs.Common.{length-append, min, Option, Some, None, ◌⊎◌, inl, inr, arith}
-use Rattle.std.proofs.lemmas.Bool.{eqb-true, eq-eqb, false≢true}
+use Rattle.std.proofs.lemmas.Bool.{eqb-true, eq-eqb, false≢true, or_right, and_right}
 use Rattle.std.proofs.lemmas.List.{append_assoc, append-nil}
 use Rattle.std.proofs.lemmas.List.Folds.{list_any-append}
-use Rattle.sgx_types.proofs.Truths.{eqb-swap}
+use Rattle.sgx_types.proofs.Truths.{eqb-swap, neither, eqb-refl}
 use Rattle.sgx_rules.specs.declared.entries.Action.TheVariants.{Add, Block, Create, Eld, EldStart, Epa, Ewb, EwbStart, Track}
 use Rattle.sgx_types.specs.declared.names.Actor.{Actor}
 use Rattle.sgx_rules.specs.declared.entries.Answer.{Answer}
@@ -18,8 +18,8 @@ use Rattle.sgx_types.specs.declared.names.Frame.{Frame}
 use Rattle.sgx_types.specs.declared.names.Page.{Page}
 use Rattle.sgx_types.specs.declared.names.SlotAt.{SlotAt}
 use Rattle.sgx_types.specs.declared.names.VaSlot.{VaSlot}
-use Rattle.sgx_types.specs.Pages.{is_own_page, is_secs_page, same_page, secs_page, va_page}
-use Rattle.sgx_types.proofs.Pages.{same_pages}
+use Rattle.sgx_types.specs.Pages.{is_own_page, same_page, secs_page, va_page}
+use Rattle.sgx_types.proofs.Pages.{same_pages, same_page-swap}
 use Rattle.sgx_rules.specs.Frames.{content, Free, is_block, is_blocked, is_sealing, stands, vas_made}
 use Rattle.sgx_rules.specs.Slots.{slot_of}
 use Rattle.sgx_rules.specs.Starts.{open_start, slot_found, Start, started, version_told}
@@ -32,16 +32,17 @@ use Rattle.driver_rules.specs.Passes.{Aside, aside, aside_after, aside_by, aside
 use Rattle.driver_rules.specs.Passes.{Form, free_count, is_aside, IsToGo, keepers, Kicks, kicks_on, next_tries, NoneAside, Pass, pass}
 use Rattle.driver_rules.specs.Passes.{pass_after, pass_by, Scan, scan_on, scanned, Sealing, Second, taken_by, Third, ToKick, ToTrack}
 use Rattle.driver_rules.specs.Passes.{Tries}
-use Rattle.driver_rules.specs.Spares.{array_at, due_by, due_with, is_alone, is_spare, least_from, Outs, spare}
+use Rattle.driver_rules.specs.Spares.{due_with, Outs}
 use Rattle.driver_rules.specs.Stops.{last_event}
-use Rattle.driver_rules.specs.Places.{Absent, active, active_after, Away, back_from, comes_into, gone_to, Here, is_here, leaves, Leaving}
+use Rattle.driver_rules.specs.Places.{Absent, active, active_after, Away, back_from, comes_into, gone_to, Here, leaves, Leaving}
 use Rattle.driver_rules.specs.Places.{Loading, looked_at, Place, place, to_tail}
+use Rattle.driver_rules.proofs.ReclaimLaws.{due_is_other}
 use Rattle.driver_laws.specs.inner.Sound.{is_load_start, is_write_start, IsSound}
 use Rattle.driver_laws.specs.inner.Tracks.{is_reclaimers, OwnRule}
 use Rattle.driver_laws.proofs.MarkLaws.{head_own}
 use Rattle.driver_laws.proofs.MoveLaws.{place-ewb, place-taken}
 use Rattle.driver_laws.proofs.SlotLaws.{none_open}
-use Rattle.driver_laws.proofs.SoundLaws.{entry_of, head_here, not_own_secs}
+use Rattle.driver_laws.proofs.SoundLaws.{entry_of, head_here, frame_of_here}
 use Rattle.driver_laws.specs.inner.Stages.{AllWait, AreApart, HasAside, HasPages, IsOnly, IsTaken, IsTrying, KeepsPages, Stands}
 use Rattle.driver_laws.specs.inner.Stages.{touches}
 use Rattle.driver_laws.proofs.StillLaws.{frames_apart, holds_here, load_open, place_apart, still}
@@ -50,16 +51,6 @@ use Rattle.sgx_rules.specs.declared.entries.Look.TheVariants as looks
 use Rattle.sgx_rules.specs.declared.refusals.Refusal.TheVariants as why
 use Rattle.driver_rules.specs.Ages as ages
 use Rattle.driver_rules.specs.Passes as goes
-
-self_eq : (f : ℕ) → (f == f) ≡ true
-self_eq f = eq-eqb f f refl
-
-neither : (a b : Bool) → (a || b) ≡ false → (a ≡ false) × (b ≡ false)
-neither true b h = cc
-neither false b h = (refl, h)
-
-page_swap : (a b : Page) → same_page a b ≡ same_page b a
-page_swap a b = rw (eqb-swap a.enclave b.enclave, eqb-swap a.number b.number) refl
 
 -- ---- lists of pages
 
@@ -71,7 +62,7 @@ apart_more : (gs : List Page) (g : Page) → AreApart gs → is_among gs g ≡ f
 apart_more [] g h none = (refl, tt)
 apart_more (x ∷ xs) g h none =
     let two = neither (same_page x g) (is_among xs g) none in
-    (list_any-append (λ y. same_page y x) xs (g ∷ []) ∙ rw (h.0, page_swap g x, two.0) refl, apart_more xs g h.1 two.1)
+    (list_any-append (λ y. same_page y x) xs (g ∷ []) ∙ rw (h.0, same_page-swap g x, two.0) refl, apart_more xs g h.1 two.1)
 
 wait_append : (past : List Entry) (b : Bool) (xs ys : List Page) → AllWait past b xs → AllWait past b ys → AllWait past b (xs ++ ys)
 wait_append past b [] ys h k = k
@@ -100,7 +91,7 @@ others_kept : (past : List Entry) (e : Entry) (b : Bool) (g : Page) (n : ℕ) (g
 others_kept past e b g n [] s can at only none h = tt
 others_kept past e b g n (x ∷ xs) s can at only none h =
     let two = neither (same_page x g) (is_among xs g) none in
-    let apart = frames_apart past x g (Leaving h.0.frame) (Leaving n) h.0.frame n s h.0.leaving (self_eq h.0.frame) at (self_eq n) two.0 in
+    let apart = frames_apart past x g (Leaving h.0.frame) (Leaving n) h.0.frame n s h.0.leaving (eqb-refl h.0.frame) at (eqb-refl n) two.0 in
     (waits_kept past e b x s can h.0 (only h.0.frame (eqb-swap n h.0.frame ∙ apart)), others_kept past e b g n xs s can at only two.1 h.1)
 
 -- a block leaves what is blocked
@@ -111,22 +102,18 @@ shut_kept past a f answer (g ∷ gs) h = (
   record {
     frame = h.0.frame;
     leaving = h.0.leaving;
-    block = either (f.0 == h.0.frame)
+    block = or_right (f.0 == h.0.frame)
         (is_blocked past h.0.frame) h.0.block;
     start = h.0.start;
   },
   shut_kept past a f answer gs h.1,
 )
-  where
-    either : (b c : Bool) → c ≡ true → (b || c) ≡ true
-    either true c k = refl
-    either false c k = k
 
 -- .. and the page of its frame is blocked
 shut_now : (past : List Entry) (a : Actor) (f : Frame) (answer : Answer) (g : Page) → place past g ≡ Leaving f.0 → IsTaken past false g
     → IsTaken (entry_of a (Did (Block f) answer) ∷ past) true g
 shut_now past a f answer g at w =
-    record { frame = f.0; leaving = at; block = rw (self_eq f.0) refl; start = subst (λ n. open_start past n ≡ None) same w.start }
+    record { frame = f.0; leaving = at; block = rw (eqb-refl f.0) refl; start = subst (λ n. open_start past n ≡ None) same w.start }
   where
     both : Leaving w.frame ≡ Leaving f.0
     both = sym w.leaving ∙ at
@@ -291,7 +278,7 @@ started_now past a f to answer g can at = record {
   where
     now : open_start (entry_of a (Did (EwbStart f to) answer) ∷ past) f.0
         ≡ Some (record { at = to; slot = can.1; version = version_told answer; loads = None; place = length past; actor = a })
-    now = rw (self_eq f.0) (ap (started a (length past) to answer None) can.2)
+    now = rw (eqb-refl f.0) (ap (started a (length past) to answer None) can.2)
 
 -- a start
 start_has : (past : List Entry) (f : Frame) (slot : SlotAt) (answer : Answer) (g : Page) (rest : List Page) → IsSound past
@@ -545,31 +532,6 @@ pass_kept past e (Tries g rest form) s can grown apart_own own k = record {
 
 -- ---- a page that goes out beside the passes
 
--- a page that is due is a SECS or a version array page
-pub due_other : (j : JobView) (past : List Entry) (out : Outs) (o : Option Event) (g : Page) → due_by j past out o ≡ Some g
-    → is_own_page g ≡ false
-due_other j past out o g is = by_event o is
-  where
-    by_least : (o : Option ℕ) → array_at o ≡ Some g → is_own_page g ≡ false
-    by_least None h = cc
-    by_least (Some va) h = let same : va_page va ≡ g = cc in ap is_own_page (sym same)
-
-    by_spare : spare j past out ≡ Some g → is_own_page g ≡ false
-    by_spare h = by_least (least_from (is_spare j past out) 0 (vas_made past)) h
-
-    by_alone : (page : Page) (b : Bool) → (if b then Some (secs_page page.enclave) else spare j past out) ≡ Some g → is_own_page g ≡ false
-    by_alone page true h = let same : secs_page page.enclave ≡ g = cc in ap is_own_page (sym same) ∙ not_own_secs page.enclave
-    by_alone page false h = by_spare h
-
-    by_secs : (b : Bool) → (if b then spare j past out else None) ≡ Some g → is_own_page g ≡ false
-    by_secs true h = by_spare h
-    by_secs false h = cc
-
-    by_event : (o : Option Event) → due_by j past out o ≡ Some g → is_own_page g ≡ false
-    by_event (Some (Did (Ewb f) (Moved page version tag))) h = by_alone page (is_own_page page && is_alone j past page.enclave) h
-    by_event (Some (Age page looks.NoRoom)) h = by_secs (is_secs_page page) h
-    by_event _ h = cc
-
 -- the page that a look takes
 abbrev pub takes : Event → Page → Bool
 takes (Age page looks.Taken) g = same_page page g
@@ -659,14 +621,6 @@ others_take : (ev : Event) → is_reclaimers ev ≡ false → TakesNone ev
 others_take (Age page look) h g = cc
 others_take _ h g = refl
 
--- a frame of a page that is here
-here_frame : (p : Place) → is_here p ≡ true → (f : ℕ) × (p ≡ Here f)
-here_frame (Here f) h = (f, refl)
-here_frame Absent h = cc
-here_frame (Leaving f) h = cc
-here_frame (Loading f slot) h = cc
-here_frame (Away slot) h = cc
-
 -- a page that is taken beside the passes
 taken_aside : (past : List Entry) (page : Page) → IsSound past → CanMove past (Age page looks.Taken) → is_own_page page ≡ false
     → ((g : Page) (f : ℕ) → place past g ≡ Here f → is_blocked past f ≡ false)
@@ -682,7 +636,7 @@ taken_aside past page s can other here k = (
 )
   where
     stands_at : (f : ℕ) × (place past page ≡ Here f)
-    stands_at = here_frame (place past page) (can.1 other).here
+    stands_at = frame_of_here (place past page) (can.1 other).here
 
     by_case : (g : Page) (f : ℕ) → is_own_page g ≡ false → (place past g ≡ Leaving f) ⊎ (same_page page g ≡ true) → g ≡ page
     by_case g f not_own (inl was) = absurd (false≢true (sym not_own ∙ k g f was))
@@ -713,7 +667,7 @@ gone_aside past f page g version tag s can at only h n now = by_own (is_own_page
     same true is = same_pages page g is
     same false is =
         absurd (false≢true (sym
-        (frames_apart past page g (Leaving f.0) (Leaving f.0) f.0 f.0 s can.0 (self_eq f.0) at (self_eq f.0) is) ∙ self_eq f.0))
+        (frames_apart past page g (Leaving f.0) (Leaving f.0) f.0 f.0 s can.0 (eqb-refl f.0) at (eqb-refl f.0) is) ∙ eqb-refl f.0))
 
     apart : (slot : VaSlot) → Away slot ≡ Leaving n → ⊥
     apart slot x = cc
@@ -767,7 +721,7 @@ aside_stays : (j : JobView) (past : List Entry) (out : Outs) (a : Actor) (ev : E
     → ((g : Page) (f : ℕ) → place past g ≡ Here f → is_blocked past f ≡ false)
     → HasAside past (aside past) → HasAside (entry_of a ev ∷ past) (aside_after a ev (aside past))
 aside_stays j past out actors.Reclaimer ev s can own age here k =
-    aside_by_own j past (aside past) (due_with j past out) ev (λ g is. due_other j past out (last_event past actors.Reclaimer) g is) s can
+    aside_by_own j past (aside past) (due_with j past out) ev (λ g is. due_is_other j past out (last_event past actors.Reclaimer) g is) s can
     age here k
 aside_stays j past out actors.Builder ev s can own age here k = by_own (is_reclaimers ev) refl
   where
@@ -792,7 +746,7 @@ decided_has j past free (Tries g rest form) k = k
 aside_apart : (past : List Entry) (ev : Event) (g : Page) (f : ℕ) → IsSound past → is_own_page g ≡ false → IsFrame past g f
     → ((n : ℕ) → (f == n) ≡ false → touches ev n ≡ false) → TouchesNoOwn past ev
 aside_apart past ev g f s other at only h own n leaving =
-    only n (frames_apart past g h (Leaving f) (Leaving n) f n s at (self_eq f) leaving (self_eq n) (apart (same_page g h) refl))
+    only n (frames_apart past g h (Leaving f) (Leaving n) f n s at (eqb-refl f) leaving (eqb-refl n) (apart (same_page g h) refl))
   where
     apart : (b : Bool) → same_page g h ≡ b → same_page g h ≡ false
     apart true is = absurd (false≢true (sym other ∙ ap is_own_page (same_pages g h is) ∙ own))
@@ -847,7 +801,7 @@ of_actor : (j : JobView) (past : List Entry) (out : Outs) (a : Actor) (ev : Even
     → HasPages (entry_of a ev ∷ past) (pass_after j past a ev (pass j past))
 of_actor j past out actors.Reclaimer ev s can own age kick here beside k =
     of_reclaimer j past (aside past) (due_with j past out) ev refl
-    (λ g is. due_other j past out (last_event past actors.Reclaimer) g is) s can age kick here beside k
+    (λ g is. due_is_other j past out (last_event past actors.Reclaimer) g is) s can age kick here beside k
 of_actor j past out actors.Builder ev s can own age kick here beside k = by_own (is_reclaimers ev) refl
   where
     by_own : (b : Bool) → is_reclaimers ev ≡ b → HasPages (entry_of actors.Builder ev ∷ past) (pass j past)
@@ -906,12 +860,8 @@ here_kept : (past : List Entry) (e : Entry) → IsSound past → CanMove past e.
     → (g : Page) (f : ℕ) → place (e ∷ past) g ≡ Here f → is_blocked (e ∷ past) f ≡ false
 here_kept past e s can blocks here g f at = by_event e.event can blocks at
   where
-    and_false : (a b : Bool) → b ≡ false → (a && b) ≡ false
-    and_false true b h = h
-    and_false false b h = refl
-
     left_here : place past g ≡ Here f → (b : Bool) → (b && is_blocked past f) ≡ false
-    left_here k b = and_false b (is_blocked past f) (here g f k)
+    left_here k b = and_right b (is_blocked past f) (here g f k)
 
     put_here : (n : ℕ) → Here n ≡ Here f → (not (n == f) && is_blocked past f) ≡ false
     put_here n h = let same : n ≡ f = cc in rw (eq-eqb n f same) refl
@@ -984,8 +934,8 @@ here_kept past e s can blocks here g f at = by_event e.event can blocks at
         by_test true is =
             let x = bl f is in
             absurd (false≢true (sym
-            (frames_apart past g x.0 (Here f) (Leaving f) f f s h (self_eq f) x.1 (self_eq f)
-            (place_apart past g x.0 (Here f) (Leaving f) h x.1 (λ y. cc))) ∙ self_eq f))
+            (frames_apart past g x.0 (Here f) (Leaving f) f f s h (eqb-refl f) x.1 (eqb-refl f)
+            (place_apart past g x.0 (Here f) (Leaving f) h x.1 (λ y. cc))) ∙ eqb-refl f))
         by_test false is = here g f h
     by_event (Did (Ewb n) answer) k bl h = absurd k
     by_event (Did (Eld n) answer) k bl h = absurd k
@@ -999,7 +949,7 @@ free_no_write past n s free = by_test (is_write_start (open_start past n)) refl
     by_test : (b : Bool) → is_write_start (open_start past n) ≡ b → b ≡ false
     by_test true is =
         let x = s.places.writes n is in
-        absurd (false≢true (sym (ap (λ c. stands c x.0) free) ∙ holds_here past x.0 (Leaving n) n s x.1 (self_eq n)))
+        absurd (false≢true (sym (ap (λ c. stands c x.0) free) ∙ holds_here past x.0 (Leaving n) n s x.1 (eqb-refl n)))
     by_test false is = refl
 
 load_no_write : (o : Option Start) → is_load_start o ≡ true → is_write_start o ≡ false

@@ -12,6 +12,7 @@ use Rattle.sgx_types.specs.declared.names.Page.{Page}
 use Rattle.sgx_types.specs.declared.names.VaSlot.{VaSlot}
 use Rattle.sgx_rules.specs.Frames.{content, Free, is_blocked, stands}
 use Rattle.sgx_types.specs.Pages.{same_page}
+use Rattle.sgx_types.proofs.Truths.{eqb-refl}
 use Rattle.sgx_rules.specs.Starts.{open_start}
 use Rattle.driver_laws.specs.inner.Kinds.{CanMove}
 use Rattle.driver_rules.specs.Places.{Absent, after_look, Away, back_from, Leaving, Loading, Place, place}
@@ -28,9 +29,6 @@ pub holds_here : (past : List Entry) (g : Page) (p : Place) (f : ℕ) → IsSoun
     → stands (content past f) g ≡ true
 holds_here past g p f s at there = s.places.frames g f ∙ ap (λ y. stands_in y f) at ∙ there
 
-self_eq : (f : ℕ) → (f == f) ≡ true
-self_eq f = eq-eqb f f refl
-
 -- a frame that is free is another
 pub free_apart : (past : List Entry) (g : Page) (f n : ℕ) → stands (content past f) g ≡ true → content past n ≡ Free → (n == f) ≡ false
 free_apart past g f n holds free = by_test (n == f) refl
@@ -44,7 +42,7 @@ pub load_open : (past : List Entry) (page : Page) (n : ℕ) (slot : VaSlot) → 
     → is_load_start (open_start past n) ≡ true
 load_open past page n slot s loading =
     let load : load_slot (open_start past n) page ≡ Some slot =
-    s.places.loads page n ∙ ap (λ y. slot_loading y n) loading ∙ rw (self_eq n) refl in
+    s.places.loads page n ∙ ap (λ y. slot_loading y n) loading ∙ rw (eqb-refl n) refl in
     load_slot_is (open_start past n) page slot load
 
 -- .. and so is one that loads
@@ -93,7 +91,7 @@ pub still : (past : List Entry) (e : Entry) (g : Page) (f : ℕ) → IsSound pas
 still past e g f s can calm at = by_event e.event can calm
   where
     holds : stands (content past f) g ≡ true
-    holds = holds_here past g (Leaving f) f s at (self_eq f)
+    holds = holds_here past g (Leaving f) f s at (eqb-refl f)
 
     absent : Absent ≡ Leaving f → ⊥
     absent h = cc

@@ -21,7 +21,7 @@ use Rattle.sgx_types.specs.declared.names.Page.{Page}
 use Rattle.sgx_rules.specs.Flat.{at_offset}
 use Rattle.sgx_types.specs.Pages.{page_at, same_page}
 use Rattle.sgx_rules.specs.Frames.{added, content, frame_of, least_free}
-use Rattle.sgx_rules.specs.Processors.{Enters, holds_number, is_by, Keeps, Leaves, Move, move_by, Stay, stay, stay_after, stay_from}
+use Rattle.sgx_rules.specs.Processors.{holds_number, is_by, move_by, Stay, stay, stay_after, stay_from}
 use Rattle.sgx_rules.specs.Processors.{translations}
 use Rattle.sgx_rules.specs.Table.{is_lawful_access}
 use Rattle.job_grammar.specs.declared.jobs.Op.{Op}
@@ -29,6 +29,7 @@ use Rattle.job_grammar.specs.Jobs.{JobView}
 use Rattle.script_rules.specs.declared.steps.BuildStep.{BuildStep}
 use Rattle.script_rules.specs.Script.{build_of, built, enter_with, is_seated_at, is_turned_away, leaves_by, replied}
 use Rattle.sgx_types.specs.Pages.{frame_at}
+use Rattle.sgx_types.proofs.Truths.{eqb-refl}
 use Rattle.script_rules.specs.Script.{resume_with, saved_frames, saved_after, script_of, with_frame}
 use Rattle.driver_rules.specs.Ages.{AgeOf, AgeRuleBy, Ahead, ahead, EndsNext, GoesOn, InPass, IsAhead, Looks, TriesNext}
 use Rattle.driver_laws.specs.inner.Driven.{IsDriven}
@@ -50,7 +51,7 @@ use Rattle.driver_rules.specs.Turns.{outside_turn, resumes, save_frame, stay_tur
 use Rattle.driver_laws.proofs.HistoryLaws.{driven_before, driven_sound}
 use Rattle.driver_laws.proofs.OwnLaws.{loaded_own}
 use Rattle.driver_laws.proofs.SoundLaws.{entry_of}
-use Rattle.driver_laws.proofs.ThreeEntryLaws.{three_others}
+use Rattle.driver_laws.proofs.ThreeEntryLaws.{three_others, other_stay}
 use Rattle.driver_laws.proofs.ThreeLaws.{three_first, three_own}
 use Rattle.sgx_rules.specs.declared.entries.AccessOp.TheVariants as accesses
 use Rattle.sgx_rules.specs.declared.entries.Action.TheVariants as actions
@@ -216,9 +217,6 @@ own_done j p (KicksAll (q ∷ qs)) a answer h n = absurd n
 
 -- ---- its own entries
 
-own_is : (p : ℕ) → (p == p) ≡ true
-own_is p = eq-eqb p p refl
-
 -- who was inside or enters now
 own_seat : (j : JobView) (past : List Entry) (p : ℕ) (ev : Event) → NamesOwn j past p
     → ((a : Action) (answer : Answer) → ev ≡ Did a answer → Own j p a) → (s : Stay)
@@ -260,10 +258,10 @@ own_broken j past p _ own i at = own.broken i at
 names_stay : (j : JobView) (past : List Entry) (c : Cpu) (ev : Event) → ScriptRule j past (entry_of (actors.Cpu c) ev) → NamesOwn j past c.0
     → NamesOwn j (entry_of (actors.Cpu c) ev ∷ past) c.0
 names_stay j past c ev script own = record {
-  seat = λ s at. own_seat j past c.0 ev own does s (subst (λ b. stay_after (move_by ev) b past (stay past c.0) ≡ Some s) (own_is c.0) at);
+  seat = λ s at. own_seat j past c.0 ev own does s (subst (λ b. stay_after (move_by ev) b past (stay past c.0) ≡ Some s) (eqb-refl c.0) at);
   broken =
       λ i at. own_broken j past c.0 ev own i (subst
-      (λ b. (if b then interruption_after ev (stay past c.0) (interruption past c.0) else interruption past c.0) ≡ Some i) (own_is c.0) at);
+      (λ b. (if b then interruption_after ev (stay past c.0) (interruption past c.0) else interruption past c.0) ≡ Some i) (eqb-refl c.0) at);
 }
   where
     does : (a : Action) (answer : Answer) → ev ≡ Did a answer → Own j c.0 a
@@ -271,11 +269,6 @@ names_stay j past c ev script own = record {
         own_done j c.0 (cpu_due j past c.0) a answer (named_due j past c.0 own) (subst (IsNext (cpu_due j past c.0)) is script.next.1)
 
 -- ---- entries of others
-
-other_stay : (m : Move) (past : List Entry) (s : Option Stay) → stay_after m false past s ≡ s
-other_stay (Enters seat) past s = refl
-other_stay Leaves past s = refl
-other_stay Keeps past s = refl
 
 names_others : (j : JobView) (past : List Entry) (e : Entry) (p : ℕ) → is_by p e.actor ≡ false → NamesOwn j past p → NamesOwn j (e ∷ past) p
 names_others j past e p other own = record {

@@ -2,7 +2,7 @@
 use Rattle.std.proofs.Common.{◌≡◌, ℕ, ◌+◌, ◌-◌, ◌≤◌, ◌==◌, ◌||◌, ◌&&◌, not, Bool, true, false, if◌then◌else◌, zero, suc}
 use Rattle.std.proofs.Common.{refl, sym, ◌∙◌, ap, subst, List, [], ◌∷◌, ◌++◌, Option, Some, None, is_some, arith}
 use Rattle.std.proofs.Common.{◌⊎◌, inl, inr, ⊎_elim}
-use Rattle.std.proofs.lemmas.Bool.{eq-eqb, false≢true, or_left, or_right}
+use Rattle.std.proofs.lemmas.Bool.{false≢true, or_left, or_right}
 use Rattle.std.proofs.lemmas.List.Folds.{list_any-append}
 use Rattle.sgx_types.proofs.Pages.{same_page-refl, same_pages}
 use Rattle.sgx_rules.specs.declared.entries.Action.{Action}
@@ -16,6 +16,7 @@ use Rattle.sgx_types.specs.declared.names.Frame.{Frame}
 use Rattle.sgx_types.specs.declared.names.Page.{Page}
 use Rattle.sgx_rules.specs.declared.refusals.Refusal.{Refusal}
 use Rattle.sgx_types.specs.Pages.{is_own_page, is_va_page, page_at, same_page}
+use Rattle.sgx_types.proofs.Truths.{eqb-refl}
 use Rattle.sgx_rules.specs.Frames.{Content, content, Free, Holds, IsLoading, IsVa, SecsOf, stands, vas_after, vas_made}
 use Rattle.sgx_rules.specs.Processors.{Enters, is_by, Keeps, Leaves, Move, move_by, Stay, stay, stay_after, stay_from}
 use Rattle.job_grammar.specs.declared.jobs.Op.{Op}
@@ -177,14 +178,15 @@ three_held j past p h interrupted apart = record {
 
 -- ---- an entry of another actor
 
-other_stay : (m : Move) (past : List Entry) (s : Option Stay) → stay_after m false past s ≡ s
+pub other_stay : (m : Move) (past : List Entry) (s : Option Stay) → stay_after m false past s ≡ s
 other_stay (Enters seat) past s = refl
 other_stay Leaves past s = refl
 other_stay Keeps past s = refl
 
 -- another actor's entry that leaves the count of the TCS page leaves the three
 pub three_others : (j : JobView) (past : List Entry) (e : Entry) (p : ℕ) → is_by p e.actor ≡ false
-    → ((g : Page) → tcs_of j past p ≡ Some g → saved_frames (e ∷ past) g ≡ saved_frames past g) → HoldsThree j past p → HoldsThree j (e ∷ past) p
+    → ((g : Page) → tcs_of j past p ≡ Some g → saved_frames (e ∷ past) g ≡ saved_frames past g)
+    → HoldsThree j past p → HoldsThree j (e ∷ past) p
 three_others j past e p other counted h =
     three_held j (e ∷ past) p
     (subst (λ pages. AreHeld (e ∷ past) pages (three j (e ∷ past) p)) (sym held)
@@ -208,9 +210,6 @@ three_others j past e p other counted h =
     same = rw (stays, same_break, next) (three_same j past (e ∷ past) (stay past p) (interruption past p) (next_op j past p) counted)
 
 -- ---- an entry of its own
-
-own_is : (p : ℕ) → (p == p) ≡ true
-own_is p = eq-eqb p p refl
 
 abbrev pub own_past : List Entry → Cpu → Event → List Entry
 own_past past c ev = entry_of (actors.Cpu c) ev ∷ past
@@ -239,8 +238,8 @@ apart_step past _ s i h k = h k
 own_apart : (j : JobView) (past : List Entry) (c : Cpu) (ev : Event) → HoldsThree j past c.0
     → is_some (stay (own_past past c ev) c.0) ≡ true → interruption (own_past past c ev) c.0 ≡ None
 own_apart j past c ev h k =
-    rw (own_is c.0) (apart_step past ev (stay past c.0) (interruption past c.0) h.apart
-    (subst (λ b. is_some (stay_after (move_by ev) b past (stay past c.0)) ≡ true) (own_is c.0) k))
+    rw (eqb-refl c.0) (apart_step past ev (stay past c.0) (interruption past c.0) h.apart
+    (subst (λ b. is_some (stay_after (move_by ev) b past (stay past c.0)) ≡ true) (eqb-refl c.0) k))
 
 -- behind a reply it holds nothing
 pub own_reply : (j : JobView) (past : List Entry) (c : Cpu) (ev : Event) → HoldsThree j past c.0
@@ -248,11 +247,11 @@ pub own_reply : (j : JobView) (past : List Entry) (c : Cpu) (ev : Event) → Hol
 own_reply j past c ev h k =
     three_held j (own_past past c ev) c.0
     (λ g among. absurd (false≢true (subst (λ pages. is_among pages g ≡ true) dropped among)))
-    (rw (own_is c.0) (reply_step (is_interrupted past c.0) ev (stay past c.0) (interruption past c.0) h.interrupted k))
+    (rw (eqb-refl c.0) (reply_step (is_interrupted past c.0) ev (stay past c.0) (interruption past c.0) h.interrupted k))
     (own_apart j past c ev h)
   where
     dropped : holds j (own_past past c ev) c.0 ≡ []
-    dropped = rw (own_is c.0, k) refl
+    dropped = rw (eqb-refl c.0, k) refl
 
 -- else it holds what it held, and what it begins to hold
 own_more : (j : JobView) (past : List Entry) (c : Cpu) (ev : Event) → HoldsThree j past c.0 → is_reply (is_interrupted past c.0) ev ≡ false
@@ -266,14 +265,14 @@ own_more j past c ev h k keeps new broken =
     (held_append (own_past past c ev) (holds j past c.0) (holds_by j past c.0 (action_of ev)) (three j (own_past past c ev) c.0)
     (held_on past (entry_of (actors.Cpu c) ev) (holds j past c.0) (three j past c.0) (three j (own_past past c ev) c.0) keeps
     (held_three j past c.0 h)) new))
-    (rw (own_is c.0) broken) (own_apart j past c ev h)
+    (rw (eqb-refl c.0) broken) (own_apart j past c ev h)
   where
     longer : holds j (own_past past c ev) c.0 ≡ holds j past c.0 ++ holds_by j past c.0 (action_of ev)
-    longer = rw (own_is c.0, k) refl
+    longer = rw (eqb-refl c.0, k) refl
 
 own_next : (j : JobView) (past : List Entry) (c : Cpu) (ev : Event) → is_reply (is_interrupted past c.0) ev ≡ false
     → next_op j (own_past past c ev) c.0 ≡ next_op j past c.0
-own_next j past c ev k = rw (own_is c.0, k) refl
+own_next j past c ev k = rw (eqb-refl c.0, k) refl
 
 -- an entry that moves no processor and counts nothing
 pub record IsStill (ev : Event) : Type 0 where
@@ -292,7 +291,7 @@ three_still j past c ev still k =
     stays = ap (λ m. stay_after m (c.0 == c.0) past (stay past c.0)) still.moves
 
     breaks : interruption (own_past past c ev) c.0 ≡ interruption past c.0
-    breaks = rw (own_is c.0) (still.breaks (stay past c.0) (interruption past c.0))
+    breaks = rw (eqb-refl c.0) (still.breaks (stay past c.0) (interruption past c.0))
 
 pub own_still : (j : JobView) (past : List Entry) (c : Cpu) (ev : Event) → IsStill ev → HoldsThree j past c.0
     → is_reply (is_interrupted past c.0) ev ≡ false → AreHeld past (holds_by j past c.0 (action_of ev)) (three j past c.0)
@@ -322,14 +321,14 @@ three_left j past c cause answer s for_page system k inside =
   where
     broken : interruption (own_past past c (left cause answer)) c.0 ≡ Some
         (record { enclave = s.seat.enclave; tcs = s.seat.tcs; for_page = for_page })
-    broken = rw (own_is c.0, system (stay past c.0), inside) refl
+    broken = rw (eqb-refl c.0, system (stay past c.0), inside) refl
 
     counted : saved_frames (own_past past c (left cause answer)) (page_at s.seat.enclave s.seat.tcs) ≡ saved_frames past
         (page_at s.seat.enclave s.seat.tcs) + 1
     counted = rw (inside, same_page-refl (page_at s.seat.enclave s.seat.tcs)) refl
 
     outside : stay (own_past past c (left cause answer)) c.0 ≡ None
-    outside = rw (own_is c.0) refl
+    outside = rw (eqb-refl c.0) refl
 
     by_op : (o : Option Op)
         → three_by j (own_past past c (left cause answer)) None (Some
@@ -452,12 +451,13 @@ own_resume j past c i tf sf answer op h outside broken next used =
         (is_among (three j past c.0) g ≡ true) among
         (λ k. subst (λ y. is_among (three j past c.0) y ≡ true) (same_pages (page_at i.enclave i.tcs) g k) tcs_in) (used g)
 
-    counted : saved_frames (own_past past c (resumed i tf sf answer)) (page_at i.enclave i.tcs) ≡ saved_frames past (page_at i.enclave i.tcs) - 1
+    counted : saved_frames (own_past past c (resumed i tf sf answer)) (page_at i.enclave i.tcs)
+        ≡ saved_frames past (page_at i.enclave i.tcs) - 1
     counted = rw (same_page-refl (page_at i.enclave i.tcs)) refl
 
     inside : stay (own_past past c (resumed i tf sf answer)) c.0 ≡ Some
         (stay_from past (record { enclave = i.enclave; tcs = i.tcs; tcs_frame = tf.0; ssa_frame = sf.0 }))
-    inside = rw (own_is c.0) refl
+    inside = rw (eqb-refl c.0) refl
 
     behind : three j (own_past past c (resumed i tf sf answer)) c.0 ≡ pages_by j i.enclave i.tcs
         (saved_frames past (page_at i.enclave i.tcs) - 1 + 1) op
@@ -465,5 +465,6 @@ own_resume j past c i tf sf answer op h outside broken next used =
 
     longer : AreAmong (three j past c.0) (three j (own_past past c (resumed i tf sf answer)) c.0)
     longer g among =
-        subst (λ pages. is_among pages g ≡ true) (sym behind) (pages_less j i.enclave i.tcs (saved_frames past (page_at i.enclave i.tcs)) op g
+        subst (λ pages. is_among pages g ≡ true) (sym behind)
+        (pages_less j i.enclave i.tcs (saved_frames past (page_at i.enclave i.tcs)) op g
         (subst (λ pages. is_among pages g ≡ true) now among))

@@ -39,9 +39,10 @@ use Rattle.driver_rules.specs.Targets.{slot_here, target_by}
 use Rattle.driver_rules.specs.Turns.{accesses_by, cpu_due, due_after, early_turn, enters, Fails, fetch, fetch_by, fetches, fills}
 use Rattle.driver_rules.specs.Turns.{first_away, inside_turn, is_built, is_kicked, is_last, Last, last_of, Loads, op_turn, Other}
 use Rattle.driver_rules.specs.Turns.{outside_turn, resumes, save_frame, stay_turn, turn_due, WasEnded, with_pages}
+use Rattle.driver_rules.proofs.ReclaimLaws.{other_secs}
 use Rattle.driver_laws.proofs.OwnLaws.{loaded_own}
 use Rattle.driver_laws.proofs.PlaceLaws.{stands_there}
-use Rattle.driver_laws.proofs.SoundLaws.{entry_of, not_own_secs}
+use Rattle.driver_laws.proofs.SoundLaws.{entry_of}
 use Rattle.driver_laws.proofs.ThreeEntryLaws.{access_in, all_append, all_refl, among_held, AreHeld, away_among, Held, held_append, IsStill}
 use Rattle.driver_laws.proofs.ThreeEntryLaws.{listed_in, more_among, none_among, none_held, or_true, own_end, own_fault, own_kick}
 use Rattle.driver_laws.proofs.ThreeEntryLaws.{own_past, own_reply, own_resume, own_still, page_in_among, refused_still, three_held}
@@ -173,7 +174,7 @@ target_needed past g slot pages there =
     by_tests false b c own = there
     by_tests true true true own = there
     by_tests true true false own = absurd (false≢true own)
-    by_tests true false c own = absurd (false≢true (sym (not_own_secs g.enclave) ∙ own))
+    by_tests true false c own = absurd (false≢true (sym (other_secs g.enclave) ∙ own))
 
 -- pages that are needed before another one are needed
 here_among : (past : List Entry) (pages : List Page) → AreAmong (those_here past pages) pages

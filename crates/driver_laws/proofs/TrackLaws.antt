@@ -1,8 +1,8 @@
 -- Tracks, blocks and stays, one entry longer.
 use Rattle.std.proofs.Common.{◌≡◌, ℕ, ◌+◌, ◌<◌, ◌≤◌, ◌==◌, ◌&&◌, ◌||◌, not, Bool, true, false}
-use Rattle.std.proofs.Common.{if◌then◌else◌, refl, sym, ◌∙◌, ap, subst, List, [], ◌∷◌, Option, Some, None}
+use Rattle.std.proofs.Common.{if◌then◌else◌, refl, sym, ◌∙◌, ap, List, [], ◌∷◌, Option, Some, None}
 use Rattle.std.proofs.Common.{length, nat_lt, is_some, arith}
-use Rattle.std.proofs.lemmas.Bool.{eqb-true, eq-eqb, false≢true}
+use Rattle.std.proofs.lemmas.Bool.{eqb-true, eq-eqb, false≢true, and_right}
 use Rattle.sgx_types.proofs.Pages.{same_pages}
 use Rattle.sgx_types.proofs.Truths.{both_true}
 use Rattle.sgx_rules.specs.declared.entries.Action.TheVariants.{Add, Block, Create, Eld, EldStart, Epa, Ewb}
@@ -19,16 +19,17 @@ use Rattle.sgx_types.specs.Counts.{earlier_or}
 use Rattle.sgx_rules.specs.Frames.{Content, content, Free, Holds, is_block, is_blocked, is_page, is_put, IsLoading, IsVa, made_before}
 use Rattle.sgx_rules.specs.Frames.{put_by, SecsOf, stands}
 use Rattle.sgx_types.specs.Pages.{is_own_page, same_page, secs_page, va_page}
-use Rattle.sgx_rules.specs.Starts.{open_start}
 use Rattle.sgx_rules.specs.Processors.{Enters, is_by, Keeps, Leaves, Move, move_by, Stay, stay, stay_after}
 use Rattle.sgx_rules.proofs.Contents.{page_enclave}
 use Rattle.sgx_types.proofs.CountLaws.{count_below-none, count_below-zero}
 use Rattle.driver_laws.specs.inner.Kinds.{CanMove}
 use Rattle.driver_rules.specs.Places.{Absent, after_look, Away, back_from, Leaving, Loading, Place, place}
-use Rattle.driver_laws.specs.inner.Sound.{IsSound, load_slot, slot_loading, stands_in}
+use Rattle.driver_rules.proofs.ReclaimLaws.{other_secs}
+use Rattle.driver_laws.specs.inner.Sound.{IsSound, stands_in}
 use Rattle.driver_laws.specs.inner.Tracks.{IsCalm, IsTracked, IsWaiting, moves_from}
-use Rattle.driver_laws.proofs.SoundLaws.{entry_of, not_own_secs}
-use Rattle.driver_laws.proofs.PlaceLaws.{load_slot_is, loads_no_page, of_same}
+use Rattle.driver_laws.proofs.SoundLaws.{entry_of}
+use Rattle.driver_laws.proofs.PlaceLaws.{of_same}
+use Rattle.driver_laws.proofs.StillLaws.{free_apart, load_apart}
 use Rattle.sgx_rules.specs.declared.entries.Look.TheVariants as looks
 
 -- ---- places of tracks and blocks
@@ -110,12 +111,8 @@ calm_kept past e n none calm p low = rw (last_kept past e n none) (by_move (move
     fresh None is = refl
     fresh (Some k) is = let under = last_low past n k is in grind arith
 
-    either : (b c : Bool) → c ≡ false → (b && c) ≡ false
-    either true c h = h
-    either false c h = refl
-
     by_move : (m : Move) (own : Bool) → is_in_before n (last_track past n) (stay_after m own past (stay past p)) ≡ false
-    by_move (Enters seat) true = either (seat.enclave == n) (is_before (last_track past n) (length past)) (fresh (last_track past n) refl)
+    by_move (Enters seat) true = and_right (seat.enclave == n) (is_before (last_track past n) (length past)) (fresh (last_track past n) refl)
     by_move (Enters seat) false = calm p low
     by_move Leaves true = refl
     by_move Leaves false = calm p low
@@ -134,30 +131,7 @@ own_holds Free g h own = absurd (false≢true h)
 own_holds (IsLoading page) g h own = absurd (false≢true h)
 own_holds (IsVa n) g h own = absurd (false≢true (ap is_own_page (same_pages (va_page n) g h) ∙ own))
 own_holds (SecsOf e) g h own =
-    absurd (false≢true (sym (not_own_secs e) ∙ ap is_own_page (same_pages (secs_page e) g h) ∙ own))
-
--- a frame that is free is another
-free_apart : (past : List Entry) (g : Page) (f n : ℕ) → stands (content past f) g ≡ true → content past n ≡ Free → (n == f) ≡ false
-free_apart past g f n holds free = by_test (n == f) refl
-  where
-    by_test : (b : Bool) → (n == f) ≡ b → (n == f) ≡ false
-    by_test true is = absurd (false≢true (sym (ap (λ c. stands c g) (subst (λ m. content past m ≡ Free) (eqb-true n f is) free)) ∙ holds))
-    by_test false is = is
-
--- .. and so is one that loads
-load_apart : (past : List Entry) (g page : Page) (f n : ℕ) (slot : VaSlot) → IsSound past → stands (content past f) g ≡ true
-    → place past page ≡ Loading n slot → (n == f) ≡ false
-load_apart past g page f n slot s holds loading = by_test (n == f) refl
-  where
-    load : load_slot (open_start past n) page ≡ Some slot
-    load = s.places.loads page n ∙ ap (λ y. slot_loading y n) loading ∙ rw (eq-eqb n n refl) refl
-
-    none : stands (content past n) g ≡ false
-    none = loads_no_page (content past n) g (sym (s.places.loading n) ∙ load_slot_is (open_start past n) page slot load)
-
-    by_test : (b : Bool) → (n == f) ≡ b → (n == f) ≡ false
-    by_test true is = absurd (false≢true (sym none ∙ subst (λ m. stands (content past m) g ≡ true) (sym (eqb-true n f is)) holds))
-    by_test false is = is
+    absurd (false≢true (sym (other_secs e) ∙ ap is_own_page (same_pages (secs_page e) g h) ∙ own))
 
 -- a page elsewhere is another page
 place_apart : (past : List Entry) (page g : Page) (p : Place) (f : ℕ) → place past page ≡ p → place past g ≡ Leaving f → (p ≡ Leaving f → ⊥)

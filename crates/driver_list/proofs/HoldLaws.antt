@@ -13,11 +13,12 @@ use Rattle.std.proofs.lemmas.List.Sums.{sum_by-cons, sum_by-set, sum_by_push, su
 use Rattle.sgx_types.specs.declared.names.Page.{Page}
 use Rattle.sgx_types.specs.Pages.{same_page}
 use Rattle.sgx_types.proofs.CountLaws.{one_if}
+use Rattle.sgx_types.proofs.Pages.{same_pages, same_page-refl}
 use Rattle.driver_list.specs.inner.Places.{IsPlaced, PageCounts, place_of, total}
 use Rattle.driver_list.specs.inner.Holds.{own_of, holds_page, is_held}
 use Rattle.driver_list.specs.inner.KeptHolds.{IsHolds, pages_in, hold_count}
 use Rattle.driver_list.proofs.PlaceLaws.{same_place, place_within}
-use Rattle.driver_list.proofs.PageLaws.{same_pages, is_same, same_back, pages_cases}
+use Rattle.driver_list.proofs.PageLaws.{same_back, pages_cases}
 
 -- a test of two pages goes either way round
 pub any_swap : (page : Page) (pages : List Page) → list_any (λ q. same_page q page) pages ≡ list_any (same_page page) pages
@@ -98,7 +99,7 @@ held marks counts own holder p n is low room placed now = record {
       count_held own holder p q (omega (arith, is.holders)) in
       ⊎_elim
       (λ same.
-      let one_more : one_if (same_page q p) ≡ 1 = ap (λ r. one_if (same_page r p)) same ∙ ap one_if (is_same p) in
+      let one_more : one_if (same_page q p) ≡ 1 = ap (λ r. one_if (same_page r p)) same ∙ ap one_if (same_page-refl p) in
       ap (λ r. get_or (set marks (place_of counts p) n) (place_of counts r) 0) same
       ∙ get_or-set_same marks (place_of counts p) n 0 (rw is.sized (place_within counts p placed))
       ∙ omega (arith, now, count, one_more, ap (hold_count own) same))
@@ -131,7 +132,7 @@ dropped marks counts own holder rest p n is low splits now = record {
       count_dropped own holder rest p q (omega (arith, is.holders)) splits in
       ⊎_elim
       (λ same.
-      let one_less : one_if (same_page q p) ≡ 1 = ap (λ r. one_if (same_page r p)) same ∙ ap one_if (is_same p) in
+      let one_less : one_if (same_page q p) ≡ 1 = ap (λ r. one_if (same_page r p)) same ∙ ap one_if (same_page-refl p) in
       ap (λ r. get_or (set marks (place_of counts p) n) (place_of counts r) 0) same
       ∙ get_or-set_same marks (place_of counts p) n 0 (rw is.sized (place_within counts p (last_placed p splits)))
       ∙ omega (arith, now, count, one_less, ap (hold_count own) same))
@@ -147,20 +148,20 @@ dropped marks counts own holder rest p n is low splits now = record {
     last_placed p splits =
         is.placed holder p
         (ap (list_any (same_page p)) splits ∙ any_push p p rest
-        ∙ or_right (list_any (same_page p) rest) (same_page p p || false) (or_left (same_page p p) false (is_same p)))
+        ∙ or_right (list_any (same_page p) rest) (same_page p p || false) (or_left (same_page p p) false (same_page-refl p)))
 
 pub last_placed : (marks : List ℕ) (counts : PageCounts) (own : List (List Page)) (holder : ℕ) (rest : List Page) (p : Page)
     → IsHolds marks counts own → own_of own holder ≡ rest ++ p ∷ [] → IsPlaced counts p
 last_placed marks counts own holder rest p is splits =
     is.placed holder p
     (ap (list_any (same_page p)) splits ∙ any_push p p rest ∙ or_right (list_any (same_page p) rest) (same_page p p || false)
-    (or_left (same_page p p) false (is_same p)))
+    (or_left (same_page p p) false (same_page-refl p)))
 
 -- the last page that an actor holds has a hold
 pub last_counts : (marks : List ℕ) (counts : PageCounts) (own : List (List Page)) (holder : ℕ) (rest : List Page) (p : Page)
     → IsHolds marks counts own → holder < 17 → own_of own holder ≡ rest ++ p ∷ [] → 1 ≤ hold_count own p
 last_counts marks counts own holder rest p is low splits =
-    omega (arith, count_dropped own holder rest p p (omega (arith, is.holders)) splits, ap one_if (is_same p))
+    omega (arith, count_dropped own holder rest p p (omega (arith, is.holders)) splits, ap one_if (same_page-refl p))
 
 none_held : (n : ℕ) (q : Page) → hold_count (replicate n []) q ≡ 0
 none_held zero q = refl

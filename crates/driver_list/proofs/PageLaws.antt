@@ -3,7 +3,7 @@ use Rattle.std.proofs.Common.{◌≡◌, ◌≢◌, ◌⊎◌, inl, inr, Bool, �
 use Rattle.std.proofs.Common.{◌∷◌, ◌++◌, map, refl, sym, ap, ◌∙◌, ⊎_elim}
 use Rattle.std.specs.Cmp.{IsEquivalence}
 use Rattle.std.specs.List.{list_any, IsDistinct, AllByRecursion}
-use Rattle.std.proofs.lemmas.Bool.{and_parts, and_from, or_from, or_left, or_right, or_cases, eqb-true, eq-eqb, false≢true}
+use Rattle.std.proofs.lemmas.Bool.{or_from, or_left, or_right, or_cases, false≢true}
 use Rattle.std.proofs.lemmas.Bool.{false_from_ne_true, cond_both, cond-false}
 use Rattle.std.proofs.lemmas.Cmp.{nat_eq_equiv}
 use Rattle.std.proofs.lemmas.List.{map-append}
@@ -11,24 +11,17 @@ use Rattle.std.proofs.lemmas.List.Folds.{list_any-append}
 use Rattle.std.proofs.lemmas.Map.Keys.{IsDistinct-push, IsDistinct-head, IsDistinct-tail}
 use Rattle.sgx_types.specs.declared.names.Page.{Page}
 use Rattle.sgx_types.specs.Pages.{same_page}
+use Rattle.sgx_types.proofs.Pages.{same_pages, same_page-refl}
 use Rattle.driver_list.specs.declared.ring.Listed.{Listed}
 use Rattle.driver_list.specs.inner.Ring.{pages_of, is_listed}
 use Rattle.driver_list.specs.inner.Listing.{touched}
-
-pub same_pages : (a b : Page) → same_page a b ≡ true → a ≡ b
-same_pages a b h =
-    let both = and_parts (a.enclave == b.enclave) (a.number == b.number) h in
-    (λ i. record { enclave = eqb-true a.enclave b.enclave both.0 i; number = eqb-true a.number b.number both.1 i })
-
-pub is_same : (a : Page) → same_page a a ≡ true
-is_same a = and_from (a.enclave == a.enclave) (a.number == a.number) (eq-eqb _ _ refl) (eq-eqb _ _ refl)
 
 pub pages_cases : (p q : Page) → (p ≡ q) ⊎ (p ≢ q)
 pages_cases p q = by_test (same_page p q) refl
   where
     by_test : (b : Bool) → same_page p q ≡ b → (p ≡ q) ⊎ (p ≢ q)
     by_test true e = inl (same_pages p q e)
-    by_test false e = inr (λ same. false≢true (sym e ∙ ap (same_page p) (sym same) ∙ is_same p))
+    by_test false e = inr (λ same. false≢true (sym e ∙ ap (same_page p) (sym same) ∙ same_page-refl p))
 
 pub same_back : (a b : Page) → same_page a b ≡ same_page b a
 same_back a b =
@@ -37,7 +30,7 @@ same_back a b =
 
 pub page_laws : IsEquivalence same_page
 page_laws = record {
-  refl = is_same;
+  refl = same_page-refl;
   symm = same_back;
   congr = λ x y z h. ap (λ w. same_page w z) (same_pages x y h);
 }
@@ -50,7 +43,7 @@ listed_push xs y q = ap (list_any (same_page q)) (map-append (λ (x : Listed). x
 
 pub listed_last : (xs : List Listed) (y : Listed) → is_listed (xs ++ y ∷ []) y.page ≡ true
 listed_last xs y = listed_push xs y y.page ∙ or_right (is_listed xs y.page) (same_page y.page y.page || false)
-    (or_left (same_page y.page y.page) false (is_same y.page))
+    (or_left (same_page y.page y.page) false (same_page-refl y.page))
 
 pub listed_before : (xs : List Listed) (y : Listed) (q : Page) → is_listed xs q ≡ true → is_listed (xs ++ y ∷ []) q ≡ true
 listed_before xs y q h = listed_push xs y q ∙ or_left (is_listed xs q) (same_page q y.page || false) h

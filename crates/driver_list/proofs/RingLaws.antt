@@ -12,13 +12,14 @@ use Rattle.slab.proofs.SlabLemmas.{ContainsKey-within, Updates-with_value}
 use Rattle.slab.specs.Slab.{Slab, get, slab_len, Updates, ContainsKey, with_value}
 use Rattle.sgx_types.specs.declared.names.Page.{Page}
 use Rattle.sgx_types.specs.Pages.{same_page}
+use Rattle.sgx_types.proofs.Pages.{same_pages, same_page-refl}
 use Rattle.driver_list.specs.declared.ring.Listed.{Listed}
 use Rattle.driver_list.specs.declared.ring.Node.{Node}
 use Rattle.driver_list.specs.inner.Ring.{pages_of, is_listed, listed_at, IsPath, IsClosed, IsRing, after, walk, from_next}
 use Rattle.driver_list.specs.inner.Ring.{around, Appends}
 use Rattle.driver_list.specs.inner.Ring.{CanDetach, Detaches, marked, Marks}
 use Rattle.driver_list.specs.inner.Listing.{is_young, touched}
-use Rattle.driver_list.proofs.PageLaws.{same_pages, is_same, distinct_push, head_apart, others_distinct, last_apart, listed_last}
+use Rattle.driver_list.proofs.PageLaws.{distinct_push, head_apart, others_distinct, last_apart, listed_last}
 use Rattle.driver_list.proofs.PageLaws.{listed_before, none_distinct, touched_pages}
 
 abbrev pub node_of : Listed → ℕ → Node
@@ -34,7 +35,7 @@ pub path_kept : (old new : Slab Node) (at : ℕ) (xs : List Listed) (to : ℕ)
 path_kept old new at [] to keeps path = path
 path_kept old new at (x ∷ xs) to keeps path = (
   path.0,
-  keeps at (node_of x path.0) path.1 (or_left (same_page x.page x.page) (is_listed xs x.page) (is_same x.page)),
+  keeps at (node_of x path.0) path.1 (or_left (same_page x.page x.page) (is_listed xs x.page) (same_page-refl x.page)),
   path_kept old new path.0 xs to
       (λ key node at' among. keeps key node at' (or_right (same_page node.listed.page x.page) (is_listed xs node.listed.page) among))
       path.2,
@@ -358,7 +359,7 @@ touched_node old new key page only marks k x next at =
     (λ other.
     marks.others k (λ is.
     let same : x ≡ only.listed = same_Some x only.listed (sym here ∙ ap (listed_at old) is ∙ only.here) in
-    false≢true (sym other ∙ ap (same_page page) (ap (λ (l : Listed). l.page) same ∙ only.same) ∙ is_same page))
+    false≢true (sym other ∙ ap (same_page page) (ap (λ (l : Listed). l.page) same ∙ only.same) ∙ same_page-refl page))
     ∙ at)
 
 touched_path : (old new : Slab Node) (key : ℕ) (page : Page) → IsOnly old key page → Marks old key true new

@@ -4,12 +4,13 @@ use Rattle.std.proofs.lemmas.Bool.{cond-true, cond-false, false_from_ne_true}
 use Rattle.std.proofs.lemmas.List.{get_or-set_same, get_or-set_other}
 use Rattle.sgx_types.specs.declared.names.Page.{Page}
 use Rattle.sgx_types.specs.Pages.{same_page}
+use Rattle.sgx_types.proofs.Pages.{same_pages, same_page-refl}
 use Rattle.driver_list.specs.declared.page_states.PageState.{PageState}
 use Rattle.driver_list.specs.declared.page_states.PageState.TheVariants.{Absent}
 use Rattle.driver_list.specs.inner.Places.{IsPlaced, place_of, total}
 use Rattle.driver_list.specs.inner.States.{StateTable, state_of, with_state}
 use Rattle.driver_list.proofs.PlaceLaws.{same_place, place_within}
-use Rattle.driver_list.proofs.PageLaws.{same_pages, is_same, pages_cases}
+use Rattle.driver_list.proofs.PageLaws.{pages_cases}
 
 pub state_of-with_state : (table : StateTable) (page q : Page) (state : PageState) → length table.states ≡ total table.counts
     → IsPlaced table.counts page → IsPlaced table.counts q
@@ -19,7 +20,7 @@ state_of-with_state table page q state sized placed here =
     (λ same.
     ap (state_of (with_state table page state)) same
     ∙ get_or-set_same table.states (place_of table.counts page) state Absent (rw sized (place_within table.counts page placed))
-    ∙ sym (cond-true (same_page q page) state (state_of table q) (ap (λ r. same_page r page) same ∙ is_same page)))
+    ∙ sym (cond-true (same_page q page) state (state_of table q) (ap (λ r. same_page r page) same ∙ same_page-refl page)))
     (λ other.
     get_or-set_other table.states (place_of table.counts page) (place_of table.counts q) state Absent
     (λ same. other (same_place table.counts q page here placed same))

@@ -13,6 +13,7 @@ use Rattle.std.proofs.lemmas.Option.{same_Some, none-some}
 use Rattle.slab.specs.Slab.{Slab, get, slab_len}
 use Rattle.sgx_types.specs.declared.names.Page.{Page}
 use Rattle.sgx_types.specs.Pages.{same_page}
+use Rattle.sgx_types.proofs.Pages.{same_pages}
 use Rattle.driver_list.specs.declared.ring.Listed.{Listed}
 use Rattle.driver_list.specs.declared.ring.Node.{Node}
 use Rattle.driver_list.specs.inner.Places.{IsPlaced, PageCounts, place_of, total}
@@ -20,7 +21,7 @@ use Rattle.driver_list.specs.inner.Ring.{is_listed, listed_at, IsRing, around, A
 use Rattle.driver_list.specs.inner.Listing.{IsListing, is_young, turn, touched}
 use Rattle.driver_list.specs.inner.KeptList.{key_of, IsIndexed, IsTable, IsWhole}
 use Rattle.driver_list.proofs.PlaceLaws.{same_place, place_within}
-use Rattle.driver_list.proofs.PageLaws.{same_pages, listed_last, listed_before, listed_behind, head_apart, none_distinct}
+use Rattle.driver_list.proofs.PageLaws.{listed_last, listed_before, listed_behind, head_apart, none_distinct}
 use Rattle.driver_list.proofs.PageLaws.{touched_pages}
 use Rattle.driver_list.proofs.PageLaws.{untouched, pages_cases}
 use Rattle.driver_list.proofs.RingLaws.{node_of, listed_from, closed_path, around_is, turned_ring, IsOnly, touched_ring}

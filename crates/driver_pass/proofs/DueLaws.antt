@@ -1,7 +1,7 @@
 -- What is due besides a pass is by tables and machine what it is by the rules.
 use Rattle.std.proofs.Common.{◌≡◌, ℕ, zero, suc, ◌+◌, ◌-◌, ◌<◌, ◌≤◌, ◌==◌, ◌&&◌, ◌||◌, not, nat_le, nat_lt, Bool, true, false}
 use Rattle.std.proofs.Common.{if◌then◌else◌, refl, sym, ◌∙◌, ap, subst, List, [], ◌∷◌, Option, Some, None, length, ⊎_elim, arith}
-use Rattle.std.proofs.lemmas.Bool.{cases_lt, eq-eqb, eqb-true, false≢true, ltb-true}
+use Rattle.std.proofs.lemmas.Bool.{cases_lt, eq-eqb, eqb-true, false≢true, ltb-true, or_right, not-true}
 use Rattle.sgx_types.proofs.CountLaws.{any_below-agrees, any_below-found, any_below-some}
 use Rattle.sgx_types.proofs.Pages.{same_pages}
 use Rattle.sgx_types.proofs.Truths.{both_true}
@@ -78,20 +78,12 @@ same_tests true c to from = sym (to refl)
 same_tests false true to from = from refl
 same_tests false false to from = refl
 
-or_true : (b c : Bool) → c ≡ true → (b || c) ≡ true
-or_true true c h = refl
-or_true false c h = h
-
 or_none : (b c : Bool) → c ≡ false → (b || c) ≡ b
 or_none true c h = refl
 or_none false c h = h
 
 positive : (n : ℕ) → 1 ≤ n → (n == 0) ≡ false
 positive n low = grind (arith, low)
-
-not_back : (b : Bool) → not b ≡ true → b ≡ false
-not_back true h = absurd (false≢true h)
-not_back false h = refl
 
 -- tests that agree below a number find the same there
 any_same : (p q : ℕ → Bool) (n : ℕ) → ((i : ℕ) → i < n → p i ≡ q i) → any_below p n ≡ any_below q n
@@ -121,7 +113,7 @@ ready_initialised (x ∷ past) e h = by_event x.event h (ready_initialised past 
             → is_ready (enclave_sight_of (created_by (Did (actions.Init enclave expect) answer) e (created past e))) ≡ true
             → ((enclave == e) || is_initialised past e) ≡ true
         by_test true same is = rw (eq-eqb enclave e (sym (eqb-true e enclave same))) refl
-        by_test false same is = or_true (enclave == e) (is_initialised past e) (before (rw same at is))
+        by_test false same is = or_right (enclave == e) (is_initialised past e) (before (rw same at is))
     by_event _ ready before = before ready
 
 -- ---- a version array page in its frame
@@ -163,7 +155,7 @@ module _ (k : Keeping) (made : Making) (j : JobView) (past : List Entry) (d : Dr
   made_few : vas_made past ≤ d.va_pages
   made_few = ⊎_elim
       (λ beyond.
-      let there : is_absent (place past (va_page d.va_pages)) ≡ false = not_back (is_absent (place past (va_page d.va_pages)))
+      let there : is_absent (place past (va_page d.va_pages)) ≡ false = not-true (is_absent (place past (va_page d.va_pages)))
       (sym (array_made d.va_pages) ∙ lower d.va_pages (vas_made past) beyond) in
       let placed : IsPlaced d.states.counts (va_page d.va_pages) = a.shows.placed (va_page d.va_pages) there in
       let low : d.va_pages < d.states.counts.arrays = placed.array refl in

@@ -1,5 +1,5 @@
 -- The pages of a pass that have not gone out stay in their frames, and the epoch that a refusal told stays the enclave's.
-use Rattle.std.proofs.Common.{◌≡◌, ℕ, ◌||◌, ◌+◌, Bool, true, false, if◌then◌else◌, refl, sym, ◌∙◌, ap, List, []}
+use Rattle.std.proofs.Common.{◌≡◌, ℕ, ◌+◌, Bool, true, false, if◌then◌else◌, refl, sym, ◌∙◌, ap, List, []}
 use Rattle.std.proofs.Common.{◌∷◌, drop}
 use Rattle.std.proofs.lemmas.Bool.{eq-eqb, false≢true}
 use Rattle.sgx_types.proofs.Pages.{same_page-swap, same_pages}
@@ -12,6 +12,7 @@ use Rattle.sgx_types.specs.declared.names.Frame.{Frame}
 use Rattle.sgx_types.specs.declared.names.Page.{Page}
 use Rattle.sgx_rules.specs.Epochs.{epoch, is_track}
 use Rattle.sgx_types.specs.Pages.{is_own_page, same_page}
+use Rattle.sgx_types.proofs.Truths.{neither}
 use Rattle.driver_rules.specs.Holds.{is_among}
 use Rattle.driver_rules.specs.Passes as passes
 use Rattle.driver_rules.specs.Passes.{Pass}
@@ -77,10 +78,6 @@ frames_behind past f answer g (t ∷ ts) s can at apart h = (
       (same_page-swap g t.page ∙ (neither (same_page t.page g) (is_among (pages_in ts) g) apart).0)) h.0).leaving,
   frames_behind past f answer g ts s can at (neither (same_page t.page g) (is_among (pages_in ts) g) apart).1 h.1,
 )
-  where
-    neither : (a b : Bool) → (a || b) ≡ false → (a ≡ false) × (b ≡ false)
-    neither true b k = cc
-    neither false b k = (refl, k)
 
 -- .. of a SECS or a version array page
 pub frames_beside : (past : List Entry) (f : Frame) (answer : Answer) (g : Page) (ts : List Taken) → IsSound past

@@ -2,6 +2,7 @@
 use Rattle.std.proofs.Common.{◌≡◌, ℕ, ◌==◌, ◌&&◌, ◌||◌, not, Bool, true, false, if◌then◌else◌, refl, sym, ◌∙◌, ap, subst}
 use Rattle.std.proofs.Common.{List, [], ◌∷◌, Option, Some, None}
 use Rattle.std.proofs.Common.{slice_get, drop}
+use Rattle.std.proofs.lemmas.Bool.{false_from_ne_true}
 use Rattle.sgx_rules.specs.declared.entries.Action.TheVariants as actions
 use Rattle.sgx_types.specs.declared.names.Actor.{Actor}
 use Rattle.sgx_types.specs.declared.names.Actor.TheVariants as actors
@@ -34,10 +35,11 @@ use Rattle.driver_rules.specs.Places.{Absent, after_look, Away, back_from, comes
 use Rattle.driver_rules.specs.Places.{place}
 use Rattle.driver_rules.specs.Spares.{due_with, Outs}
 use Rattle.driver_rules.specs.Stops.{last_event}
+use Rattle.driver_rules.proofs.ReclaimLaws.{due_is_other}
 use Rattle.driver_laws.proofs.MarkLaws.{head_own}
 use Rattle.driver_laws.proofs.MoveLaws.{place-quiet}
 use Rattle.driver_laws.proofs.SoundLaws.{entry_of}
-use Rattle.driver_laws.proofs.StageLaws.{due_other, OwnPass, pass_own}
+use Rattle.driver_laws.proofs.StageLaws.{OwnPass, pass_own}
 use Rattle.driver_laws.proofs.StillLaws.{still}
 use Rattle.driver_laws.specs.inner.Agrees.{Keeping}
 use Rattle.driver_laws.specs.inner.Kinds.{CanMove}
@@ -235,10 +237,6 @@ touches_none ev n h = refl
 tracks_none : (ev : Event) (n : ℕ) → is_reclaimers ev ≡ false → is_track ev n ≡ false
 tracks_none (Did (actions.Track enclave) answer) n h = cc
 tracks_none ev n h = refl
-
-others_only : (b : Bool) → (b ≡ true → ⊥) → b ≡ false
-others_only true h = absurd (h refl)
-others_only false h = refl
 
 aside_stays : (past : List Entry) (e : Entry) (x : Aside) → IsSound past → CanMove past e.event → ((n : ℕ) → touches e.event n ≡ false)
     → IsAside past x → IsAside (e ∷ past) x
@@ -470,7 +468,7 @@ module _ (k : Keeping) (made : Making) (j : JobView) (past : List Entry) (d : Dr
       subst (λ x. StandsFor made.first_epoch (own ev ∷ past) (gone_on d m ev v)
       (if is_aside x ev then pass j past else passes.pass_by j past ev (pass j past))) (sym s.aside)
       (by_aside v.taken v.kicks v.stage v.behind (record { same = s.same; frames = s.frames; stage = s.stage }) v.aside
-      (due_with j past out) ev (λ g is. due_other j past out (last_event past actors.Reclaimer) g is)
+      (due_with j past out) ev (λ g is. due_is_other j past out (last_event past actors.Reclaimer) g is)
       (subst (λ x. IsAhead j past (ahead_by x (due_with j past out)) ev) s.aside age) tells can s.aside s.leaves)
 
   pub entry_goes : (v : PassView) (out : Outs) (e : Entry) → AgeRuleBy j past out e → TellsEpoch made.first_epoch past e.event
@@ -484,10 +482,10 @@ module _ (k : Keeping) (made : Making) (j : JobView) (past : List Entry) (d : Dr
       by_actor actors.Reclaimer ev ag te ow ca = reclaimer_goes v out ev ag te ca s
       by_actor actors.Builder ev ag te ow ca =
           others_stand made.first_epoch past (entry_of actors.Builder ev) v (pass j past) a.sound ca
-          (others_only (is_reclaimers ev) (λ h. let mine : actors.Builder ≡ actors.Reclaimer = ow h in cc)) refl refl s
+          (false_from_ne_true (is_reclaimers ev) (λ h. let mine : actors.Builder ≡ actors.Reclaimer = ow h in cc)) refl refl s
       by_actor (actors.Cpu p) ev ag te ow ca =
           others_stand made.first_epoch past (entry_of (actors.Cpu p) ev) v (pass j past) a.sound ca
-          (others_only (is_reclaimers ev) (λ h. let mine : actors.Cpu p ≡ actors.Reclaimer = ow h in cc)) refl refl s
+          (false_from_ne_true (is_reclaimers ev) (λ h. let mine : actors.Cpu p ≡ actors.Reclaimer = ow h in cc)) refl refl s
 
 pub first_stands : (first : ℕ) (j : JobView) → StandsAt first j [] new_view
 first_stands first j = record { same = refl; frames = tt; stage = tt; aside = refl; leaves = tt; behind = refl; out = tt }

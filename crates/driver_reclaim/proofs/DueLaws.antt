@@ -5,15 +5,10 @@ use Rattle.std.proofs.lemmas.List.Sums.{sum_by-cons}
 use Rattle.std.specs.List.{list_all}
 use Rattle.sgx_types.specs.Making.{Making}
 use Rattle.sgx_types.specs.Pages.{is_own_page}
-use Rattle.sgx_types.specs.declared.names.Kind.TheVariants as kinds
 use Rattle.sgx_types.specs.declared.names.Page.{Page}
 use Rattle.sgx_rules.specs.declared.entries.Action.TheVariants as actions
 use Rattle.sgx_rules.specs.declared.entries.Entry.{Entry}
-use Rattle.sgx_rules.specs.Frames as frames
 use Rattle.sgx_rules.specs.Frames.{Content, content}
-use Rattle.epcm_entry.specs.declared.entry_view.EntryView.{EntryView}
-use Rattle.epcm_entry.specs.declared.entry_view.EntryView.TheVariants as views
-use Rattle.epcm_entry.specs.inner.EntryView.{is_free}
 use Rattle.epcm_entry.specs.inner.Epc.{EpcFrame, free_frame, is_free_frame}
 use Rattle.epcm_entry.specs.inner.Sights.{held}
 use Rattle.job_grammar.specs.Jobs.{JobView}
@@ -24,6 +19,7 @@ use Rattle.machine_laws.specs.inner.State.{version_at}
 use Rattle.driver_slots.specs.inner.Keeper.{AllOut}
 use Rattle.sgx_machine.proofs.Columns.{get_or-default}
 use Rattle.sgx_machine.specs.inner.Parts.{Parts, state_of}
+use Rattle.sgx_machine.proofs.FreeFrames.{free_held}
 use Rattle.driver_list.specs.inner.Active.{are_held}
 use Rattle.driver_list.specs.inner.Holds.{is_held as is_held_by}
 use Rattle.driver_list.specs.inner.Ring.{pages_of}
@@ -64,14 +60,6 @@ use Rattle.driver_reclaim.proofs.SeenLaws.{columns, frames_are}
 use Rattle.driver_reclaim.proofs.StageLaws.{in_blocks, in_tries, InTries, to_leave, with_page}
 
 -- ---- free frames
-
-free_held : (v : EntryView) → frames.is_free (held v) ≡ is_free v
-free_held views.Free = refl
-free_held (views.Loading page) = refl
-free_held (views.Valid page kinds.Secs perm blocked sealing) = refl
-free_held (views.Valid page kinds.Tcs perm blocked sealing) = refl
-free_held (views.Valid page kinds.Reg perm blocked sealing) = refl
-free_held (views.Valid page kinds.Va perm blocked sealing) = refl
 
 free_counted : (xs : List EpcFrame) (holds : ℕ → Content) (n : ℕ) → ((i : ℕ) (d : EpcFrame) → i < length xs
     → holds (n + i) ≡ held (get_or xs i d).entry) → free_count_from holds n (length xs) ≡ count_by is_free_frame xs

@@ -28,11 +28,11 @@ use Rattle.driver_laws.proofs.AgreeLaws.{found_made}
 use Rattle.driver_laws.proofs.BuiltLaws.{added_has_pages, own_added, vas_moved}
 use Rattle.driver_laws.proofs.MarkLaws.{head_own}
 use Rattle.driver_laws.specs.inner.Sound.{is_absent}
+use Rattle.driver_laws.proofs.DueLaws.{least_passes}
 use Rattle.driver_tables.specs.declared.driver.Driver.{Driver}
 use Rattle.driver_pass.specs.inner.Standing.{behind_of, IsOut}
 use Rattle.driver_pass.specs.inner.Viewed.{PassView}
 use Rattle.driver_reclaim.specs.inner.Ready.{HasFirst, Ready}
-use Rattle.driver_reclaim.proofs.ShownLaws.{least_passes}
 
 pub none_first : HasFirst []
 none_first g is = cc

@@ -43,6 +43,7 @@ use Rattle.driver_rules.specs.Passes.{aside, Between, Blocking, First, Form, is_
 use Rattle.driver_rules.specs.Passes.{Third, ToKick, ToTrack, Tries}
 use Rattle.driver_rules.specs.Places.{Absent, active, Away, frame_leaving, Here, Leaving, Loading, Place, place}
 use Rattle.driver_rules.specs.Spares.{due_with, outs_kept}
+use Rattle.driver_rules.proofs.ReclaimLaws.{aside_kept}
 use Rattle.driver_laws.proofs.EpochLaws.{drained_then}
 use Rattle.driver_laws.proofs.MarkLaws.{head_own}
 use Rattle.driver_laws.proofs.RowLaws.{own_held}
@@ -93,13 +94,6 @@ form_of past (Tries g rest form) event h = by_test (is_aside (aside past) event)
 form_of past (Between works) event h = tt
 form_of past (Scan left taken) event h = tt
 form_of past (Blocking due taken) event h = tt
-
--- an event beside the passes has none
-pub form_beside : (past : List Entry) (p : Pass) (event : Event) → is_aside (aside past) event ≡ true → FormOf past p actors.Reclaimer event
-form_beside past (Tries g rest form) event is = subst (λ b. FormUnless past b g form event) (sym is) tt
-form_beside past (Between works) event is = tt
-form_beside past (Scan left taken) event is = tt
-form_beside past (Blocking due taken) event is = tt
 
 -- ---- an event of a pass
 
@@ -389,7 +383,7 @@ module _ (made : Making) (j : JobView) (past : List Entry) (v v' : PassView) (d 
       by_look : (look : Look) → is_look false false look ≡ true → Keeps made.first_epoch j past (Age page look)
       by_look looks.Taken right = record {
         age = goes (Age page looks.Taken) refl;
-        form = form_beside past (pass j past) (Age page looks.Taken) (beside looks.Taken);
+        form = aside_kept past (pass j past) (Age page looks.Taken) (beside looks.Taken);
         can = (λ own. absurd (false≢true (sym other ∙ own)), λ h. due_leaving made j past v d m r page is);
         tells = tt;
         epoch = tt;
@@ -397,7 +391,7 @@ module _ (made : Making) (j : JobView) (past : List Entry) (v v' : PassView) (d 
       }
       by_look looks.NoRoom right = record {
         age = goes (Age page looks.NoRoom) refl;
-        form = form_beside past (pass j past) (Age page looks.NoRoom) (beside looks.NoRoom);
+        form = aside_kept past (pass j past) (Age page looks.NoRoom) (beside looks.NoRoom);
         can = λ own. absurd (false≢true (sym other ∙ own));
         tells = tt;
         epoch = tt;
@@ -441,7 +435,7 @@ module _ (made : Making) (j : JobView) (past : List Entry) (v v' : PassView) (d 
           (by_reclaimer (Did (EwbStart (frame_at one.frame.0) at) (answers.Version (next_version made.first_version past)))))
       by_spent true = record {
         age = goes (Refused (EwbStart (frame_at one.frame.0) at) why.VersionSpent) t.at;
-        form = form_beside past (pass j past) (Refused (EwbStart (frame_at one.frame.0) at) why.VersionSpent)
+        form = aside_kept past (pass j past) (Refused (EwbStart (frame_at one.frame.0) at) why.VersionSpent)
             (beside (Refused (EwbStart (frame_at one.frame.0) at) why.VersionSpent) refl);
         can = tt;
         tells = tt;
@@ -450,7 +444,7 @@ module _ (made : Making) (j : JobView) (past : List Entry) (v v' : PassView) (d 
       }
       by_spent false = record {
         age = goes (Did (EwbStart (frame_at one.frame.0) at) (answers.Version (next_version made.first_version past))) t.at;
-        form = form_beside past (pass j past)
+        form = aside_kept past (pass j past)
             (Did (EwbStart (frame_at one.frame.0) at) (answers.Version (next_version made.first_version past)))
             (beside (Did (EwbStart (frame_at one.frame.0) at) (answers.Version (next_version made.first_version past))) refl);
         can = (

@@ -30,7 +30,7 @@ use Rattle.driver_rules.specs.Passes.{scan_on}
 use Rattle.driver_rules.specs.Passes.{Sealing, Second, Third, ToKick, ToTrack, Tries}
 use Rattle.driver_rules.specs.Spares.{due_by, due_with, Outs, outs_kept}
 use Rattle.driver_rules.specs.Stops.{is_spent, last_event}
-use Rattle.driver_laws.proofs.StageLaws.{due_other}
+use Rattle.driver_rules.proofs.ReclaimLaws.{due_is_other}
 use Rattle.driver_tables.specs.declared.driver.Driver.{Driver}
 use Rattle.driver_pass.specs.declared.stages.Aside.{Aside as Beside}
 use Rattle.driver_pass.specs.declared.stages.Aside.TheVariants as asides
@@ -264,7 +264,7 @@ quiet_more j past ev NoneAside (Some g) alone is age form before out =
     absurd (by_event ev age out)
   where
     other : is_own_page g ≡ false
-    other = due_other j past (outs_kept j past) (last_event past actors.Reclaimer) g is
+    other = due_is_other j past (outs_kept j past) (last_event past actors.Reclaimer) g is
 
     never : IsOut (pass j past) → ⊥
     never h =

@@ -14,9 +14,9 @@ use Rattle.sgx_machine.specs.inner.Parts.{Parts, state_of}
 use Rattle.driver_rules.specs.Stops.{last_event}
 use Rattle.driver_rules.specs.Passes.{keepers, pass, pass_after}
 use Rattle.driver_rules.specs.Spares.{due_with, outs_kept}
+use Rattle.driver_rules.proofs.ReclaimLaws.{due_is_other}
 use Rattle.driver_laws.proofs.DueLaws.{due_leaves}
 use Rattle.driver_laws.proofs.OutLaws.{keeper_out}
-use Rattle.driver_laws.proofs.StageLaws.{due_other}
 use Rattle.driver_laws.specs.inner.Agrees.{drivers, first_kept}
 use Rattle.driver_laws.specs.inner.Kinds.{CanLeave}
 use Rattle.driver_tables.specs.declared.driver.Driver.{Driver}
@@ -79,7 +79,7 @@ module _ (made : Making) (j : JobView) (past : List Entry) (v : PassView) (d : D
   due_leaving g is = due_leaves j past (outs_kept j past) (last_event past actors.Reclaimer) g (within made j past d m r.agrees) is
 
   pub due_aside : (g : Page) → due_with j past (outs_kept j past) ≡ Some g → is_own_page g ≡ false
-  due_aside g is = due_other j past (outs_kept j past) (last_event past actors.Reclaimer) g is
+  due_aside g is = due_is_other j past (outs_kept j past) (last_event past actors.Reclaimer) g is
 
   pub keepers_are : (next epoch : ℕ) (form : Form) (t : Taken) → v.stage ≡ stages.Tries next form → epoch_told form ≡ Some epoch
       → slice_get v.taken next ≡ Some t → keepers past t.page ≡ keepers_by m t.page.enclave epoch

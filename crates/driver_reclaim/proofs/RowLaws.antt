@@ -2,7 +2,7 @@
 use Rattle.std.proofs.Common.{◌≡◌, ℕ, ◌+◌, ◌-◌, ◌<◌, ◌≤◌, ◌^◌, ◌==◌, ◌&&◌, not, Bool, true, false, if◌then◌else◌, refl, sym, ◌∙◌, ap}
 use Rattle.std.proofs.Common.{subst, List}
 use Rattle.std.proofs.Common.{Option, Some, None, MatchOption, is_some, nat_le, nat_lt, arith, length}
-use Rattle.std.proofs.lemmas.Bool.{eq-eqb, false≢true, leb-true, ltb-true}
+use Rattle.std.proofs.lemmas.Bool.{eq-eqb, false≢true, leb-true, ltb-true, not-true}
 use Rattle.std.proofs.lemmas.Option.{none-some}
 use Rattle.sgx_types.proofs.Pages.{same_page-refl, same_pages, same_slots}
 use Rattle.sgx_types.proofs.Truths.{both_true}
@@ -162,11 +162,7 @@ module _ (made : Making) (j : JobView) (past : List Entry) (d : Driver) (m : Par
 
   -- a version array page that was made has its place, and there are few
   pub array_placed : (va : ℕ) → nat_lt va (vas_made past) ≡ true → IsPlaced d.states.counts (va_page va)
-  array_placed va low = a.shows.placed (va_page va) (told (is_absent (place past (va_page va))) (sym (a.sound.made (va_page va)) ∙ low))
-    where
-      told : (b : Bool) → not b ≡ true → b ≡ false
-      told true h = absurd (false≢true h)
-      told false h = refl
+  array_placed va low = a.shows.placed (va_page va) (not-true (is_absent (place past (va_page va))) (sym (a.sound.made (va_page va)) ∙ low))
 
   pub array_few : (va : ℕ) → IsPlaced d.states.counts (va_page va) → va < 9
   array_few va placed =
@@ -235,7 +231,7 @@ module _ (made : Making) (j : JobView) (past : List Entry) (d : Driver) (m : Par
   -- what a slot of the driver's that is not out is found by
   pub free_at : (slot : VaSlot) (at : SlotAt) → is_ours d.slots slot ≡ true → slot_here_in d slot ≡ Some at
       → IsHereAt past slot at × (at.index < 512)
-  free_at slot at ours told = (here, ltb-true at.index 512 (ap (λ n. nat_lt n 512) here.index ∙ low))
+  free_at slot at ours not-true = (here, ltb-true at.index 512 (ap (λ n. nat_lt n 512) here.index ∙ low))
     where
       made_one : (nat_lt slot.va (vas_made past) ≡ true) × ((nat_le (first_kept j slot.va) slot.index && nat_lt slot.index 512) ≡ true)
       made_one =
@@ -251,7 +247,7 @@ module _ (made : Making) (j : JobView) (past : List Entry) (d : Driver) (m : Par
       here : IsHereAt past slot at
       here =
           here_at past slot at a.sound (array_few slot.va placed)
-          (sym (slot_here_is (drivers j) j d past a.shows slot placed) ∙ told)
+          (sym (slot_here_is (drivers j) j d past a.shows slot placed) ∙ not-true)
 
   abbrev try_said : SlotAt → ℕ → ℕ → ℕ → ℕ → Bool → Bool → Bool → PassTurn
   try_said at f first version next drained empty spent =

@@ -53,6 +53,7 @@ use Rattle.driver_laws.specs.inner.Keeps.{LeavesFull, TakesIf}
 use Rattle.driver_laws.specs.inner.Kinds.{is_quiet}
 use Rattle.driver_laws.specs.inner.Sound.{is_absent}
 use Rattle.driver_laws.specs.inner.Stages.{IsTaken}
+use Rattle.driver_laws.proofs.DueLaws.{least_passes}
 use Rattle.driver_tables.proofs.ListLaws.{heads}
 use Rattle.driver_tables.proofs.ShowLaws.{is_slotless, shows_looked, shows_looked_aside, shows_occupied, shows_quiet_entry, shows_started}
 use Rattle.driver_tables.proofs.ShowLaws.{shows_still, takes_none}
@@ -137,16 +138,6 @@ shows_of j past e (Refused action refusal) d d' k = k
 shows_of j past e ev d d' k = k
 
 -- ---- a version array page that is due
-
--- the least that passes passes
-pub least_passes : (test : ℕ → Bool) (n count va : ℕ) → least_from test n count ≡ Some va → test va ≡ true
-least_passes test n zero va is = cc
-least_passes test n (suc count) va is = by_test (least_passes test (n + 1) count va) (test n) refl is
-  where
-    by_test : (least_from test (n + 1) count ≡ Some va → test va ≡ true) → (b : Bool) → test n ≡ b
-        → (if b then Some n else least_from test (n + 1) count) ≡ Some va → test va ≡ true
-    by_test further true passes h = subst (λ k. test k ≡ true) (same_Some n va h) passes
-    by_test further false passes h = further h
 
 -- each of its slots is out
 due_full : (j : JobView) (past : List Entry) (out : Outs) (o : Option Event) (g : Page) → due_by j past out o ≡ Some g → is_va_page g ≡ true

@@ -32,7 +32,7 @@ drop_get zero (z ∷ zs) x ys h = cc
 drop_get (suc n) [] x ys h = cc
 drop_get (suc n) (z ∷ zs) x ys h = drop_get n zs x ys h
 
-frames_behind : (past : List Entry) (n : ℕ) (xs : List Taken) → AreInFrames past xs → AreInFrames past (drop n xs)
+pub frames_behind : (past : List Entry) (n : ℕ) (xs : List Taken) → AreInFrames past xs → AreInFrames past (drop n xs)
 frames_behind past zero xs h = h
 frames_behind past (suc n) [] h = h
 frames_behind past (suc n) (x ∷ xs) h = frames_behind past n xs h.1

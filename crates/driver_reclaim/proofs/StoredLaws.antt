@@ -29,6 +29,7 @@ use Rattle.driver_rules.specs.Passes as passes
 use Rattle.driver_rules.specs.Passes.{aside, pass, Tries}
 use Rattle.driver_rules.specs.Places.{Away, Leaving}
 use Rattle.driver_rules.specs.Spares.{due_with, outs_kept}
+use Rattle.driver_rules.proofs.ReclaimLaws.{aside_kept}
 use Rattle.driver_laws.proofs.StillLaws.{holds_here}
 use Rattle.driver_laws.specs.inner.Agrees.{drivers}
 use Rattle.driver_laws.specs.inner.Kinds.{CanMove}
@@ -48,7 +49,7 @@ use Rattle.driver_reclaim.specs.inner.Ready.{Ready}
 use Rattle.driver_reclaim.specs.inner.Shown.{ShowsEntry}
 use Rattle.driver_reclaim.specs.inner.Stored.{IsStored, StoredSays}
 use Rattle.driver_reclaim.proofs.PassLaws as tells
-use Rattle.driver_reclaim.proofs.KeptLaws.{form_beside, pass_event, there_page}
+use Rattle.driver_reclaim.proofs.KeptLaws.{pass_event, there_page}
 use Rattle.driver_reclaim.proofs.NextLaws.{IsOut, sealing_alone}
 use Rattle.driver_reclaim.proofs.OpenLaws.{Besides, goes_out, IsGoingOut, IsSealingOf, OfPass, sealing_of}
 use Rattle.driver_reclaim.proofs.PlaceLaws.{ended_room}
@@ -113,7 +114,7 @@ module _ (made : Making) (j : JobView) (past : List Entry) (v : PassView) (d d' 
       subst (λ x. IsNext (ahead_gives j past false (ahead_by x (due_with j past (outs_kept j past)))) event) (sym going) ends,
       record {
         age = subst (λ x. IsAhead j past (ahead_by x (due_with j past (outs_kept j past))) event) (sym going) out.at;
-        form = form_beside past (pass j past) event (ap (λ x. passes.is_aside x event) going);
+        form = aside_kept past (pass j past) event (ap (λ x. passes.is_aside x event) going);
         can = can;
         tells = tt;
         epoch = tt;

@@ -19,6 +19,7 @@ use Rattle.sgx_rules.specs.Slots.{is_slot_busy, next_version, version_at, versio
 use Rattle.sgx_types.specs.Cases.{allowed, first_of_row}
 use Rattle.sgx_rules.specs.Table.{DrainSight, FrameSight, Row, ewbstart_row, is_busy, is_out_of_range, is_own}
 use Rattle.sgx_types.specs.Cases.{when, ◌otherwise◌}
+use Rattle.sgx_types.proofs.Truths.{neither}
 use Rattle.sgx_rules.specs.Table.{is_va, SlotSight, UseSight}
 use Rattle.job_grammar.specs.Jobs.{JobView}
 use Rattle.driver_rules.specs.Ages.{AgeRule, AgeRuleBy, KeptAgeRule}
@@ -127,14 +128,10 @@ none_occupied k j (e ∷ past) rows names = rw (no_event k j past e rows.0 names
 
 -- ---- then the slots that are kept as out are out
 
-parts_none : (b c : Bool) → (b || c) ≡ false → (b ≡ false) × (c ≡ false)
-parts_none true c h = absurd (false≢true (sym h))
-parts_none false c h = (refl, h)
-
 not_occupied : (past : List Entry) (s : VaSlot) → has_occupied past ≡ false → was_occupied past s ≡ false
 not_occupied [] s none = refl
 not_occupied (e ∷ past) s none =
-    let k = parts_none (is_occupied e.event) (has_occupied past) none in
+    let k = neither (is_occupied e.event) (has_occupied past) none in
     by_event e.event k.0 (not_occupied past s k.1)
   where
     by_event : (ev : Event) → is_occupied ev ≡ false → was_occupied past s ≡ false → was_occupied_by past ev s (was_occupied past s) ≡ false
@@ -150,5 +147,5 @@ outs_same j past none = λ i s. outs_at j past none s i
 pub ages_kept : (j : JobView) (past : List Entry) → has_occupied past ≡ false → Along (KeptAgeRule j) past → Along (AgeRule j) past
 ages_kept j [] none ages = tt
 ages_kept j (e ∷ past) none ages =
-    let k = parts_none (is_occupied e.event) (has_occupied past) none in
+    let k = neither (is_occupied e.event) (has_occupied past) none in
     (subst (λ (out : Outs). AgeRuleBy j past out e) (outs_same j past k.1) ages.0, ages_kept j past k.1 ages.1)

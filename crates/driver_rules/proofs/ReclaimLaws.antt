@@ -308,14 +308,14 @@ form_kept past (Scan left taken) ev h = tt
 form_kept past (Blocking todo taken) ev h = tt
 
 -- .. and one that is set aside keeps it
-aside_kept : (past : List Entry) (p : Pass) (ev : Event) → is_aside (aside past) ev ≡ true → FormOf past p actors.Reclaimer ev
+pub aside_kept : (past : List Entry) (p : Pass) (ev : Event) → is_aside (aside past) ev ≡ true → FormOf past p actors.Reclaimer ev
 aside_kept past (Tries g rest form) ev is = rw is tt
 aside_kept past (Between works) ev is = tt
 aside_kept past (Scan left taken) ev is = tt
 aside_kept past (Blocking todo taken) ev is = tt
 
 -- no TCS or REG page is due
-other_secs : (enclave : ℕ) → is_own_page (secs_page enclave) ≡ false
+pub other_secs : (enclave : ℕ) → is_own_page (secs_page enclave) ≡ false
 other_secs enclave = by_test (enclave == 0)
   where
     by_test : (b : Bool) → (not b && false) ≡ false

@@ -1,7 +1,7 @@
 -- Instructions that the test finds the same are equal, and the other way round.
 use Rattle.std.proofs.Common.{◌≡◌, ℕ, ◌==◌, ◌&&◌, Bool, true, false, refl, sym, ap, List, [], ◌∷◌, Option, Some, None}
-use Rattle.std.proofs.lemmas.Bool.{eqb-true, eq-eqb, false≢true}
-use Rattle.sgx_types.proofs.Truths.{both_true}
+use Rattle.std.proofs.lemmas.Bool.{eqb-true, false≢true}
+use Rattle.sgx_types.proofs.Truths.{both_true, eqb-refl}
 use Rattle.sgx_types.proofs.Pages.{same_pages, same_places}
 use Rattle.sgx_rules.specs.declared.entries.AccessOp.{AccessOp}
 use Rattle.sgx_rules.specs.declared.entries.AccessOp.TheVariants as accesses
@@ -28,9 +28,6 @@ use Rattle.driver_rules.specs.inner.Same.{same_perm}
 use Rattle.sgx_types.proofs.Pages.{same_page-refl}
 
 -- ---- what is equal is found the same
-
-eqb-refl : (n : ℕ) → (n == n) ≡ true
-eqb-refl n = eq-eqb n n refl
 
 bool-refl : (b : Bool) → same_bool b b ≡ true
 bool-refl true = refl
@@ -104,7 +101,7 @@ bool-true true b h = sym h
 bool-true false true h = cc
 bool-true false false h = refl
 
-numbers-true : (xs ys : List ℕ) → same_numbers xs ys ≡ true → xs ≡ ys
+pub numbers-true : (xs ys : List ℕ) → same_numbers xs ys ≡ true → xs ≡ ys
 numbers-true [] [] h = refl
 numbers-true (x ∷ xs) (y ∷ ys) h = let k = both_true (x == y) (same_numbers xs ys) h in λ i. eqb-true x y k.0 i ∷ numbers-true xs ys k.1 i
 numbers-true [] (y ∷ ys) h = cc

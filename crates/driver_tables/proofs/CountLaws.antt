@@ -1,13 +1,14 @@
 -- In a valid job each enclave has few places, and there are few enclaves and few version array pages.
-use Rattle.std.proofs.Common.{◌≡◌, ℕ, ◌*◌, ◌/◌, ◌<◌, ◌≤◌, ◌^◌, true, List, [], ◌∷◌, length, map, sum, get_or}
-use Rattle.std.proofs.Common.{fold, max, All, nat_le, zero, suc, ◌-◌, sym, arith, subst}
-use Rattle.std.proofs.lemmas.Bool.{and_parts, eqb-true, leb-true}
+use Rattle.std.proofs.Common.{◌≡◌, ℕ, ◌*◌, ◌/◌, ◌<◌, ◌≤◌, ◌^◌, List, [], ◌∷◌, length, map, sum, get_or}
+use Rattle.std.proofs.Common.{fold, max, All, zero, suc, ◌-◌, sym, arith, subst}
+use Rattle.std.proofs.lemmas.Bool.{eqb-true}
 use Rattle.std.proofs.lemmas.List.{length-map}
 use Rattle.std.proofs.lemmas.List.Elements.{All-nil, All-cons, All-head, All-tail}
 use Rattle.std.proofs.lemmas.List.Sums.{sum_by-cons}
 use Rattle.driver_list.specs.inner.Places.{IsPlaced, PageCounts, total}
 use Rattle.sgx_types.specs.declared.names.Page.{Page}
-use Rattle.sgx_types.specs.Lawful.{is_lawful, is_lawful_size}
+use Rattle.sgx_types.proofs.Lists.{place_below}
+use Rattle.sgx_types.proofs.LawfulLaws.{few_pages}
 use Rattle.job_grammar.specs.declared.jobs.EnclaveJob.{EnclaveJob}
 use Rattle.job_grammar.specs.declared.jobs.PageLine.{PageLine}
 use Rattle.job_grammar.specs.declared.jobs.PageLine.TheVariants.{Tcs, Reg}
@@ -21,12 +22,6 @@ use Rattle.driver_tables.specs.inner.Counts.{IsLow, IsShort, enclave_places, job
 line_within : (pages : ℕ) (line : PageLine) → IsValidLine pages line → line_end line ≤ pages
 line_within pages (Tcs page ossa nssa plain) h = let w : page < pages = h.2 in omega (arith, w)
 line_within pages (Reg first count perm value plain) h = h.1
-
--- an enclave has 4096 pages at most
-few_pages : (base size : ℕ) → is_lawful base size ≡ true → size / 4096 ≤ 4096
-few_pages base size h =
-    let low : size ≤ 2 ^ 24 = leb-true size (2 ^ 24) (and_parts _ (nat_le size (2 ^ 24)) (and_parts (is_lawful_size size) _ h).0).1 in
-    omega (arith, low)
 
 lines_within : (pages : ℕ) (lines : List PageLine) (end : ℕ) → end ≤ pages → All (IsValidLine pages) lines
     → fold (λ a line. max a (line_end line)) end lines ≤ pages
@@ -87,16 +82,10 @@ few_places j v =
     let arrays = few_arrays j v in
     omega (arith, all, few, same, arrays)
 
--- a page number that an enclave has
-below : (own : List ℕ) (e n : ℕ) → n < get_or own e 0 → e < length own
-below [] e n h = absurd (omega (arith, h))
-below (x ∷ own) zero n h = omega arith
-below (x ∷ own) (suc e) n h = let rest = below own e n h in omega (arith, rest)
-
 -- .. is of one that the job has
 pub within_enclaves : (own : List ℕ) (e n : ℕ) → n < get_or (0 ∷ own) e 0 → (1 ≤ e) × (e ≤ length own)
 within_enclaves own zero n h = absurd (omega (arith, h))
-within_enclaves own (suc e) n h = let low = below own e n h in (omega arith, omega (arith, low))
+within_enclaves own (suc e) n h = let low = place_below own e n h in (omega arith, omega (arith, low))
 
 -- a page whose number its enclave has has its place
 pub low_placed : (counts : PageCounts) (page : Page) → page.number < get_or (0 ∷ counts.own) page.enclave 0 → IsPlaced counts page

@@ -12,6 +12,7 @@ use Rattle.sgx_types.specs.declared.names.Page.{Page}
 use Rattle.sgx_rules.specs.declared.entries.Event.{Event}
 use Rattle.sgx_types.specs.Pages.{same_page}
 use Rattle.sgx_types.proofs.Pages.{same_pages}
+use Rattle.sgx_types.proofs.Truths.{or_swap}
 use Rattle.driver_laws.proofs.SoundLaws.{entry_of}
 use Rattle.driver_tables.proofs.FirstLaws.{all_same}
 use Rattle.job_grammar.specs.Jobs.{JobView}
@@ -24,12 +25,6 @@ use Rattle.driver_tables.specs.inner.Held.{ShowsHolds}
 abbrev any_below : List (List Page) → Page → ℕ → Bool
 any_below own g zero = false
 any_below own g (suc n) = holds_page (own_of own n) g || any_below own g n
-
-or_swap : (a b c : Bool) → (a || (b || c)) ≡ (b || (a || c))
-or_swap true true c = refl
-or_swap true false c = refl
-or_swap false true c = refl
-or_swap false false c = refl
 
 -- the first list apart from the others
 below_cons : (x : List Page) (xs : List (List Page)) (g : Page) (n : ℕ)

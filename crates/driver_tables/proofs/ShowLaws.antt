@@ -46,7 +46,7 @@ use Rattle.driver_laws.proofs.MarkLaws.{listed-young}
 use Rattle.driver_laws.proofs.MoveLaws.{place-ewb, place-ewb-other, place-held, place-noroom, place-quiet, place-taken}
 use Rattle.driver_laws.proofs.MoveLaws.{place-taken-other}
 use Rattle.driver_laws.proofs.MoveLaws.{place-young}
-use Rattle.driver_laws.proofs.SoundLaws.{entry_of, head_here}
+use Rattle.driver_laws.proofs.SoundLaws.{entry_of, head_here, frame_of_here}
 use Rattle.driver_tables.specs.declared.driver.Driver.{Driver}
 use Rattle.driver_tables.specs.inner.Moves.{IsLooked, IsLookedAside, IsTaken, frame_in, leaving_of}
 use Rattle.driver_tables.specs.inner.Tables.{ShowsTables, listed, place_in}
@@ -405,13 +405,6 @@ module _ (k : Keeping) (j : JobView) (old new : Driver) (past : List Entry) (pag
 
 -- ---- looks at SECSs and version array pages
 
-frame_of : (p : Place) → is_here p ≡ true → (f : ℕ) × (p ≡ Here f)
-frame_of (Here f) h = (f, refl)
-frame_of Absent h = cc
-frame_of (Leaving f) h = cc
-frame_of (Loading f slot) h = cc
-frame_of (Away slot) h = cc
-
 module _ (k : Keeping) (j : JobView) (old new : Driver) (past : List Entry) (page : Page) (other : is_own_page page ≡ false)
     (sound : IsSound past) (t : ShowsTables k j old past) where
   -- a look that takes nothing
@@ -456,7 +449,7 @@ module _ (k : Keeping) (j : JobView) (old new : Driver) (past : List Entry) (pag
       })
     where
       at : (f : ℕ) × (place past page ≡ Here f)
-      at = frame_of (place past page) (can.1 other).here
+      at = frame_of_here (place past page) (can.1 other).here
 
       placed : IsPlaced old.states.counts page
       placed = t.placed page (ap is_absent at.1)

@@ -1,7 +1,7 @@
 -- The tables tell the page that is brought back first, and the slots of pages, as the rules do.
-use Rattle.std.proofs.Common.{◌≡◌, ℕ, zero, suc, ◌+◌, ◌<◌, ◌≤◌, ◌^◌, ◌==◌, ◌-◌, ◌&&◌, nat_le, nat_lt, List, if◌then◌else◌, not, Bool}
+use Rattle.std.proofs.Common.{◌≡◌, ℕ, zero, suc, ◌+◌, ◌<◌, ◌≤◌, ◌^◌, ◌==◌, ◌-◌, ◌&&◌, nat_le, nat_lt, List, if◌then◌else◌, Bool}
 use Rattle.std.proofs.Common.{true, false, length, refl, sym, ap, ◌∙◌, arith}
-use Rattle.std.proofs.lemmas.Bool.{eqb-true, false≢true, lt-ltb}
+use Rattle.std.proofs.lemmas.Bool.{eqb-true, false≢true, lt-ltb, not-true}
 use Rattle.sgx_rules.specs.declared.entries.Entry.{Entry}
 use Rattle.sgx_types.specs.declared.names.Page.{Page}
 use Rattle.sgx_types.specs.declared.names.VaSlot.{VaSlot}
@@ -67,12 +67,8 @@ module _ (k : Keeping) (j : JobView) (d : Driver) (past : List Entry) (t : Shows
   pub array_of : (g : Page) (slot : VaSlot) → IsSound past → place past g ≡ Away slot → IsPlaced d.states.counts (va_page slot.va)
   array_of g slot sound away =
       t.placed (va_page slot.va)
-      (told (is_absent (place past (va_page slot.va)))
+      (not-true (is_absent (place past (va_page slot.va)))
       (sym (sound.made (va_page slot.va)) ∙ t.slots.placed g slot (ap (slot_at (open_start past)) away)))
-    where
-      told : (b : Bool) → not b ≡ true → b ≡ false
-      told true h = absurd (false≢true h)
-      told false h = refl
 
   -- the page that is brought back first
   pub target_is : (g : Page) (slot : VaSlot) → IsSound past → place past g ≡ Away slot → target_in d g slot ≡ target past g

@@ -56,6 +56,7 @@ use Rattle.driver_rules.specs.Scripts.{ScriptRule}
 use Rattle.driver_rules.specs.Spares.{Outs, due_with, outs}
 use Rattle.driver_rules.specs.Stops.{is_spent, last_event}
 use Rattle.driver_rules.specs.Turns.{builder_due, step_turn}
+use Rattle.driver_rules.proofs.ReclaimLaws.{due_is_other}
 use Rattle.driver_rules.specs.declared.waits.Why.TheVariants as waits
 use Rattle.driver_laws.specs.inner.Agrees.{Keeping, ShowsSlots, has_pages, is_add}
 use Rattle.driver_laws.specs.inner.Counted.{AddsAreBuilt}
@@ -65,7 +66,6 @@ use Rattle.driver_laws.specs.inner.Sound.{IsSound, is_absent}
 use Rattle.driver_laws.specs.inner.Stages.{HasAside, HasPages, KeepsPages, Stands}
 use Rattle.driver_laws.proofs.MarkLaws.{head_own}
 use Rattle.driver_laws.proofs.SoundLaws.{head_here}
-use Rattle.driver_laws.proofs.StageLaws.{due_other}
 use Rattle.driver_laws.proofs.StepLaws.{Builds, ByStep, NoStep, arrays_by, builds_or_none}
 use Rattle.driver_laws.proofs.BuiltLaws.{added_has_pages, own_there}
 use Rattle.driver_tables.specs.inner.Counts.{job_counts}
@@ -381,7 +381,7 @@ pub arrays_in_pass : (j : JobView) (out : Outs) (old new : Keeper) (past : List 
     → (is_aside (aside past) event ≡ true → HasAsMany old new) → KeepsArrays j old past
     → KeepsArrays j new (record { actor = actors.Reclaimer; event = event } ∷ past)
 arrays_in_pass j out old new past event sound pages age many keeps =
-    by_aside (aside past) pages.aside (due_with j past out) (λ g. due_other j past out (last_event past actors.Reclaimer) g) event age many
+    by_aside (aside past) pages.aside (due_with j past out) (λ g. due_is_other j past out (last_event past actors.Reclaimer) g) event age many
   where
     late : (ev : Event) (g : Page) → is_own_page g ≡ true → is_absent (place past g) ≡ false
         → KeepsArrays j new (record { actor = actors.Reclaimer; event = ev } ∷ past)

@@ -137,7 +137,7 @@ no_end_refused : (action : Action) (refusal : Refusal) → is_plain action ≡ t
 no_end_refused (actions.Eld f) refusal plain = absurd (false≢true plain)
 no_end_refused action refusal plain = refl
 
-idle_by : (l : Last) (ev : Event) → EndsOwn l ev → load_ended ev ≡ None → loaded_by l ≡ None
+pub idle_by : (l : Last) (ev : Event) → EndsOwn l ev → load_ended ev ≡ None → loaded_by l ≡ None
 idle_by (Loads n page) ev ends none = absurd (let bad : None ≡ Some n = sym none ∙ ends in cc)
 idle_by (Fails page why) ev ends none = refl
 idle_by WasEnded ev ends none = refl

@@ -1,5 +1,5 @@
 -- The state save page that the tables find is the one that the rules name.
-use Rattle.std.proofs.Common.{◌≡◌, ℕ, ◌+◌, ◌-◌, ◌%◌, ◌^◌, ◌<◌, ◌≤◌, ◌==◌, ◌&&◌, not, Bool, true}
+use Rattle.std.proofs.Common.{◌≡◌, ℕ, ◌+◌, ◌-◌, ◌%◌, ◌^◌, ◌<◌, ◌==◌, ◌&&◌, not, Bool, true}
 use Rattle.std.proofs.Common.{false, if◌then◌else◌, List, Option, Some, None, length, min, nat_le, sum, take, refl, ap}
 use Rattle.std.proofs.Common.{◌∙◌, arith}
 use Rattle.std.proofs.lemmas.Bool.{eqb-false, eqb-true}
@@ -7,12 +7,11 @@ use Rattle.sgx_rules.specs.declared.entries.Entry.{Entry}
 use Rattle.sgx_types.specs.declared.names.Page.{Page}
 use Rattle.sgx_types.specs.Pages.{is_va_page, page_at}
 use Rattle.sgx_types.specs.declared.names.TheConstants.{SECS_NUMBER}
-use Rattle.sgx_rules.specs.Processors.{stay}
 use Rattle.job_grammar.specs.declared.jobs.PageLine.{PageLine}
 use Rattle.job_grammar.specs.declared.jobs.PageLine.TheVariants as lines
 use Rattle.job_grammar.specs.Jobs.{JobView, lines_at, tcs_line}
 use Rattle.job_grammar.specs.inner.Valid.{IsValid}
-use Rattle.script_rules.specs.Script.{is_seated_at, saved_frames}
+use Rattle.script_rules.specs.Script.{saved_frames}
 use Rattle.driver_list.specs.inner.Places.{IsPlaced, total}
 use Rattle.driver_list.proofs.PlaceLaws.{place_within}
 use Rattle.driver_tables.specs.inner.Counts.{job_counts}
@@ -20,9 +19,10 @@ use Rattle.driver_tables.proofs.CountLaws.{few_places}
 use Rattle.driver_rules.specs.Needs.{last_save, next_save, save_to_enter, save_to_resume}
 use Rattle.due_tables.specs.declared.turns.Turns.{Turns}
 use Rattle.due_tables.specs.inner.Asked.{last_save_of, next_save_of}
-use Rattle.due_tables.specs.inner.Due.{IsOrderly, IsWithin, in_use}
+use Rattle.due_tables.specs.inner.Due.{IsOrderly, IsWithin}
 use Rattle.due_tables.specs.inner.Shown.{ShowsTurns}
 use Rattle.due_tables.specs.inner.TcsTurns.{tcs_at, tcs_by}
+use Rattle.due_tables.proofs.LineLaws.{saved_within}
 
 -- ---- numbers
 
@@ -40,16 +40,6 @@ placed_low j g v placed = by_name (is_va_page g) (g.number == SECS_NUMBER) refl 
     by_name false false is low = let few = few_places j v in omega (arith, low, few)
 
 -- ---- state save pages
-
-saved_within : (past : List Entry) (p : ℕ) (g : Page) (line : Option PageLine) → IsWithin (in_use past p g) line
-    → IsWithin (saved_frames past g) line
-saved_within past p g None h = tt
-saved_within past p g (Some (lines.Reg first count perm value plain)) h = tt
-saved_within past p g (Some (lines.Tcs page ossa nssa plain)) h = by_test (is_seated_at g (stay past p)) h
-  where
-    by_test : (b : Bool) → (if b then saved_frames past g + 1 else saved_frames past g) ≤ nssa → saved_frames past g ≤ nssa
-    by_test true k = omega (arith, k)
-    by_test false k = k
 
 next_is : (e n : ℕ) (line : Option PageLine) (g : Page) → IsWithin n line → next_save e n line ≡ Some g → g.number < 2 ^ 32
     → next_save_of e (tcs_by line n) ≡ Some g

@@ -1,10 +1,10 @@
 -- A page is added while the SECS of its enclave is here: a SECS leaves only once its enclave is initialised, and behind that the build adds
 -- no page of it.
-use Rattle.std.proofs.Common.{◌≡◌, ℕ, zero, suc, ◌+◌, ◌*◌, ◌≤◌, ◌<◌, ◌==◌, ◌||◌, ◌&&◌, ◌⊎◌, inl, inr, ⊎_elim, not, Bool, true, false}
+use Rattle.std.proofs.Common.{◌≡◌, ℕ, zero, suc, ◌+◌, ◌*◌, ◌≤◌, ◌<◌, ◌==◌, ◌||◌, ◌&&◌, inl, inr, ⊎_elim, not, Bool, true, false}
 use Rattle.std.proofs.Common.{if◌then◌else◌, List, [], ◌∷◌, ◌++◌, Option, Some, None, is_some, map, replicate, slice_get}
 use Rattle.std.proofs.Common.{refl, sym, ap, subst, ◌∙◌, arith}
 use Rattle.std.specs.List.{flat_map}
-use Rattle.std.proofs.lemmas.Bool.{eqb-true, false≢true}
+use Rattle.std.proofs.lemmas.Bool.{eqb-true, false≢true, or_right}
 use Rattle.sgx_rules.specs.declared.entries.Action.{Action}
 use Rattle.sgx_rules.specs.declared.entries.Action.TheVariants as actions
 use Rattle.sgx_types.specs.declared.names.Actor.{Actor}
@@ -47,16 +47,18 @@ use Rattle.machine_laws.proofs.BuildLaws.{adds}
 use Rattle.machine_laws.proofs.ColumnLaws.{content_is}
 use Rattle.driver_rules.specs.Ages.{AgeOf, IsAhead, KeptAgeRule, ahead_by, head_of}
 use Rattle.driver_rules.specs.Passes.{Aside, IsGoing, IsToGo, NoneAside, aside}
-use Rattle.driver_rules.specs.Places.{Absent, Away, Here, Leaving, Loading, Place, active, active_after, is_here, looked_at, place}
+use Rattle.driver_rules.specs.Places.{Leaving, active, active_after, is_here, looked_at, place}
 use Rattle.driver_rules.specs.Scripts.{ScriptRule}
 use Rattle.driver_rules.specs.Spares.{due_with, outs_kept}
 use Rattle.driver_rules.specs.Stops.{last_event}
-use Rattle.driver_laws.specs.inner.Sound.{IsSound, stands_in}
+use Rattle.driver_rules.proofs.ReclaimLaws.{other_secs}
+use Rattle.driver_laws.specs.inner.Sound.{IsSound}
 use Rattle.driver_laws.proofs.DueLaws.{due_inits}
 use Rattle.driver_laws.proofs.OwnLaws.{script_own}
-use Rattle.driver_laws.proofs.SoundLaws.{entry_of, not_own_secs}
+use Rattle.driver_laws.proofs.SoundLaws.{entry_of}
 use Rattle.driver_laws.proofs.StageLaws.{left_before, takes}
 use Rattle.driver_laws.proofs.StepLaws.{Builds, ByStep, NoStep, builds_or_none}
+use Rattle.driver_laws.proofs.HistoryLaws.{stands_where}
 use Rattle.due_notes.specs.inner.Noted.{HasSecsHere}
 use Rattle.due_notes.specs.inner.Plain.{is_reclaimer}
 use Rattle.due_notes.proofs.ArrayLaws.{add_step, adds_own}
@@ -294,7 +296,7 @@ taken_init : (j : JobView) (past : List Entry) (page : Page) (a : Aside) (due : 
     → (due ≡ Some (secs_page e) → is_initialised past e ≡ true) → page ≡ secs_page e
     → IsAhead j past (ahead_by a due) (Age page looks.Taken) → is_initialised past e ≡ true
 taken_init j past page NoneAside None e own init same h =
-    absurd (false≢true (sym (not_own_secs e) ∙ ap is_own_page (sym same) ∙ first_own (active past) page own h.look.head))
+    absurd (false≢true (sym (other_secs e) ∙ ap is_own_page (sym same) ∙ first_own (active past) page own h.look.head))
 taken_init j past page NoneAside (Some g) e own init same h = init (ap Some (sym h ∙ same))
 taken_init j past page (IsToGo g) due e own init same h = absurd h
 taken_init j past page (IsGoing g) due e own init same h = absurd h
@@ -303,14 +305,10 @@ leaving_init : (j : JobView) (past : List Entry) (e n : ℕ) → IsValid j → A
     → (e == 0) ≡ false → place past (secs_page e) ≡ Leaving n → is_initialised past e ≡ true
 leaving_init j [] e n valid script age some out = cc
 leaving_init j (x ∷ past) e n valid script age some out =
-    ⊎_elim (λ was. more (is_init_of e x.event) (is_initialised past e) (leaving_init j past e n valid script.1 age.1 some was))
-    (λ is. more (is_init_of e x.event) (is_initialised past e) (by_event x.event script.0 age.0 is))
+    ⊎_elim (λ was. or_right (is_init_of e x.event) (is_initialised past e) (leaving_init j past e n valid script.1 age.1 some was))
+    (λ is. or_right (is_init_of e x.event) (is_initialised past e) (by_event x.event script.0 age.0 is))
     (left_before past x (secs_page e) n out)
   where
-    more : (b c : Bool) → c ≡ true → (b || c) ≡ true
-    more true c h = refl
-    more false c h = h
-
     by_event : (ev : Event) → ScriptRule j past (entry_of x.actor ev) → KeptAgeRule j past (entry_of x.actor ev)
         → takes ev (secs_page e) ≡ true → is_initialised past e ≡ true
     by_event (Age page looks.Taken) sc ag is =
@@ -325,13 +323,6 @@ leaving_init j (x ∷ past) e n valid script age some out =
 secs_of_is : (c : Content) (e : ℕ) → is_secs_of c e ≡ true → stands c (secs_page e) ≡ true
 secs_of_is (SecsOf n) e h = ap (λ m. same_page (secs_page m) (secs_page e)) (eqb-true n e h) ∙ same_page-refl (secs_page e)
 secs_of_is _ e h = cc
-
-stands_where : (p : Place) (n : ℕ) → stands_in p n ≡ true → (is_here p ≡ true) ⊎ (p ≡ Leaving n)
-stands_where (Here m) n h = inl refl
-stands_where (Leaving m) n h = inr (ap Leaving (eqb-true m n h))
-stands_where Absent n h = cc
-stands_where (Loading m slot) n h = cc
-stands_where (Away slot) n h = cc
 
 some_enclave : (e : ℕ) (c : Bool) → (not (e == 0) && not c) ≡ true → (e == 0) ≡ false
 some_enclave e c h = by_test (e == 0) (both_true (not (e == 0)) (not c) h).0

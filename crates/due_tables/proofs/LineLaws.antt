@@ -72,7 +72,8 @@ least_le false n = omega arith
 -- those in use without the one that is about to be
 pub saved_within : (past : List Entry) (p : ℕ) (g : Page) (line : Option PageLine) → IsWithin (in_use past p g) line
     → IsWithin (saved_frames past g) line
-saved_within past p g line h = within_le (saved_frames past g) (in_use past p g) line (least_le (is_seated_at g (stay past p)) (saved_frames past g)) h
+saved_within past p g line h =
+    within_le (saved_frames past g) (in_use past p g) line (least_le (is_seated_at g (stay past p)) (saved_frames past g)) h
 
 -- ---- enclaves
 

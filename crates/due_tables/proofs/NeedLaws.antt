@@ -51,6 +51,7 @@ use Rattle.driver_laws.specs.inner.Sound.{IsSound, is_absent}
 use Rattle.driver_laws.specs.inner.Three.{HoldsThree}
 use Rattle.driver_laws.proofs.PlaceLaws.{here_there, stands_there}
 use Rattle.driver_laws.proofs.SoundLaws.{lawful_there}
+use Rattle.driver_laws.proofs.ThreeEntryLaws.{away_among}
 
 -- ---- places
 
@@ -91,16 +92,6 @@ more_there past g gs h all x k = by_test (same_page g x) refl k
     by_test : (b : Bool) → same_page g x ≡ b → (b || is_among gs x) ≡ true → There past x
     by_test true same k = subst (There past) (same_pages g x same) h
     by_test false same k = all x k
-
--- the first page that is not here, and those before it
-away_among : (past : List Entry) (pages : List Page) (g : Page) → first_away past pages ≡ Some g → is_among pages g ≡ true
-away_among past [] g h = cc
-away_among past (x ∷ xs) g h = by_test (is_here (place past x)) h (away_among past xs g)
-  where
-    by_test : (b : Bool) → (if b then first_away past xs else Some x) ≡ Some g → (first_away past xs ≡ Some g → is_among xs g ≡ true)
-        → (same_page x g || is_among xs g) ≡ true
-    by_test true k later = or_right (same_page x g) (is_among xs g) (later k)
-    by_test false k later = let same : x ≡ g = cc in subst (λ y. (same_page x y || is_among xs y) ≡ true) same (rw (same_page-refl x) refl)
 
 front_there : (past : List Entry) (pages : List Page) (g : Page) → first_away past pages ≡ Some g → There past g
     → AllThere past (front_to g pages)

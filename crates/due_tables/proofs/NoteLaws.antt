@@ -3,7 +3,7 @@ use Rattle.std.proofs.Common.{◌≡◌, ℕ, ◌+◌, ◌-◌, ◌==◌, ◌<�
 use Rattle.std.proofs.Common.{if◌then◌else◌, List, ◌∷◌, Option, Some, None, is_some, length, map, drop, get_or, set, refl, sym}
 use Rattle.std.proofs.Common.{ap, subst, ◌∙◌, arith}
 use Rattle.std.specs.Option.{option_map}
-use Rattle.std.proofs.lemmas.Bool.{eq-eqb, eqb-false, eqb-true}
+use Rattle.std.proofs.lemmas.Bool.{eqb-false, eqb-true}
 use Rattle.std.proofs.lemmas.List.{drop-drop, get_or-set_other, get_or-set_same, length-set}
 use Rattle.sgx_rules.specs.declared.entries.Action.TheVariants as actions
 use Rattle.sgx_types.specs.declared.names.Actor.{Actor}
@@ -22,6 +22,8 @@ use Rattle.sgx_types.specs.Pages.{page_at, same_page}
 use Rattle.sgx_rules.specs.Processors.{Seat, Stay, is_by, stay}
 use Rattle.sgx_rules.specs.Starts.{open_start}
 use Rattle.sgx_types.proofs.Pages.{same_pages}
+use Rattle.sgx_types.proofs.Truths.{eqb-refl}
+use Rattle.sgx_types.proofs.Lists.{get_or-set_if}
 use Rattle.cached_translations.specs.declared.processor.Mode.{Mode}
 use Rattle.cached_translations.specs.declared.processor.Mode.TheVariants.{Inside, Outside}
 use Rattle.job_grammar.specs.declared.jobs.PageLine.{PageLine}
@@ -54,7 +56,7 @@ use Rattle.due_tables.specs.inner.Noting.{last_after}
 use Rattle.due_tables.specs.inner.Noting.{more_if, page_inside, page_left, page_loaded, saves_after, turn_after, with_kick}
 use Rattle.due_tables.specs.inner.Noting.{with_own}
 use Rattle.due_tables.specs.inner.Shown.{ShowsCpu, ShowsTurns}
-use Rattle.due_tables.proofs.TableLaws.{changed_at, get_set, lengths_changed}
+use Rattle.due_tables.proofs.TableLaws.{changed_at, lengths_changed}
 
 -- ---- the builder
 
@@ -89,7 +91,7 @@ kick_at (Kick cpu) turns p low = by_test (cpu.0 == p) refl
         → turn_at (set turns cpu.0 (kicked (turn_at turns cpu.0))) p ≡ (if b then kicked (turn_at turns p) else turn_at turns p)
     by_test true is =
         let same : cpu.0 ≡ p = eqb-true cpu.0 p is in
-        get_set turns cpu.0 p (kicked (turn_at turns cpu.0)) first_turn (omega (arith, same, low))
+        get_or-set_if turns cpu.0 p (kicked (turn_at turns cpu.0)) first_turn (omega (arith, same, low))
         ∙ rw (is, same) refl
     by_test false is = get_or-set_other turns cpu.0 p (kicked (turn_at turns cpu.0)) first_turn (λ same. eqb-false cpu.0 p is (sym same))
 kick_at (Did action answer) turns p low = refl
@@ -233,9 +235,6 @@ other_shown past a ev p x other s = record {
   last = ap last_told (kick_leaves ev p x).last ∙ s.last ∙ rw other refl;
 }
 
-own_is : (p : ℕ) → (p == p) ≡ true
-own_is p = eq-eqb p p refl
-
 -- its own entry
 own_shown : (j : JobView) (past : List Entry) (c : Cpu) (ev : Event) (before : Mode) (x : CpuTurn)
     → CanNote j past before (entry_of (actors.Cpu c) ev) → ShowsCpu past c.0 x
@@ -243,18 +242,18 @@ own_shown : (j : JobView) (past : List Entry) (c : Cpu) (ev : Event) (before : M
 own_shown j past c ev before x can s = record {
   replied = (kick_leaves ev c.0 (turn_after ev before x)).replied ∙ counted;
   kicked = own_kick_is ev c.0 before x (is_kicked past c.0) s.kicked
-      ∙ ap (λ b. kicked_after ev c.0 b (is_kicked past c.0)) (sym (own_is c.0));
+      ∙ ap (λ b. kicked_after ev c.0 b (is_kicked past c.0)) (sym (eqb-refl c.0));
   interruption = ap interruption_told (kick_leaves ev c.0 (turn_after ev before x)).interruption
-      ∙ after_told ev before (stay past c.0) x.interruption (interruption past c.0) can.stood s.interruption ∙ rw (own_is c.0) refl;
+      ∙ after_told ev before (stay past c.0) x.interruption (interruption past c.0) can.stood s.interruption ∙ rw (eqb-refl c.0) refl;
   last = ap last_told (kick_leaves ev c.0 (turn_after ev before x)).last
-      ∙ last_is past c.0 ev x.last can.theirs s.last (their_rule j past (entry_of (actors.Cpu c) ev) can.script) ∙ rw (own_is c.0) refl;
+      ∙ last_is past c.0 ev x.last can.theirs s.last (their_rule j past (entry_of (actors.Cpu c) ev) can.script) ∙ rw (eqb-refl c.0) refl;
 }
   where
     broken : is_some x.interruption ≡ is_interrupted past c.0
     broken = sym (told_some x.interruption) ∙ ap is_some s.interruption ∙ sym (can.three c.0).interrupted
 
     counted : (turn_after ev before x).replied ≡ replied (entry_of (actors.Cpu c) ev ∷ past) c.0
-    counted = rw (broken, s.replied, own_is c.0) refl
+    counted = rw (broken, s.replied, eqb-refl c.0) refl
 
 own_length : (a : Actor) (ev : Event) (before : Mode) (turns : List CpuTurn) → length (with_own a ev before turns) ≡ length turns
 own_length actors.Builder ev before turns = refl
@@ -384,7 +383,7 @@ inits_length (Bus page reason) inits = refl
 
 -- ---- all of it
 
-kick_length : (ev : Event) (turns : List CpuTurn) → length (with_kick ev turns) ≡ length turns
+pub kick_length : (ev : Event) (turns : List CpuTurn) → length (with_kick ev turns) ≡ length turns
 kick_length (Kick cpu) turns = length-set turns cpu.0 (kicked (turn_at turns cpu.0))
 kick_length (Did action answer) turns = refl
 kick_length (Refused action refusal) turns = refl

@@ -1,5 +1,5 @@
 -- One entry more keeps in which frame each page is, and how many state save pages are in use.
-use Rattle.std.proofs.Common.{◌≡◌, ◌≢◌, ℕ, ◌+◌, ◌-◌, ◌/◌, ◌==◌, ◌≤◌, ◌⊎◌, inl, inr, ⊎_elim, not, ◌&&◌}
+use Rattle.std.proofs.Common.{◌≡◌, ◌≢◌, ℕ, ◌+◌, ◌-◌, ◌/◌, ◌==◌, ◌≤◌, ◌⊎◌, inl, inr, ⊎_elim, not}
 use Rattle.std.proofs.Common.{Bool, true, false, if◌then◌else◌, List, [], ◌∷◌, Option, Some, None, MatchOption, refl, sym, ap}
 use Rattle.std.proofs.Common.{subst, ◌∙◌, arith}
 use Rattle.std.proofs.lemmas.Bool.{eq-eqb, eqb-false, eqb-true, false≢true}
@@ -24,7 +24,7 @@ use Rattle.sgx_rules.specs.declared.refusals.Refusal.TheVariants as why
 use Rattle.sgx_rules.specs.Flat.{at_offset}
 use Rattle.sgx_types.specs.Pages.{page_at, same_page}
 use Rattle.sgx_rules.specs.Frames.{added, frame_of, vas_made}
-use Rattle.sgx_rules.specs.Processors.{Enters, Keeps, Leaves, Move, Stay, holds_number, is_by, move_by, stay, stay_after}
+use Rattle.sgx_rules.specs.Processors.{Stay, holds_number, is_by, move_by, stay, stay_after}
 use Rattle.sgx_rules.specs.Processors.{translations}
 use Rattle.sgx_rules.specs.Sights.{seat_of}
 use Rattle.sgx_types.specs.Cases.{first_of_row, when}
@@ -62,9 +62,11 @@ use Rattle.driver_rules.specs.Turns.{fetches}
 use Rattle.driver_rules.specs.Turns.{fills, first_away, inside_turn, is_built, is_kicked, is_last, last_of, op_turn}
 use Rattle.driver_rules.specs.Turns.{outside_turn, resumes}
 use Rattle.driver_rules.specs.Turns.{save_frame, stay_turn, turn_due, with_pages}
+use Rattle.driver_rules.proofs.ReclaimLaws.{other_secs}
 use Rattle.driver_laws.specs.inner.Kinds.{CanMove}
 use Rattle.driver_laws.specs.inner.Three.{NamesOwn, TcsAreApart, names_tcs}
 use Rattle.driver_laws.proofs.SoundLaws.{entry_of}
+use Rattle.driver_laws.proofs.ThreeEntryLaws.{other_stay}
 use Rattle.due_tables.specs.inner.Due.{IsOrderly, IsWithin, in_use, standing}
 use Rattle.due_tables.specs.inner.Entries.{EntersApart}
 use Rattle.due_tables.proofs.LineLaws.{IsTcsLine, saved_within, tcs_line_is, within_le}
@@ -120,13 +122,6 @@ stays_if : (b : Bool) (o : Option ℕ) (x y : Place) → o ≡ standing x → (b
 stays_if true o x y h k = k refl
 stays_if false o x y h k = h
 
-secs_aside : (e : ℕ) → is_own_page (secs_page e) ≡ false
-secs_aside e = by_test (e == 0)
-  where
-    by_test : (b : Bool) → (not b && false) ≡ false
-    by_test true = refl
-    by_test false = refl
-
 frames_more : (past : List Entry) (a : Actor) (ev : Event) → CanMove past ev → Stand past → Stand (entry_of a ev ∷ past)
 frames_more past a (Did (actions.Add enclave number f kind perm init) answer) can h g own =
     stands_if (same_page (page_at enclave number) g) (frame_of past g) (Some f.0) (place past g) (Here f.0) (h g own) (λ _. refl)
@@ -143,7 +138,7 @@ frames_more past a (Refused (actions.Eld f) why) can h g own =
 frames_more past a (Did (actions.Epa f) answer) can h g own =
     h g own ∙ ap (λ b. standing (if b then Here f.0 else place past g)) (sym (other_page (va_page (vas_made past)) g refl own))
 frames_more past a (Did (actions.Create enclave f base size) answer) can h g own =
-    h g own ∙ ap (λ b. standing (if b then Here f.0 else place past g)) (sym (other_page (secs_page enclave) g (secs_aside enclave) own))
+    h g own ∙ ap (λ b. standing (if b then Here f.0 else place past g)) (sym (other_page (secs_page enclave) g (other_secs enclave) own))
 frames_more past a (Age page look) can h g own =
     stays_if (same_page page g) (frame_of past g) (place past g) (after_look look (place past g)) (h g own)
     (λ _. h g own ∙ sym (looked look (place past g)))
@@ -199,7 +194,8 @@ less_within n e (Some (lines.Tcs page ossa nssa plain)) g h is = by_test (n == n
     by_test false same k = let other = eqb-false n nssa same in omega (arith, h, other)
 
 find_enter : (j : JobView) (past : List Entry) (why : Why) (e t : ℕ) (save : Option Page)
-    → next_save e (saved_frames past (page_at e t)) (LineOf j (page_at e t)) ≡ save → IsWithin (saved_frames past (page_at e t)) (LineOf j (page_at e t))
+    → next_save e (saved_frames past (page_at e t)) (LineOf j (page_at e t)) ≡ save
+    → IsWithin (saved_frames past (page_at e t)) (LineOf j (page_at e t))
     → DueFinds j past (makes_or why (enter_with e t (frame_here (place past (page_at e t))) (save_frame past (page_at e t) save)))
 find_enter j past why e t None is few = alone (frame_here (place past (page_at e t)))
   where
@@ -342,11 +338,6 @@ more_if b n = if b then n + 1 else n
 more_le : (b : Bool) (m n : ℕ) → m ≤ n → more_if b m ≤ more_if b n
 more_le true m n h = omega (arith, h)
 more_le false m n h = h
-
-other_stay : (m : Move) (past : List Entry) (s : Option Stay) → stay_after m false past s ≡ s
-other_stay (Enters seat) past s = refl
-other_stay Leaves past s = refl
-other_stay Keeps past s = refl
 
 module _ (j : JobView) (past : List Entry) (v : IsValid j) (apart : TcsAreApart j) (own : (p : ℕ) → NamesOwn j past p)
     (room : (p : ℕ) (g : Page) → IsWithin (in_use past p g) (LineOf j g)) where

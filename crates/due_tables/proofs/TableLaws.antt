@@ -6,12 +6,13 @@ use Rattle.std.specs.Option.{option_map}
 use Rattle.std.specs.Global.{Vec}
 use Rattle.std.specs.List.{HoldsAt}
 use Rattle.std.specs.Vec.{with_item}
-use Rattle.std.proofs.lemmas.Bool.{eqb-false, eqb-true}
-use Rattle.std.proofs.lemmas.List.{append-nil, drop_all, get_or-set_other, get_or-set_same, length-map, length-set, map-set}
+use Rattle.std.proofs.lemmas.Bool.{eqb-true}
+use Rattle.std.proofs.lemmas.List.{append-nil, drop_all, length-map, length-set, map-set}
 use Rattle.std.proofs.lemmas.List.{take_all}
 use Rattle.sgx_types.specs.declared.names.Page.{Page}
 use Rattle.sgx_types.specs.Pages.{page_at, same_page}
 use Rattle.sgx_types.proofs.Pages.{same_pages}
+use Rattle.sgx_types.proofs.Lists.{place_below, there_below, get_or-set_if}
 use Rattle.job_grammar.specs.declared.jobs.PageLine.{PageLine}
 use Rattle.job_grammar.specs.declared.jobs.PageLine.TheVariants as lines
 use Rattle.job_grammar.specs.Jobs.{covers, is_tcs_line, tcs_line}
@@ -20,20 +21,6 @@ use Rattle.due_tables.specs.inner.TcsTurns.{IsInRow, changed, tcs_at, tcs_by, wi
 use Rattle.due_tables.specs.inner.TcsPlaces.{or_line, turns_in}
 
 -- ---- lists
-
--- what stands at a place behind a write
-pub get_set : {X : Type 0} (xs : List X) (i k : ℕ) (x d : X) → i < length xs
-    → get_or (set xs i x) k d ≡ (if i == k then x else get_or xs k d)
-get_set xs i k x d low = by_test (i == k) refl
-  where
-    by_test : (b : Bool) → (i == k) ≡ b → get_or (set xs i x) k d ≡ (if b then x else get_or xs k d)
-    by_test true is = ap (λ n. get_or (set xs i x) n d) (sym (eqb-true i k is)) ∙ get_or-set_same xs i x d low
-    by_test false is = get_or-set_other xs i k x d (λ same. eqb-false i k is (sym same))
-
-some_within : {X : Type 0} (xs : List (Option X)) (n : ℕ) (x : X) → get_or xs n None ≡ Some x → n < length xs
-some_within [] n x h = cc
-some_within (y ∷ ys) zero x h = omega arith
-some_within (y ∷ ys) (suc n) x h = let low = some_within ys n x h in omega (arith, low)
 
 row_within : {X : Type 0} (t : List (List (Option X))) (e n : ℕ) (x : X) → get_or (get_or t e []) n None ≡ Some x → e < length t
 row_within [] e n x h = cc
@@ -44,11 +31,6 @@ lengths_stay : {X : Type 0} (t : List (List X)) (e n : ℕ) (x : X) → map leng
 lengths_stay [] e n x = refl
 lengths_stay (r ∷ rs) zero n x = ap (λ k. k ∷ map length rs) (length-set r n x)
 lengths_stay (r ∷ rs) (suc e) n x = ap (λ ks. length r ∷ ks) (lengths_stay rs e n x)
-
-pub within_counts : (ks : List ℕ) (e n : ℕ) → n < get_or ks e 0 → e < length ks
-within_counts [] e n h = absurd (omega (arith, h))
-within_counts (k ∷ ks) zero n h = omega arith
-within_counts (k ∷ ks) (suc e) n h = let low = within_counts ks e n h in omega (arith, low)
 
 -- ---- rows in vectors
 
@@ -84,7 +66,7 @@ place_there vs es t i e n v view same at found low =
 pub row_low : (vs : List (Vec (Option TcsTurn))) (t : List (List (Option TcsTurn))) (g : Page) → map turns_in vs ≡ t
     → IsInRow (map length t) g → g.enclave < length vs
 row_low vs t g view placed =
-    let low : g.enclave < length (map length t) = within_counts (map length t) g.enclave g.number placed.within in
+    let low : g.enclave < length (map length t) = place_below (map length t) g.enclave g.number placed.within in
     let one = length-map t length in
     let two = ap length view in
     let three = length-map vs turns_in in omega (arith, low, one, two, three)
@@ -127,7 +109,7 @@ turn_set : (t : List (List (Option TcsTurn))) (page g : Page) (x y : TcsTurn) �
     → tcs_at (with_turn t page y) g ≡ (if same_page page g then Some y else tcs_at t g)
 turn_set t page g x y is =
     ap (λ row. get_or row g.number None)
-    (get_set t page.enclave g.enclave (set (get_or t page.enclave []) page.number (Some y)) [] (row_within t page.enclave page.number x is))
+    (get_or-set_if t page.enclave g.enclave (set (get_or t page.enclave []) page.number (Some y)) [] (row_within t page.enclave page.number x is))
     ∙ by_enclave (page.enclave == g.enclave) refl
   where
     by_enclave : (b : Bool) → (page.enclave == g.enclave) ≡ b
@@ -135,7 +117,7 @@ turn_set t page g x y is =
         ≡ (if b && (page.number == g.number) then Some y else tcs_at t g)
     by_enclave false other = refl
     by_enclave true same =
-        get_set (get_or t page.enclave []) page.number g.number (Some y) None (some_within (get_or t page.enclave []) page.number x is)
+        get_or-set_if (get_or t page.enclave []) page.number g.number (Some y) None (there_below (get_or t page.enclave []) page.number x is)
         ∙ ap (λ e. if page.number == g.number then Some y else get_or (get_or t e []) g.number None)
         (eqb-true page.enclave g.enclave same)
 

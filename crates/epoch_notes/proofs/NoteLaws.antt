@@ -1,7 +1,7 @@
 -- The notes take in an entry.
 use Rattle.std.proofs.Common.{◌≡◌, ◌==◌, ◌<◌, ◌≤◌, ◌+◌, ◌-◌, ◌⊎◌, inl, inr, ℕ, Bool, true, false, cond}
 use Rattle.std.proofs.Common.{ltb, set, get_or, List, [], ◌∷◌, length, replicate, refl, sym, ap, ◌∙◌, subst, Option, Some, None}
-use Rattle.std.proofs.Common.{IfSome, arith, length-set, get_or-set_same, get_or-set_other}
+use Rattle.std.proofs.Common.{IfSome, arith, length-set}
 use Rattle.std.proofs.lemmas.Bool.{cases_lt, eq-eqb, eqb-true, false≢true, lt-ltb}
 use Rattle.std.proofs.lemmas.List.{get_or-replicate, length-replicate}
 use Rattle.sgx_types.specs.Counts.{count_below}
@@ -20,6 +20,7 @@ use Rattle.sgx_rules.specs.Processors.{Enters, Keeps, Leaves, Move, Seat, Stay, 
 use Rattle.sgx_rules.specs.Rules.{Along}
 use Rattle.sgx_rules.proofs.Keystone.{IsNoted, all_noted}
 use Rattle.sgx_types.proofs.CountLaws.{count_below-none}
+use Rattle.sgx_types.proofs.Lists.{get_or-set_if}
 use Rattle.driver_laws.specs.inner.Tracking.{CanTrack, TrackTells, TrackingRule}
 use Rattle.epoch_words.specs.declared.seen.Seen.{Seen}
 use Rattle.epoch_words.specs.inner.Rule.{at}
@@ -114,14 +115,6 @@ all_near first (e ∷ past) along p low =
 
 -- ---- lists
 
--- what is at a place of a list, where one is set
-set_at : {A : Type 0} (xs : List A) (i j : ℕ) (x d : A) → i < length xs → get_or (set xs i x) j d ≡ cond (i == j) x (get_or xs j d)
-set_at xs i j x d low = by_test (i == j) refl
-  where
-    by_test : (b : Bool) → (i == j) ≡ b → get_or (set xs i x) j d ≡ cond b x (get_or xs j d)
-    by_test true is = subst (λ k. get_or (set xs i x) k d ≡ x) (eqb-true i j is) (get_or-set_same xs i x d low)
-    by_test false is = get_or-set_other xs i j x d (λ same. false≢true (sym is ∙ eq-eqb i j (sym same)))
-
 -- .. by the numbers of enclaves, from 1 on
 place_test : (a b : ℕ) → 1 ≤ a → 1 ≤ b → ((a - 1) == (b - 1)) ≡ (a == b)
 place_test a b la lb = by_test (a == b) refl
@@ -143,7 +136,7 @@ module _ (n : NotesView) (first : ℕ) (past : List Entry) (tells : TellsEntries
   words_set : (enclave : ℕ) → 1 ≤ enclave → enclave ≤ n.words.words → (s : Seen) → (c : ℕ) → 1 ≤ c
       → c ≤ n.words.words → at (set n.seen (enclave - 1) s) (c - 1) ≡ cond (enclave == c) s (word_by first past c)
   words_set enclave low high s c lc hc =
-      set_at n.seen (enclave - 1) (c - 1) s (seen 0 0 0) (let wide = tells.wide in omega (arith, wide, low, high))
+      get_or-set_if n.seen (enclave - 1) (c - 1) s (seen 0 0 0) (let wide = tells.wide in omega (arith, wide, low, high))
       ∙ (ap (λ b. cond b s (at n.seen (c - 1))) (place_test enclave c low lc) ∙ ap (cond (enclave == c) s) (tells.words c lc hc))
 
   -- a word that stays, but for one enclave's
@@ -166,7 +159,7 @@ module _ (n : NotesView) (first : ℕ) (past : List Entry) (tells : TellsEntries
   -- what is noted of processors, where that of one is set
   inside_set : (q : ℕ) → q < length n.inside → (x : Option Inside) → (p : ℕ) → p < length n.inside
       → get_or (set n.inside q x) p None ≡ cond (q == p) x (since (stay past p) (noted first past p))
-  inside_set q low x p lp = set_at n.inside q p x None low ∙ ap (cond (q == p) x) (tells.inside p lp)
+  inside_set q low x p lp = get_or-set_if n.inside q p x None low ∙ ap (cond (q == p) x) (tells.inside p lp)
 
   -- ---- a processor enters
 

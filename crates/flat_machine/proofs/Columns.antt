@@ -15,7 +15,7 @@ use Rattle.flat_machine.specs.inner.Parts.{memory_of, idle}
 use Rattle.flat_machine.specs.inner.Parts.{enclave_of}
 use Rattle.sgx_types.proofs.Pages.{same_pages}
 use Rattle.sgx_types.proofs.Truths.{eqb-swap}
-use Rattle.flat_machine.proofs.Lists.{get_or-set_if, like}
+use Rattle.sgx_types.proofs.Lists.{get_or-set_if, get_or-like}
 
 -- a written place, read at each page
 pub slot_written : (tables : List (List (Option PlainPage))) (e n : ℕ) (v : Option PlainPage) → e < length tables
@@ -179,11 +179,11 @@ memory_cpu d p c low = λ t. record (memory_of d) { cpus = λ q. each q t }
 -- nothing is built yet
 pub memory_fresh : memory_of (record { enclaves = replicate 9 None; tables = replicate 9 []; cpus = replicate 16 idle }) ≡ fresh
 memory_fresh = λ t. record {
-  enclaves = λ e. ap enclave_of (like {X = Option Enclave} 9 e None) t;
+  enclaves = λ e. ap enclave_of (get_or-like {X = Option Enclave} 9 e None) t;
   pages = λ q. ap page_of (nothing q) t;
   is_busy = λ q. ap busy_of (nothing q) t;
-  cpus = λ p. ap cpu_of (like 16 p idle) t;
+  cpus = λ p. ap cpu_of (get_or-like 16 p idle) t;
 }
   where
     nothing : (q : Page) → look (replicate 9 []) q ≡ None
-    nothing q = ap (λ (row : List (Option PlainPage)). get_or row q.number None) (like {X = List (Option PlainPage)} 9 q.enclave [])
+    nothing q = ap (λ (row : List (Option PlainPage)). get_or row q.number None) (get_or-like {X = List (Option PlainPage)} 9 q.enclave [])

@@ -1,39 +1,23 @@
 -- Lists by their places.
-use Rattle.std.proofs.Common.{ℕ, zero, suc, ◌≡◌, ◌≤◌, ◌<◌, ◌+◌, ◌==◌, ◌⊎◌, inl, inr, refl, sym, ap, arith}
-use Rattle.std.proofs.Common.{◌∙◌, cond, ◌&&◌, true, false, Option, None, List, [], ◌∷◌, ◌++◌, length, replicate, set}
+use Rattle.std.proofs.Common.{ℕ, zero, suc, ◌≡◌, ◌<◌, ◌+◌, refl, sym, ap, arith}
+use Rattle.std.proofs.Common.{◌&&◌, true, false, Option, None, List, [], ◌∷◌, ◌++◌, length, replicate}
 use Rattle.std.proofs.Common.{get_or, ltb}
-use Rattle.std.proofs.lemmas.Bool.{ltb-false, cond_both, cases_lt, eqb-true, eq-eqb, false≢true}
-use Rattle.std.proofs.lemmas.List.{replicate-append-replicate, get_or-replicate, length-replicate, get_or-set_same}
-use Rattle.std.proofs.lemmas.List.{get_or-set_other}
+use Rattle.std.proofs.lemmas.Bool.{ltb-false}
+use Rattle.std.proofs.lemmas.List.{replicate-append-replicate}
 use Rattle.std.proofs.lemmas.List.{get_or_past}
 use Rattle.std.specs.List.{flat_map}
 use Rattle.flat_machine.specs.declared.table.PlainPage.{PlainPage}
 use Rattle.flat_machine.specs.inner.Parts.{words_in}
+use Rattle.sgx_types.proofs.Lists.{get_or-like}
 
 -- one item more
 pub replicate_more : {X : Type 0} (n : ℕ) (x : X) → replicate n x ++ x ∷ [] ≡ replicate (n + 1) x
 replicate_more n x = replicate-append-replicate n 1 x
 
--- a place of a list of like items, or past it
-pub like : {X : Type 0} (n i : ℕ) (x : X) → get_or (replicate n x) i x ≡ x
-like n i x = by_place (cases_lt i n)
-  where
-    by_place : (i < n) ⊎ (n ≤ i) → get_or (replicate n x) i x ≡ x
-    by_place (inl low) = get_or-replicate n i x x low
-    by_place (inr past) = get_or_past (replicate n x) i x (rw (length-replicate n x) past)
-
--- a write to a list, read at each place
-pub get_or-set_if : {A : Type 0} (xs : List A) (i n : ℕ) (a d : A) → i < length xs
-    → get_or (set xs i a) n d ≡ cond (i == n) a (get_or xs n d)
-get_or-set_if xs i n a d low =
-    cond_both (i == n) a (get_or xs n d) (λ v. get_or (set xs i a) n d ≡ v)
-    (λ e. rw (← eqb-true i n e) (get_or-set_same xs i a d low))
-    (λ e. get_or-set_other xs i n a d (λ same. false≢true (sym e ∙ eq-eqb i n (sym same))))
-
 -- a word of a page that was not added
 pub zero_word : (pages : List (Option PlainPage)) (n i : ℕ) → get_or pages n None ≡ None → i < 512
     → 0 ≡ get_or (words_in (get_or pages n None)) i 0
-zero_word pages n i none low = rw none (sym (like 512 i 0))
+zero_word pages n i none low = rw none (sym (get_or-like 512 i 0))
 
 -- an item that was read from its place
 pub read_at : {X : Type 0} (xs : List X) (i : ℕ) (x d : X) → i < length xs → x ≡ get_or xs i x → x ≡ get_or xs i d

@@ -24,7 +24,7 @@ use Rattle.flat_machine.specs.inner.Whole.{page_count}
 use Rattle.sgx_types.proofs.Pages.{same_pages}
 use Rattle.sgx_rules.proofs.Rows.{none_holds}
 use Rattle.sgx_types.proofs.Truths.{both_true, eqb-swap, neither, not_false}
-use Rattle.flat_machine.proofs.Lists.{get_or-set_if, like}
+use Rattle.sgx_types.proofs.Lists.{get_or-set_if, get_or-like}
 use Rattle.flat_machine.proofs.Columns.{slot_written}
 
 -- ---- init
@@ -102,7 +102,7 @@ memory_created d e base size k creates places tables pages =
     same q =
         rw (get_or-set_if d.tables e q.enclave (replicate k None) [] (omega (arith, creates.numbered, tables)))
         (cond_both (e == q.enclave) (replicate k None) (get_or d.tables q.enclave []) (λ row. get_or row q.number None ≡ look d.tables q)
-        (λ here. like k q.number None ∙ sym (ap (λ (row : List (Option PlainPage)). get_or row q.number None)
+        (λ here. get_or-like k q.number None ∙ sym (ap (λ (row : List (Option PlainPage)). get_or row q.number None)
         (ap (λ j. get_or d.tables j []) (sym (eqb-true e q.enclave here)) ∙ empty))) (λ _. refl))
 
 -- ---- add

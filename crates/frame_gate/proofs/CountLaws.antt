@@ -1,7 +1,8 @@
 -- The counts of the first words: what the steps of processors make of them.
 use Rattle.std.proofs.Common.{◌≡◌, ◌≢◌, ◌⊎◌, ℕ, ◌+◌, ◌*◌, ◌≤◌, List, length, get_or, set, Bool, true}
-use Rattle.std.proofs.Common.{false, Some, None, refl}
+use Rattle.std.proofs.Common.{Some, None, refl}
 use Rattle.std.proofs.Common.{ap, ◌∙◌, subst, ⊎_elim, arith, length-set, get_or-set_same, get_or-set_other, eq-eqb, ne_eqb}
+use Rattle.std.proofs.lemmas.Bool.{false_from_ne_true}
 use mathlib.Core.Option.{some}
 use lib.ListN.{get_elem?}
 use Rattle.frame_gate.specs.declared.view.View.{View}
@@ -13,10 +14,6 @@ use Rattle.frame_gate.specs.inner.Views.{visit, ledger}
 use Rattle.frame_gate.specs.inner.Rule.{total, one_if, is_at, role_at, inside_at, role_entries, entries_of, role_seats, seats_of}
 use Rattle.frame_gate.specs.inner.Rule.{AreCounted}
 use Rattle.frame_gate.proofs.SumLaws.{sum_set, one_of}
-
-pub not_true : (b : Bool) → (b ≡ true → ⊥) → b ≡ false
-not_true true h = absurd (h refl)
-not_true false h = refl
 
 pub at_itself : (e : ℕ) → is_at e (Some e) ≡ 1
 at_itself e = ap one_if (eq-eqb e e refl)

@@ -5,6 +5,7 @@ use Rattle.std.proofs.Common.{length, get_or, set, Bool, true, false, cond, true
 use Rattle.std.proofs.Common.{ap, ◌∙◌, subst, ⊎_elim, arith, length-set, get_or-set_same, get_or-set_other, eq-eqb, ne_eqb}
 use Rattle.std.specs.Prelude.{◌==◌}
 use Rattle.std.proofs.lemmas.List.{set-get_or}
+use Rattle.std.proofs.lemmas.Bool.{false_from_ne_true}
 use mathlib.Core.Logic.{dite}
 use mathlib.Core.Option.{none, some}
 use native.Mathlib.Decide.{ℕ_discrete}
@@ -28,7 +29,7 @@ use Rattle.frame_gate.specs.inner.Rule.{Shared, Seat, total, one_if, is_at, role
 use Rattle.frame_gate.specs.inner.Rule.{entries_of, role_seats, seats_of, AreCounted, IsMarked, AreWritten}
 use Rattle.frame_gate.specs.inner.Rule.{HasEpoch, IsUntil, CanHold, AreHeld, Fits, IsKept, Settles, SetsBack, Tracks, WritesFrame}
 use Rattle.frame_gate.proofs.SumLaws.{inside, each_set, sum_snoc, sum_none, none_each}
-use Rattle.frame_gate.proofs.CountLaws.{not_true, at_other, learn_counts, still_counts}
+use Rattle.frame_gate.proofs.CountLaws.{at_other, learn_counts, still_counts}
 use Rattle.frame_gate.proofs.ProcessorLaws.{few_entries, frames_still, frames_later, same_sums, all_past_drained}
 
 module _ (count : ℕ) where
@@ -104,7 +105,7 @@ module _ (count : ℕ) where
       let c = pager_counts s k id me.0 w l fs at is in
       let up = c.epoch in
       let here : i ≡ leave_word k.before = word ∙ ap leave_word (let P : l.epoch - 1 ≡ k.before = omega arith in P) in
-      let kept : l.is_set_back ≡ false = not_true l.is_set_back (λ z. true≢false (sym (c.set_back z).0 ∙ unknown)) in
+      let kept : l.is_set_back ≡ false = false_from_ne_true l.is_set_back (λ z. true≢false (sym (c.set_back z).0 ∙ unknown)) in
       let sum : total (inside_at k.before) s.views + r ≡ l.kept = subst
       (λ (j : ℕ). total (inside_at k.before) s.views + get_or s.words j 0 ≡ l.kept) (sym here) (c.older kept) in
       let sums = sums_at s k id me.0 w l fs at is l' fs refl in

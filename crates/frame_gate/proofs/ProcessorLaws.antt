@@ -5,6 +5,7 @@ use Rattle.std.proofs.Common.{◌++◌, get_or, set, Bool, true, false, cond, tr
 use Rattle.std.proofs.Common.{sym, ap, ◌∙◌, subst, ⊎_elim, arith, length-set, get_or-set_other, eq-eqb, ne_eqb}
 use Rattle.std.specs.Prelude.{◌==◌, is_some}
 use Rattle.std.proofs.lemmas.List.{set-get_or}
+use Rattle.std.proofs.lemmas.Bool.{false_from_ne_true}
 use mathlib.Core.Logic.{dite}
 use mathlib.Core.Option.{none, some, some-injective}
 use native.Mathlib.Decide.{ℕ_discrete}
@@ -26,7 +27,7 @@ use Rattle.frame_gate.specs.inner.Rule.{Shared, Seat, total, one_if, is_at, role
 use Rattle.frame_gate.specs.inner.Rule.{role_seats, seats_of, AreCounted, IsMarked, AreWritten, HasEpoch, IsUntil}
 use Rattle.frame_gate.specs.inner.Rule.{CanHold, AreHeld, Fits, IsPastDrained, IsKept, Enters, Leaves, Meets, Fills, Touches}
 use Rattle.frame_gate.proofs.SumLaws.{each_set, sum_set, sum_below, none_each, one_of}
-use Rattle.frame_gate.proofs.CountLaws.{not_true, at_itself, enter_counts, leave_counts, still_counts}
+use Rattle.frame_gate.proofs.CountLaws.{at_itself, enter_counts, leave_counts, still_counts}
 
 -- the pager's seat is none of the processors'
 pub apart : (views : List View) (i j : ℕ) (x y : View) (l : Ledger) (fs : List Written) (p : Visit) (ps : List Pair)
@@ -165,7 +166,7 @@ leaves_gate count slots id me m e ps is s k _ at fits =
     (λ (t : e ≡ k.before).
     let a : 1 ≤ total (inside_at e) s.views = let b = one_of (inside_at e) s.views id me.0 at in omega arith in
     let a' : 1 ≤ total (inside_at k.before) s.views = subst (λ (y : ℕ). 1 ≤ total (inside_at y) s.views) t a in
-    let kept : l.is_set_back ≡ false = not_true l.is_set_back (λ z. let b = k.counted.empty (k.counted.set_back z).0 in omega arith) in
+    let kept : l.is_set_back ≡ false = false_from_ne_true l.is_set_back (λ z. let b = k.counted.empty (k.counted.set_back z).0 in omega arith) in
     let b : total (inside_at e) s.views + x ≡ l.kept = subst
     (λ (y : ℕ). total (inside_at y) s.views + get_or s.words (leave_word y) 0 ≡ l.kept) (sym t) (k.counted.older kept) in
     let c = k.counted.limited in

@@ -1,13 +1,14 @@
 -- The processor's rules among all.
-use Rattle.std.proofs.Common.{◌≡◌, ◌<◌, ◌⊎◌, inl, inr, ℕ, true, false, refl, sym, subst, arith, List, [], ◌∷◌, ◌++◌, Option, Some, None}
+use Rattle.std.proofs.Common.{◌≡◌, ◌<◌, ◌⊎◌, inl, inr, ℕ, true, false, refl, sym, subst, arith, List, Some}
 use Rattle.sgx_types.proofs.Truths.{tested}
 use Rattle.sgx_rules.specs.declared.entries.Entry.{Entry}
 use Rattle.job_grammar.specs.Jobs.{JobView}
 use Rattle.driver_rules.specs.Scripts.{ScriptRule}
 use Rattle.history_rules.specs.declared.rules.Rule.{Rule}
 use Rattle.history_rules.specs.declared.rules.Rule.TheVariants as rules
-use Rattle.history_rules.specs.Histories.{Before, FailsHere, History, IsPlace, Keeps, RuleSays, Throughout, rank}
+use Rattle.history_rules.specs.Histories.{FailsHere, History, Keeps, RuleSays, rank}
 use Rattle.history_rules.specs.inner.Histories.{is_machines}
+use Rattle.history_rules.proofs.HistoryLaws.{said_at}
 use Rattle.history_machine.specs.Histories.{FailsAmong, FailsFirstAmong, MachineHistory}
 
 pub machines_part : (j : JobView) (past : List Entry) → History j past → MachineHistory j past
@@ -34,16 +35,6 @@ keeps_own j past h rules.Measure own = h.measure
 keeps_own j past h rule own = absurd cc
 
 -- ---- a trace that fails somewhere
-
-said_before : (says : List Entry → Option Entry → Type 0) (later past : List Entry) (e : Entry) → Before says (later ++ e ∷ past)
-    → says past (Some e)
-said_before says [] past e h = h.0
-said_before says (x ∷ later) past e h = said_before says later past e h.1
-
-said_at : (says : List Entry → Option Entry → Type 0) (whole past : List Entry) (next : Option Entry) → IsPlace whole past next
-    → Throughout says whole → says past next
-said_at says whole past None same h = subst (λ p. says p None) same h.0
-said_at says whole past (Some e) cut h = said_before says cut.0 past e (subst (Before says) cut.1 h.1)
 
 pub fails_nowhere : (j : JobView) (whole : List Entry) (place : ℕ) (rule : Rule) → FailsFirstAmong is_machines j whole place rule
     → MachineHistory j whole → ⊥

@@ -6,6 +6,7 @@ use Rattle.job_grammar.specs.Jobs.{JobView}
 use Rattle.script_rules.specs.Machines.{machine_of}
 use Rattle.driver_laws.specs.inner.Driven.{IsDriven}
 use Rattle.driver_rules.specs.Passes.{pass}
+use Rattle.driver_rules.specs.Scripts.{IsEnded}
 use Rattle.driver_laws.specs.inner.Sound.{IsSound}
 use Rattle.driver_laws.specs.inner.Stages.{KeepsPages}
 use Rattle.driver_laws.specs.inner.Three.{IsApart, TcsAreApart}
@@ -63,6 +64,22 @@ shorter j e past h = record {
   kick = (tt, h.kick.1.1);
 }
 
+-- .. and where it is ended, what goes on is a history
+pub ended_history : (j : JobView) (past : List Entry) → GoesOn j past → IsEnded j past → History j past
+ended_history j past on ended = record {
+  script = (ended, on.script);
+  refusal = on.refusal;
+  flat = on.flat;
+  fits = on.fits;
+  stale = on.stale;
+  evict = on.evict;
+  fresh = on.fresh;
+  sealed = on.sealed;
+  measure = on.measure;
+  age = on.age;
+  kick = on.kick;
+}
+
 -- ---- a trace that fails somewhere
 
 said_before : (says : List Entry → Option Entry → Type 0) (later past : List Entry) (e : Entry) → Before says (later ++ e ∷ past)
@@ -70,7 +87,7 @@ said_before : (says : List Entry → Option Entry → Type 0) (later past : List
 said_before says [] past e h = h.0
 said_before says (x ∷ later) past e h = said_before says later past e h.1
 
-said_at : (says : List Entry → Option Entry → Type 0) (whole past : List Entry) (next : Option Entry) → IsPlace whole past next
+pub said_at : (says : List Entry → Option Entry → Type 0) (whole past : List Entry) (next : Option Entry) → IsPlace whole past next
     → Throughout says whole → says past next
 said_at says whole past None same h = subst (λ p. says p None) same h.0
 said_at says whole past (Some e) cut h = said_before says cut.0 past e (subst (Before says) cut.1 h.1)
@@ -91,7 +108,8 @@ placed_along : (rule : List Entry → Entry → Type 0) (P : List Entry → Type
 placed_along rule P [] h = tt
 placed_along rule P (e ∷ past) h = (h.0.0, placed_along rule P past h.1)
 
-script_along : (j : JobView) (past : List Entry) → Before (RuleSays j rules.Script) past → Along (λ p e. RuleSays j rules.Script p (Some e)) past
+script_along : (j : JobView) (past : List Entry) → Before (RuleSays j rules.Script) past
+    → Along (λ p e. RuleSays j rules.Script p (Some e)) past
 script_along j [] h = tt
 script_along j (e ∷ past) h = (h.0, script_along j past h.1)
 

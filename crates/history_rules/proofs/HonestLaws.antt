@@ -4,7 +4,7 @@ use Rattle.std.proofs.Common.{◌∷◌, Option, Some, None, is_some}
 use Rattle.std.proofs.lemmas.Bool.{eqb-true, eq-eqb, false≢true}
 use Rattle.sgx_types.proofs.Pages.{same_page-refl, same_pages}
 use Rattle.sgx_rules.specs.declared.entries.Action.{Action}
-use Rattle.sgx_rules.specs.declared.entries.Action.TheVariants.{Create, Add, Epa, Init, Aex, Store, Xadd, Ewb, EldStart, Eld}
+use Rattle.sgx_rules.specs.declared.entries.Action.TheVariants.{Create, Add, Epa, Init, Ewb, EldStart, Eld}
 use Rattle.sgx_types.specs.declared.names.Actor.{Actor}
 use Rattle.sgx_types.specs.declared.names.Actor.TheVariants as actors
 use Rattle.sgx_rules.specs.declared.entries.Answer.{Answer}
@@ -19,10 +19,8 @@ use Rattle.sgx_types.specs.declared.names.Frame.{Frame}
 use Rattle.sgx_types.specs.declared.names.Page.{Page}
 use Rattle.sgx_types.specs.declared.names.VaSlot.{VaSlot}
 use Rattle.sgx_rules.specs.inner.Enclaves.{EnclavesAreFlat, created, created_by}
-use Rattle.sgx_rules.specs.Flat.{FlatEnclave, FlatMemory, Inside, accepts, cpu_after, event_after, flat, memory_after}
-use Rattle.sgx_rules.specs.Flat.{saved}
+use Rattle.sgx_rules.specs.Flat.{FlatEnclave, FlatMemory, accepts, event_after, flat, memory_after}
 use Rattle.sgx_rules.specs.PageBytes.{header_at}
-use Rattle.sgx_rules.specs.Flat.{stored, sum_of, word_seen}
 use Rattle.sgx_types.specs.Pages.{page_at, same_page, secs_page, va_page}
 use Rattle.sgx_rules.specs.Frames.{Free, content, is_this, vas_made}
 use Rattle.sgx_rules.specs.Rules.{Along, FlatRule}
@@ -31,7 +29,7 @@ use Rattle.sgx_types.specs.Sealed.{Sealed}
 use Rattle.sgx_rules.specs.Starts.{Start, open_start}
 use Rattle.sgx_rules.specs.Slots.{open_slot}
 use Rattle.sgx_rules.specs.Table.{is_loading}
-use Rattle.machine_copies.proofs.FlatLaws.{added_flat, header_kept}
+use Rattle.machine_copies.proofs.FlatLaws.{added_flat, header_kept, cpu_enclaves}
 use Rattle.backing_store.specs.Calls.{Call, Failed, Given, Got, Nothing, Put, Room}
 use Rattle.driver_rules.specs.Places.{Absent, Away, Here, Leaving, Loading, Place, after_look, back_from, comes_into, gone_to, place}
 use Rattle.driver_rules.specs.Places.{place_after}
@@ -345,25 +343,6 @@ honest_before (Bus page reasons.NoRecord) calls h = shorter calls h
 honest_before event calls h = h
 
 -- ---- enclaves and pages
-
-cpu_enclaves : (p : ℕ) (action : Action) (m : FlatMemory) → (cpu_after p action m).enclaves ≡ m.enclaves
-cpu_enclaves p (Aex cause) m = by_inside (m.cpus p).inside
-  where
-    by_inside : (inside : Option Inside) → (saved m (m.cpus p).acc inside).enclaves ≡ m.enclaves
-    by_inside None = refl
-    by_inside (Some i) = refl
-cpu_enclaves p (Store off value) m = by_inside (m.cpus p).inside
-  where
-    by_inside : (inside : Option Inside) → (stored m inside off value).enclaves ≡ m.enclaves
-    by_inside None = refl
-    by_inside (Some i) = refl
-cpu_enclaves p (Xadd off value) m = by_inside (m.cpus p).inside
-  where
-    by_inside : (inside : Option Inside)
-        → (stored m inside off (sum_of (word_seen m (m.cpus p).inside off) value)).enclaves ≡ m.enclaves
-    by_inside None = refl
-    by_inside (Some i) = refl
-cpu_enclaves p action m = refl
 
 -- an instruction that makes or initialises an enclave
 abbrev makes_enclave : Action → Bool

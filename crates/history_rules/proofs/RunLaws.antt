@@ -22,7 +22,8 @@ use Rattle.history_rules.specs.Stored.{StoreCalls, StoreTrue}
 abbrev TellsUpTo : List Made → GivenRecord → Type 0
 TellsUpTo records one = one.made ≤ length records
 
-looked_early : (start : Option Start) (records : List Made) (rec : Option Sealed) → All (TellsUpTo records) (record_looked_at start records rec)
+looked_early : (start : Option Start) (records : List Made) (rec : Option Sealed)
+    → All (TellsUpTo records) (record_looked_at start records rec)
 looked_early None records rec = All-nil _
 looked_early (Some start) records None = All-nil _
 looked_early (Some start) records (Some rec) = All-push (TellsUpTo records) [] _ (All-nil _) (omega arith)

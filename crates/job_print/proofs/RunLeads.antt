@@ -1,12 +1,13 @@
 -- The store lines and the scripts of a valid job have no fault where they stand.
 use Rattle.std.proofs.Common.{◌≡◌, ℕ, zero, suc, ◌+◌, ◌/◌, ◌%◌, ◌^◌, ◌<◌, ◌≤◌, ◌==◌, ◌&&◌}
-use Rattle.std.proofs.Common.{◌||◌, ◌⊎◌, nat_le, nat_lt, Bool, true, false, List, [], ◌∷◌, ◌++◌, Option, Some, None}
+use Rattle.std.proofs.Common.{◌||◌, nat_le, nat_lt, Bool, true, false, List, [], ◌∷◌, ◌++◌, Option, Some, None}
 use Rattle.std.proofs.Common.{is_some, map, length, sum_by, All, refl, sym, ap, subst, ◌∙◌, arith, inl, inr}
 use Rattle.std.specs.List.{list_any}
-use Rattle.std.proofs.lemmas.Bool.{and_from, and_parts, eq-eqb, eqb-true, le-leb, le-ltb, lt-ltb, ltb-true}
+use Rattle.std.proofs.lemmas.Bool.{and_from, and_parts, eq-eqb, eqb-true, le-leb, le-ltb, lt-ltb, ltb-true, or_right}
 use Rattle.std.proofs.lemmas.List.{append-nil, length-append}
 use Rattle.std.proofs.lemmas.List.Elements.{All-head, All-tail}
 use Rattle.sgx_types.specs.declared.names.Page.{Page}
+use Rattle.sgx_types.proofs.Truths.{either}
 use Rattle.text_words.specs.inner.Reading.{IsLetter}
 use Rattle.io_edges.specs.declared.plans.PlanLine.{PlanLine}
 use Rattle.io_edges.specs.declared.plans.PlanLine.TheVariants as kept_plans
@@ -37,16 +38,8 @@ use Rattle.job_print.proofs.PartLaws.{any-part, no-script, not-true, or-false, s
 
 -- ---- tests
 
-or-cases : (a b : Bool) → (a || b) ≡ true → (a ≡ true) ⊎ (b ≡ true)
-or-cases true b e = inl refl
-or-cases false b e = inr e
-
 or-left : (a b : Bool) → a ≡ true → (a || b) ≡ true
 or-left a b e = rw e refl
-
-or-right : (a b : Bool) → b ≡ true → (a || b) ≡ true
-or-right true b e = refl
-or-right false b e = e
 
 -- ---- names of pages and enclaves
 
@@ -74,7 +67,7 @@ covered-small : (pages_here : ℕ) (lines : List PageLine) (n : ℕ) → pages_h
     → list_any (covers n) lines ≡ true → n < 2 ^ 24
 covered-small most [] n small valid any = absurd cc
 covered-small most (line ∷ lines) n small valid any =
-    elim (or-cases (covers n line) (list_any (covers n) lines) any) [
+    elim (either (covers n line) (list_any (covers n) lines) any) [
       | inl here ↦ at_line line (All-head (IsValidLine most) line lines valid) here
       | inr later ↦ covered-small most lines n small (All-tail (IsValidLine most) line lines valid) later
     ]
@@ -99,9 +92,9 @@ added-small (e ∷ es) (suc (suc k)) n valid any = added-small es (suc k) n (All
 any-weaker : (n : ℕ) (lines : List PageLine) → is_tcs_page lines n ≡ true → list_any (covers n) lines ≡ true
 any-weaker n [] any = absurd cc
 any-weaker n (line ∷ lines) any =
-    elim (or-cases (is_tcs_line line && covers n line) (is_tcs_page lines n) any) [
+    elim (either (is_tcs_line line && covers n line) (is_tcs_page lines n) any) [
       | inl here ↦ or-left (covers n line) _ ((and_parts _ _ here).1)
-      | inr later ↦ or-right (covers n line) _ (any-weaker n lines later)
+      | inr later ↦ or_right (covers n line) _ (any-weaker n lines later)
     ]
 
 module _ (j : JobView) (valid : IsValid j) where

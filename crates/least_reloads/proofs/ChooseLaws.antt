@@ -8,7 +8,7 @@ use Rattle.std.specs.declared.cmp.Ordering.TheVariants.{Less, Equal, Greater}
 use Rattle.std.specs.Map.{lookup}
 use Rattle.std.specs.BTreeMap.{is_at}
 use Rattle.std.proofs.lemmas.Cmp.{ranked}
-use Rattle.std.proofs.lemmas.Bool.{false≢true, false_from_ne_true}
+use Rattle.std.proofs.lemmas.Bool.{false≢true, false_from_ne_true, and_right}
 use Rattle.std.proofs.lemmas.List.{length-append, append-nil}
 use Rattle.sgx_types.specs.declared.names.Page.{Page}
 use Rattle.sgx_types.specs.Pages.{same_page}
@@ -101,14 +101,10 @@ chosen_swap frames i page coming pages look look' count count' j old holds keeps
       best = Swap old absent (omega (arith, keeps.size, full)) held (last_goes i page coming pages look count j old keeps absent is last);
       others = without old pages;
       keeps = keeps_without i (page ∷ coming) pages look look' count count' j old keeps holds.distinct is changes less;
-      absent = in_without old pages page ∙ and_absent (not (same_page page old || false)) (has pages page) absent;
+      absent = in_without old pages page ∙ and_right (not (same_page page old || false)) (has pages page) absent;
       same = λ p. refl;
       size = length-append (without old pages) (page ∷ []);
     }
-  where
-    and_absent : (a b : Bool) → b ≡ false → (a && b) ≡ false
-    and_absent true b h = h
-    and_absent false b h = refl
 
 -- ---- what the calls of a map say
 abbrev pub step_of : List Page → List Page → StepView

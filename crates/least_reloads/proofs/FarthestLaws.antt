@@ -26,7 +26,8 @@ all_kept [] load = refl
 all_kept (h ∷ held) load = ap (λ l. h ∷ l) (all_kept held load)
 
 -- a step of any plan makes room for at most what it loads
-soon-after : (t : ℕ) (coming held : List Page) (step : StepView) → soon t coming (held_behind held step) ≤ soon t coming held + length step.load
+soon-after : (t : ℕ) (coming held : List Page) (step : StepView)
+    → soon t coming (held_behind held step) ≤ soon t coming held + length step.load
 soon-after t coming held step =
     omega (
       arith,

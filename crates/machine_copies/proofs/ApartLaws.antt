@@ -1,15 +1,10 @@
 -- No page comes to stand in two frames, where what a frame comes to hold or a start to load was away.
-use Rattle.std.proofs.Common.{◌≡◌, ℕ, ◌==◌, Bool, true, false, cond, refl, sym, ◌∙◌, Option, None}
-use Rattle.std.proofs.lemmas.Bool.{cond_both, false≢true, eqb-true, eq-eqb}
+use Rattle.std.proofs.Common.{◌≡◌, ℕ, ◌==◌, true, false, cond, refl, sym, ◌∙◌, Option, None}
+use Rattle.std.proofs.lemmas.Bool.{cond_both, false≢true, eqb-true, eq-eqb, false_from_ne_true}
 use Rattle.sgx_types.specs.declared.names.Page.{Page}
 use Rattle.sgx_rules.specs.Frames.{Content, stands}
 use Rattle.sgx_rules.specs.Starts.{Start}
 use Rattle.sgx_rules.specs.inner.Starts.{is_load_of}
-
--- a test that cannot succeed fails
-pub never : (b : Bool) → (b ≡ true → ⊥) → b ≡ false
-never true h = absurd (h refl)
-never false h = refl
 
 -- ---- one frame's content or start changes
 
@@ -37,7 +32,7 @@ put_apart held starts f c away h = record {
       cond_both (f == n) c (held n) (λ v. stands v g ≡ true → m ≡ n)
       (λ _ there. absurd (false≢true (sym (away g there m).0 ∙ here))) (λ _ there. h.once m n g here there));
   frames = λ m n g loads. cond_both (f == n) c (held n) (λ v. stands v g ≡ false)
-      (λ _. never (stands c g) (λ here. false≢true (sym (away g here m).1 ∙ loads))) (λ _. h.frames m n g loads);
+      (λ _. false_from_ne_true (stands c g) (λ here. false≢true (sym (away g here m).1 ∙ loads))) (λ _. h.frames m n g loads);
   loads = h.loads;
 }
 
@@ -65,5 +60,5 @@ pub loaded_away : (held : ℕ → Content) (starts : ℕ → Option Start) (f : 
 loaded_away held starts f g loads h n = (
   h.frames f n g loads,
   cond_both (f == n) None (starts n) (λ v. is_load_of v g ≡ false) (λ _. refl)
-      (λ other. never (is_load_of (starts n) g) (λ too. false≢true (sym other ∙ eq-eqb f n (h.loads f n g loads too)))),
+      (λ other. false_from_ne_true (is_load_of (starts n) g) (λ too. false≢true (sym other ∙ eq-eqb f n (h.loads f n g loads too)))),
 )

@@ -133,7 +133,7 @@ after_stored m None off value = refl
 after_stored m (Some i) off value = refl
 
 -- .. and each instruction of a processor
-cpu_enclaves : (p : ℕ) (action : Action) (m : FlatMemory) → (cpu_after p action m).enclaves ≡ m.enclaves
+pub cpu_enclaves : (p : ℕ) (action : Action) (m : FlatMemory) → (cpu_after p action m).enclaves ≡ m.enclaves
 cpu_enclaves p (Aex cause) m = after_saved (m.cpus p).acc (m.cpus p).inside
   where
     after_saved : (acc : ℕ) (inside : Option Inside) → (saved m acc inside).enclaves ≡ m.enclaves

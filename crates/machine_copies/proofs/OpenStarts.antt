@@ -1,9 +1,9 @@
 -- Facts on lists, and on the open start of a frame.
-use Rattle.std.proofs.Common.{◌≡◌, ℕ, ◌<◌, ◌==◌, Bool, true, false, cond, refl, sym, ◌∙◌, Option, Some, None, List}
-use Rattle.std.proofs.Common.{[], ◌∷◌, ◌++◌, length, ◌⊎◌, inl, inr, ⊎_elim, subst, Any, zero, suc, arith}
+use Rattle.std.proofs.Common.{◌≡◌, ℕ, ◌==◌, Bool, true, false, cond, refl, sym, ◌∙◌, Option, Some, None, List}
+use Rattle.std.proofs.Common.{[], ◌∷◌, ◌++◌, ◌⊎◌, inl, inr, ⊎_elim, subst, Any, zero, suc, arith}
 use Rattle.std.proofs.lemmas.Bool.{eq-eqb, false≢true}
-use Rattle.std.proofs.lemmas.List.{length-append, get_or_append_left}
 use Rattle.sgx_types.specs.declared.names.Actor.{Actor}
+use Rattle.sgx_types.proofs.Lists.{Any-front}
 use Rattle.sgx_rules.specs.declared.entries.Entry.{Entry}
 use Rattle.sgx_rules.specs.declared.entries.Event.{Event}
 
@@ -34,12 +34,6 @@ any_last P [] x any = inr (elim (any_cases P x [] any) as (λ _. P x) [ inl p �
     none_there (k, y, low, here, p) = omega arith
 any_last P (y ∷ xs) x any = ⊎_elim (λ p. inl (any_head P y xs p))
     (λ more. ⊎_elim (λ inside. inl (any_rest P y xs inside)) inr (any_last P xs x more)) (any_cases P y (xs ++ x ∷ []) any)
-
--- what is of a list is of a longer one
-pub any_front : {X : Type 0} (P : X → Type 0) (xs ys : List X) → Any P xs → Any P (xs ++ ys)
-any_front P xs ys (k, x, low, here, holds) =
-    let longer : k < length (xs ++ ys) = omega (arith, length-append xs ys) in
-    (k, x, longer, get_or_append_left xs ys x k low ∙ here, holds)
 
 -- ---- open starts
 

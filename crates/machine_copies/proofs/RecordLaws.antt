@@ -20,12 +20,13 @@ use Rattle.seal_record.specs.Cipher.{tag, sealed}
 use Rattle.seal_record.specs.Records.{Made}
 use Rattle.sgx_rules.specs.Fresh.{Out, last_out}
 use Rattle.sgx_types.specs.Making.{Making}
+use Rattle.sgx_types.proofs.Lists.{Any-front}
 use Rattle.machine_copies.specs.inner.Once.{DrawnOnce, Gone, IsGone, IsLastMade, IsMade, IsOfPage, KeepsMoves, MadeOnce, gone}
 use Rattle.seal_record.specs.Sealing.{IsSealed, SealedRule, made_with, record_at}
 use Rattle.seal_record.specs.inner.Sealing.{made_by, more_made}
 use Rattle.machine_copies.proofs.DrawnLaws.{drawn_once, keeps_before}
 use Rattle.machine_copies.proofs.FlatLaws.{header_kept}
-use Rattle.machine_copies.proofs.OpenStarts.{any_front, any_head, any_last, any_rest, ended_cases, entry_of, opened_cases}
+use Rattle.machine_copies.proofs.OpenStarts.{any_head, any_last, any_rest, ended_cases, entry_of, opened_cases}
 
 -- a record of a page stays one, whatever is done
 still_of_page : (key : List ℕ) (past : List Entry) (actor : Actor) (event : Event)
@@ -93,7 +94,7 @@ module _ (first : ℕ) (key : List ℕ) (past : List Entry) (actor : Actor) (f :
 
   -- what was made before is made still
   made_still : (one : Made) → IsMade key past one → IsMade key after one
-  made_still one is = subst (Any (λ other. other ≡ one)) (sym one_more) (any_front (λ other. other ≡ one) (made_by key past) (new ∷ []) is)
+  made_still one is = subst (Any (λ other. other ≡ one)) (sym one_more) (Any-front (λ other. other ≡ one) (made_by key past) (new ∷ []) is)
 
   -- .. and so is the new one
   new_made : IsMade key after new

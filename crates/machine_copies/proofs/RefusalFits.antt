@@ -2,7 +2,7 @@
 -- EPC, what takes a frame takes a free one, and no page comes to stand in two frames.
 use Rattle.std.proofs.Common.{◌≡◌, ℕ, ◌<◌, ◌==◌, ◌||◌, not, Bool, true, false, cond, leb, ltb, refl, sym, ap, ◌∙◌}
 use Rattle.std.proofs.Common.{subst, Option, Some, None, is_some, List, [], ◌∷◌, length}
-use Rattle.std.proofs.lemmas.Bool.{cond_both, eqb-true, false≢true, leb-false}
+use Rattle.std.proofs.lemmas.Bool.{cond_both, eqb-true, false≢true, leb-false, false_from_ne_true}
 use Rattle.sgx_rules.specs.declared.entries.Action.{Action}
 use Rattle.sgx_rules.specs.declared.entries.Action.TheVariants.{Epa, Create, Add, Extend, Enter, Resume, Fill, Block, EwbStart}
 use Rattle.sgx_rules.specs.declared.entries.Action.TheVariants.{Ewb}
@@ -37,9 +37,9 @@ use Rattle.sgx_types.specs.Lawful.{is_enclave, is_lawful}
 use Rattle.sgx_rules.specs.Table.{EnclaveSight, SecsSight, add_row, fill_row, is_busy}
 use Rattle.sgx_rules.proofs.Contents.{free_there}
 use Rattle.sgx_types.proofs.Pages.{same_page-refl, same_pages}
-use Rattle.sgx_rules.proofs.Rows.{NoneHolds, none_holds}
+use Rattle.sgx_rules.proofs.Rows.{NoneHolds, none_holds, start_names}
 use Rattle.sgx_types.proofs.Truths.{neither, not_false}
-use Rattle.machine_copies.proofs.ApartLaws.{IsApart, IsAway, loaded_away, never, put_apart, start_apart}
+use Rattle.machine_copies.proofs.ApartLaws.{IsApart, IsAway, loaded_away, put_apart, start_apart}
 use Rattle.machine_copies.proofs.CopyLaws.{reloaded_there}
 use Rattle.machine_copies.proofs.OpenStarts.{entry_of}
 use Rattle.machine_copies.proofs.StartLaws.{add_free, starts_by_rows}
@@ -59,12 +59,6 @@ fill_within : (number frames : ℕ) (past : List Entry) (o : Option ℕ) (f : �
     → f < frames
 fill_within number frames past None f row = absurd (false≢true (sym row.0))
 fill_within number frames past (Some enclave) f row = leb-false _ _ row.0
-
--- the two frames of a start
-start_names : (frames f slot : ℕ) (other : Bool) → ((leb frames f || leb frames slot) || other) ≡ false → (f < frames) × (slot < frames)
-start_names frames f slot other within =
-    let both = neither (leb frames f) (leb frames slot) (neither (leb frames f || leb frames slot) other within).0 in
-    (leb-false _ _ both.0, leb-false _ _ both.1)
 
 -- an instruction that ends a start
 abbrev is_end : Action → Bool
@@ -124,7 +118,7 @@ module _ (frames : ℕ) (there : Page → Bool) (held : ℕ → Content) (starts
     within = h.within;
     known = λ g new n. (
       cond_both (f == n) c (held n) (λ v. stands v g ≡ false)
-          (λ _. never (stands c g) (λ here. false≢true (sym new ∙ (out g here).is))) (λ _. (h.known g new n).0),
+          (λ _. false_from_ne_true (stands c g) (λ here. false≢true (sym new ∙ (out g here).is))) (λ _. (h.known g new n).0),
       (h.known g new n).1,
     );
   }
@@ -140,7 +134,7 @@ module _ (frames : ℕ) (there : Page → Bool) (held : ℕ → Content) (starts
     known = λ g new n. (
       (h.known g new n).0,
       cond_both (f == n) o (starts n) (λ v. is_load_of v g ≡ false)
-          (λ _. never (is_load_of o g) (λ here. false≢true (sym new ∙ (out g here).is))) (λ _. (h.known g new n).1),
+          (λ _. false_from_ne_true (is_load_of o g) (λ here. false≢true (sym new ∙ (out g here).is))) (λ _. (h.known g new n).1),
     );
   }
 
@@ -156,7 +150,7 @@ record KeepsFrames (frames : ℕ) (past : List Entry) : Type 0 where
 
 -- what is not there after an entry was not there before it
 not_before : (past : List Entry) (e : Entry) (g : Page) → is_there (e ∷ past) g ≡ false → is_there past g ≡ false
-not_before past e g none = never (is_there past g) (λ is. false≢true (sym none ∙ there_still past e g is))
+not_before past e g none = false_from_ne_true (is_there past g) (λ is. false≢true (sym none ∙ there_still past e g is))
 
 -- the frames before an entry, by what is there after it
 shifted : (frames : ℕ) (past : List Entry) (e : Entry) → KeepsFrames frames past

@@ -2,7 +2,7 @@
 use Rattle.std.proofs.Common.{◌≡◌, ℕ, zero, suc, ◌<◌, ◌==◌, Bool, true, false, cond, not, refl, sym, ap, ◌∙◌, subst}
 use Rattle.std.proofs.Common.{Option, Some, None, List, [], ◌∷◌, length, ◌||◌, ◌&&◌, nat_le, nat_lt, ◌⊎◌, inl, inr}
 use Rattle.std.proofs.Common.{⊎_elim, arith}
-use Rattle.std.proofs.lemmas.Bool.{cond_both, eqb-true, eq-eqb, false≢true, leb-false}
+use Rattle.std.proofs.lemmas.Bool.{cond_both, eqb-true, eq-eqb, false≢true, leb-false, or_right}
 use Rattle.sgx_rules.specs.declared.entries.Action.TheVariants.{Epa, Create, Add, EwbStart, Ewb, EldStart, Eld}
 use Rattle.sgx_types.specs.declared.names.Actor.{Actor}
 use Rattle.sgx_rules.specs.declared.entries.Answer.{Answer}
@@ -264,12 +264,8 @@ idle_stays frames past at slot low held idle = by_test (is_sealing past at.frame
     by_test true is =
         absurd (false≢true (sym idle ∙ any_below-some (λ n. names_slot (open_slot past n) slot || takes_out past slot.va n) frames
         at.frame.0 low
-        (right_true (names_slot (open_slot past at.frame.0) slot) (takes_out past slot.va at.frame.0)
+        (or_right (names_slot (open_slot past at.frame.0) slot) (takes_out past slot.va at.frame.0)
         (ap (λ c. is_va_of c slot.va && is_sealing past at.frame.0) held ∙ rw (eq-eqb slot.va slot.va refl) is))))
-      where
-        right_true : (a b : Bool) → b ≡ true → (a || b) ≡ true
-        right_true true b h = refl
-        right_true false b h = h
 
 -- no open start found its slot in a version array page without a busy slot
 unused_elsewhere : (frames : ℕ) (past : List Entry) (f : ℕ) → StartsApart frames past → is_in_use frames past (content past f) ≡ false

@@ -1,10 +1,9 @@
 -- Which pages there are, by the entries and by what rows see: an instruction is done exactly where its row allows it, so flat memory
 -- has what was made, and nothing is made twice.
-use Rattle.std.proofs.Common.{◌≡◌, ℕ, ◌+◌, ◌/◌, ◌<◌, ◌≤◌, ◌^◌, ◌==◌, ◌&&◌, ◌||◌, not, Bool, true, false, cond, refl, sym, ap, ◌∙◌}
+use Rattle.std.proofs.Common.{◌≡◌, ℕ, ◌+◌, ◌/◌, ◌<◌, ◌==◌, ◌&&◌, ◌||◌, not, Bool, true, false, cond, refl, sym, ap, ◌∙◌}
 use Rattle.std.proofs.Common.{subst, Option, Some, None, is_some, is_none, List, [], ◌∷◌, nat_le, nat_lt, leb, ltb}
 use Rattle.std.proofs.Common.{arith}
-use Rattle.std.proofs.lemmas.Bool.{eqb-true, eqb-false, eq-eqb, false≢true, ltb-true, lt-ltb, leb-true}
-use Rattle.std.specs.Int.{is_power_of_two}
+use Rattle.std.proofs.lemmas.Bool.{eqb-true, eqb-false, eq-eqb, false≢true, ltb-true, lt-ltb, leb-true, false_from_ne_true}
 use Rattle.sgx_rules.specs.declared.entries.Action.TheVariants.{Epa, Create, Add, Init}
 use Rattle.sgx_types.specs.declared.names.Actor.{Actor}
 use Rattle.sgx_rules.specs.declared.entries.Answer.{Answer}
@@ -31,6 +30,7 @@ use Rattle.sgx_rules.specs.Table.{EnclaveSight, FrameSight, SecsSight, add_row, 
 use Rattle.sgx_types.proofs.Pages.{same_page-refl}
 use Rattle.sgx_rules.proofs.Rows.{NoneHolds, none_holds, none_refused}
 use Rattle.sgx_types.proofs.Truths.{apart, both_true, neither, not_false}
+use Rattle.sgx_types.proofs.LawfulLaws.{few_pages}
 use Rattle.machine_copies.proofs.FlatLaws.{TakesBuilds, added_next, created_next}
 use Rattle.machine_copies.proofs.OpenStarts.{entry_of}
 
@@ -191,12 +191,8 @@ marked_there past a enclave expect answer g =
 pub nothing_there : (g : Page) → is_there [] g ≡ false
 nothing_there g = by_name (is_va_page g) (is_secs_page g)
   where
-    never : (b : Bool) → (b ≡ true → ⊥) → b ≡ false
-    never true h = absurd (h refl)
-    never false h = refl
-
     by_name : (va secs : Bool) → cond va (nat_lt g.number 0) (cond secs false false) ≡ false
-    by_name true secs = never (nat_lt g.number 0) (λ low. omega (arith, ltb-true g.number 0 low))
+    by_name true secs = false_from_ne_true (nat_lt g.number 0) (λ low. omega (arith, ltb-true g.number 0 low))
     by_name false true = refl
     by_name false false = refl
 
@@ -248,15 +244,11 @@ pub record Makes (past : List Entry) (e : Entry) (new : Page) : Type 0 where
 pub epa_makes : (past : List Entry) (a : Actor) (f : Frame) (answer : Answer)
     → Makes past (entry_of a (Did (Epa f) answer)) (va_page (vas_made past))
 epa_makes past a f answer = record {
-  fresh = none (ltb (vas_made past) (vas_made past)) (λ k. let low = ltb-true (vas_made past) (vas_made past) k in omega (arith, low));
+  fresh = false_from_ne_true (ltb (vas_made past) (vas_made past)) (λ k. let low = ltb-true (vas_made past) (vas_made past) k in omega (arith, low));
   there = lt-ltb (vas_made past) (vas_made past + 1) (omega arith);
   others = λ h. by_name h (h.enclave == 0) refl;
 }
   where
-    none : (b : Bool) → (b ≡ true → ⊥) → b ≡ false
-    none true h = absurd (h refl)
-    none false h = refl
-
     by_name : (h : Page) (va : Bool) → (h.enclave == 0) ≡ va
         → cond va (nat_lt h.number (vas_made past + 1))
         (cond (not va && (h.number == SECS_NUMBER)) (is_some (created past h.enclave)) (is_some (added past h))) ≡ true
@@ -332,14 +324,6 @@ adds_within number kind perm init (Some x) secs is_added s row = record {
         ltb-true number (x.size / 4096)
         (both_true (nat_lt number (x.size / 4096)) (nat_le (ossa + nssa) (x.size / 4096))
         (both_true (nat_lt number (x.size / 4096) && nat_le (ossa + nssa) (x.size / 4096)) (not (nssa == 0)) is).0).0
-
--- an enclave has at most 4096 pages
-few_pages : (base size : ℕ) → is_lawful base size ≡ true → size / 4096 ≤ 4096
-few_pages base size is =
-    let lawful = (both_true (is_power_of_two size && nat_le 8192 size && nat_le size (2 ^ 24)) _ is).0 in
-    let low : size ≤ 2 ^ 24 = leb-true size (2 ^ 24)
-    (both_true (is_power_of_two size && nat_le 8192 size) (nat_le size (2 ^ 24)) lawful).1 in
-    omega (arith, low)
 
 -- an added page is of an enclave, and not its SECS
 record IsOwn (enclave number : ℕ) : Type 0 where

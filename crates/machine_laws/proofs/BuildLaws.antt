@@ -17,13 +17,12 @@ use Rattle.sgx_rules.specs.Frames.{Content, Free, IsVa, SecsOf, Holds, content}
 use Rattle.sgx_types.specs.Lawful.{is_enclave, is_lawful}
 use Rattle.sgx_rules.specs.Table.{FrameSight, is_busy, is_valid, epa_row, create_row, add_row, EnclaveSight, SecsSight}
 use Rattle.sgx_types.specs.Cases.{first_of_row}
-use Rattle.sgx_rules.specs.Table.{init_row}
 use Rattle.sgx_rules.specs.Flat.{FlatEnclave, FlatPage, FlatMemory, added_as, flat, open_frame, enclave_sight_of, first_words}
 use Rattle.sgx_rules.specs.Flat.{with_page}
 use Rattle.sgx_rules.specs.Flat.{as_initialised, settled}
 use Rattle.sgx_types.specs.Layouts.{flags_of}
 use Rattle.sgx_rules.proofs.Contents.{free_there}
-use Rattle.sgx_rules.proofs.Rows.{none_holds, none_refused}
+use Rattle.sgx_rules.proofs.Rows.{none_holds, none_refused, init_open}
 use Rattle.sgx_types.proofs.Truths.{neither}
 use Rattle.sgx_types.proofs.Pages.{same_page-at, same_pages}
 use Rattle.measure_log.specs.declared.measure.Measure.{Measure}
@@ -242,14 +241,6 @@ add_brings s past a enclave number f kind perm init longer allowed takes stands 
     }
 
 -- ---- init
-
--- the row of `init`, with a SECS that is in
-pub init_open : (o : Option EnclaveSight) (secs : SecsSight) → first_of_row (init_row o secs) ≡ None
-    → first_of_row (init_row o settled) ≡ None
-init_open None secs allowed = cc allowed
-init_open (Some enclave) secs allowed =
-    let none = none_holds (init_row (Some enclave) secs) allowed in
-    none_refused (init_row (Some enclave) settled) (refl, (refl, (none.1.1.0, tt)))
 
 pub init_brings : (s : State) (past : List Entry) (a : Actor) (enclave : ℕ) (expect : Option (List ℕ)) (digest : List ℕ)
     → first_of_row (row_of s a (Init enclave expect)) ≡ None → MeasureRule past (did_by a (Init enclave expect) (Hash digest))

@@ -61,7 +61,8 @@ module _ (k : Making) (past : List Entry) (a : Actor) (e : ℕ) (refusals : Alon
       subst (λ r. digest_after (Did (Init other expect) r) e (digest_of past e) ≡ measurement past e) (sym measure.0)
       (by_test (other == e) refl (e == other) refl is)
     where
-      by_test : (b : Bool) → (other == e) ≡ b → (d : Bool) → (e == other) ≡ d → cond d (as_initialised (created past e)) (created past e) ≡ Some x
+      by_test : (b : Bool) → (other == e) ≡ b → (d : Bool) → (e == other) ≡ d
+          → cond d (as_initialised (created past e)) (created past e) ≡ Some x
           → cond b (measurement past other) (digest_of past e) ≡ measurement past e
       by_test true same d other_way made = ap (measurement past) (eqb-true other e same)
       by_test false not_this true same made = absurd (false≢true (sym not_this ∙ eq-eqb other e (sym (eqb-true e other same))))

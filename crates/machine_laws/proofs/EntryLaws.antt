@@ -62,7 +62,8 @@ pub record Enters (enclave tcs : ℕ) (v : EnterSight) (saves : Case Refusal) (s
   pub ssa_open : v.ssa.is_blocked ≡ false
   pub ssa_perm : not (allows_update (perm_in v.ssa.content)) ≡ false
 
-pub enters : (enclave tcs : ℕ) (v : EnterSight) (saves : Case Refusal) (saved : ℕ) → first_of_row (entry_row enclave tcs v saves saved) ≡ None
+pub enters : (enclave tcs : ℕ) (v : EnterSight) (saves : Case Refusal) (saved : ℕ)
+    → first_of_row (entry_row enclave tcs v saves saved) ≡ None
     → Enters enclave tcs v saves saved
 enters enclave tcs v saves saved allowed =
     let none = none_holds (entry_row enclave tcs v saves saved) allowed in
@@ -169,7 +170,8 @@ usable_there {c} {sealing} holds idle = record { ours = rw holds refl; settled =
 abbrev pub by_fields : (TcsSight → Case Refusal) → (TcsSight → ℕ) → ℕ → ℕ → EnterSight → Row
 by_fields saves saved enclave tcs v = entry_row enclave tcs v (saves v.fields) (saved v.fields)
 
-pub record FindsPages (s : State) (past : List Entry) (p : ℕ) (seat : Seat) (saves : TcsSight → Case Refusal) (saved : TcsSight → ℕ) : Type 0 where
+pub record FindsPages (s : State) (past : List Entry) (p : ℕ) (seat : Seat) (saves : TcsSight → Case Refusal)
+    (saved : TcsSight → ℕ) : Type 0 where
   pub needs : Enters seat.enclave seat.tcs (enter_sight s p seat) (saves (tcs_fields (s.words seat.tcs_frame)))
       (saved (tcs_fields (s.words seat.tcs_frame)))
   pub tcs : IsKindOf (s.content seat.tcs_frame) (page_at seat.enclave seat.tcs) kinds.Tcs
@@ -182,7 +184,8 @@ pub record FindsPages (s : State) (past : List Entry) (p : ℕ) (seat : Seat) (s
   pub by_flat : first_of_row (by_fields saves saved seat.enclave seat.tcs
       (flat_enter_sight (flat past) p seat.enclave seat.tcs (saved (fields_in (flat past) seat.enclave seat.tcs)))) ≡ None
 
-pub finds_pages : (s : State) (past : List Entry) (p : ℕ) (seat : Seat) (saves : TcsSight → Case Refusal) (saved : TcsSight → ℕ) → Stands s past
+pub finds_pages : (s : State) (past : List Entry) (p : ℕ) (seat : Seat) (saves : TcsSight → Case Refusal) (saved : TcsSight → ℕ)
+    → Stands s past
     → first_of_row (by_fields saves saved seat.enclave seat.tcs (enter_sight s p seat)) ≡ None → FindsPages s past p seat saves saved
 finds_pages s past p seat saves saved stands allowed =
     let m = flat past in

@@ -1,7 +1,7 @@
 -- No page comes to stand in two frames, as long as each load is of a page that is away.
 use Rattle.std.proofs.Common.{◌≡◌, ℕ, ◌<◌, ◌≤◌, ◌==◌, ◌&&◌, ◌||◌, inl, inr, not, Bool, true, false, cond, refl, sym, ap, subst, ◌∙◌}
 use Rattle.std.proofs.Common.{Option, Some, None, IfSome, List, ◌∷◌, MatchOption, is_some, length, arith, leb, nat_le, nat_lt}
-use Rattle.std.proofs.lemmas.Bool.{false≢true, eq-eqb, eqb-true, leb-true, lt-ltb, ltb-true}
+use Rattle.std.proofs.lemmas.Bool.{false≢true, eq-eqb, eqb-true, leb-true, lt-ltb, ltb-true, false_from_ne_true}
 use Rattle.sgx_rules.specs.declared.entries.Entry.{Entry}
 use Rattle.sgx_types.specs.declared.names.Actor.{Actor}
 use Rattle.sgx_rules.specs.declared.entries.Action.{Action}
@@ -34,7 +34,7 @@ use Rattle.sgx_types.proofs.Truths.{apart, both_true, neither, not_false}
 use Rattle.sgx_types.specs.Sealed.{Sealed}
 use Rattle.seal_record.specs.Cipher.{cipher}
 use Rattle.machine_copies.specs.inner.Away.{array_in}
-use Rattle.machine_copies.proofs.ApartLaws.{IsApart, IsAway, loaded_away, never, put_apart, start_apart}
+use Rattle.machine_copies.proofs.ApartLaws.{IsApart, IsAway, loaded_away, put_apart, start_apart}
 use Rattle.machine_laws.specs.inner.Guarded.{IsGuarded, IsOpen}
 use Rattle.machine_laws.specs.inner.Shape.{ShapeWithRules, FitsApart}
 use Rattle.machine_laws.specs.inner.Stands.{HasEnclaves, IsSound, IsFramed}
@@ -49,7 +49,7 @@ use Rattle.machine_laws.proofs.SlotLaws.{started_as}
 use Rattle.machine_laws.proofs.RowLaws.{row_fits, step_entry, IsEntryOf}
 use Rattle.machine_laws.proofs.MoveEnds.{is_end, no_end}
 use Rattle.sgx_rules.specs.Flat.{FlatEnclave, enclave_sight_of}
-use Rattle.sgx_types.proofs.Pages.{same_pages}
+use Rattle.sgx_types.proofs.Pages.{same_pages, same_page-refl}
 use Rattle.sgx_types.specs.Making.{Making}
 
 -- ---- one entry more
@@ -120,7 +120,7 @@ standing_known s guarded framed owned n g = by_content (s.content n) refl
 unknown_away : (s : State) (past : List Entry) → HasColumns s past → IsGuarded s → IsFramed s → HasEnclaves s → (g : Page)
     → is_known s g ≡ false → IsAway (content past) (open_start past) g
 unknown_away s past columns guarded framed owned g new n = (
-  never (stands (content past n) g)
+  false_from_ne_true (stands (content past n) g)
       (λ is. false≢true (sym new ∙ standing_known s guarded framed owned n g (ap (λ c. stands c g) (content_is columns n) ∙ is))),
   by_start (open_start past n) (subst (λ o. IfSome o (IsOpen s)) (start_is columns n) (guarded.opened n)),
 )
@@ -128,7 +128,7 @@ unknown_away s past columns guarded framed owned g new n = (
     by_load : (o : Option Page) → IfSome o (λ page. is_known s page ≡ true) → is_this o g ≡ false
     by_load None h = refl
     by_load (Some page) h =
-        never (same_page page g) (λ same. false≢true (sym new ∙ ap (is_known s) (sym (same_pages page g same)) ∙ h))
+        false_from_ne_true (same_page page g) (λ same. false≢true (sym new ∙ ap (is_known s) (sym (same_pages page g same)) ∙ h))
 
     by_start : (o : Option Start) → IfSome (bare_start o) (IsOpen s) → is_load_of o g ≡ false
     by_start None h = refl
@@ -349,10 +349,7 @@ coming_in : (s : State) (past : List Entry) → HasColumns s past → (f : ℕ) 
 coming_in s past columns f coming =
     let x = started_as s past columns f coming.start coming.opened in
     ap (λ o. is_load_of o coming.page) x.opened ∙ ap (λ (y : BareStart). is_this y.loads coming.page) x.same
-    ∙ ap (λ o. is_this o coming.page) coming.loads ∙ same_page-itself coming.page
-  where
-    same_page-itself : (g : Page) → same_page g g ≡ true
-    same_page-itself g = rw (eq-eqb g.enclave g.enclave refl, eq-eqb g.number g.number refl) refl
+    ∙ ap (λ o. is_this o coming.page) coming.loads ∙ same_page-refl coming.page
 
 pub reloaded_fits : (s t : State) (made : Making) (past : List Entry) (a : Actor) (f : Frame) (rec : Sealed) (e : Entry) → IsSound s
     → IsGuarded s → is_loading (s.content f.0) ≡ true → f.0 < s.frames

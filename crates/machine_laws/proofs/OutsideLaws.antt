@@ -35,6 +35,7 @@ use Rattle.sgx_rules.specs.Flat.{FlatMemory, accepts, fields_in, flat, memory_af
 use Rattle.sgx_rules.specs.Flat.{tcs_fields}
 use Rattle.sgx_rules.specs.Flat.{with_cssa, with_words, word_seen, words_of}
 use Rattle.sgx_rules.specs.Sights.{seat_of}
+use Rattle.sgx_rules.proofs.Contents.{own_there}
 use Rattle.sgx_types.proofs.Truths.{not_false}
 use Rattle.sgx_types.proofs.Pages.{same_page-at, same_pages}
 use Rattle.sgx_types.specs.Layouts.{bytes_of}
@@ -56,7 +57,6 @@ use Rattle.machine_laws.proofs.EntryLaws.{enters, resume_saved, resume_saves}
 use Rattle.machine_laws.specs.inner.Columns.{seat_of_stay}
 use Rattle.machine_laws.proofs.ColumnLaws.{content_is, inside_flat, inside_is}
 use Rattle.machine_laws.proofs.SoundLaws.{seat_at}
-use Rattle.machine_laws.proofs.WordLaws.{page_stands}
 use Rattle.machine_laws.proofs.FitLaws.{own_names}
 
 -- ---- entries that make no record
@@ -176,7 +176,7 @@ framed_apart past one n q g slot v framed there = by_test (same_page g q) refl
     by_test false e = refl
     by_test true e =
         let same : g ≡ q = same_pages g q e in
-        let here : copy past q ≡ Some (InFrame n) = one.framed n q (page_stands (content past n) q framed) in
+        let here : copy past q ≡ Some (InFrame n) = one.framed n q (own_there (content past n) q framed) in
         let outside : copy past q ≡ Some (InSlot slot v) = ap (copy past) (sym same) ∙ there in
         absurd (cc (here, outside))
 

@@ -24,10 +24,9 @@ use Rattle.sgx_rules.specs.Starts.{Start, open_start}
 use Rattle.sgx_rules.specs.inner.Starts.{BareStart}
 use Rattle.sgx_types.specs.Cases.{first_of_row}
 use Rattle.sgx_rules.proofs.Rows.{none_holds}
-use Rattle.sgx_types.proofs.Truths.{both_true, not_false}
+use Rattle.sgx_types.proofs.Truths.{not_false}
 use Rattle.sgx_types.specs.Making.{Making}
 use Rattle.epcm_entry.specs.inner.Words.{words_of}
-use Rattle.seal_record.specs.inner.Row.{same_header}
 use Rattle.seal_record.specs.Cipher.{cipher, tag}
 use Rattle.seal_record.specs.Records.{Given, Made, Tagged, Unforged, given_of, made_of, tag_of}
 use Rattle.seal_record.proofs.CipherLaws.{cipher_twice}
@@ -38,6 +37,7 @@ use Rattle.sgx_rules.proofs.Busy.{IsBareOf}
 use Rattle.machine_copies.specs.inner.Once.{Gone, IsMade, IsOfPage, KeepsMoves, MadeOnce}
 use Rattle.seal_record.specs.Sealing.{SealedRule}
 use Rattle.seal_record.specs.inner.Sealing.{made_by}
+use Rattle.seal_record.proofs.HeaderLaws.{same_headers}
 use Rattle.machine_copies.proofs.CopyLaws.{copy_is_last, live_copies, went_out}
 use Rattle.machine_copies.proofs.DrawnLaws.{drawn_once}
 use Rattle.machine_copies.proofs.RecordLaws.{made_once}
@@ -243,23 +243,13 @@ pub record Allows (computed : List ℕ) (own : Header) (rec : Sealed) : Type 0 w
   pub tag : rec.tag ≡ computed
   pub header : rec.header ≡ own
 
-one_header : (a b : Header) → same_header a b ≡ true → a ≡ b
-one_header a b is =
-    let first = both_true ((a.enclave == b.enclave) && (a.address == b.address)) (a.flags == b.flags) is in
-    let second = both_true (a.enclave == b.enclave) (a.address == b.address) first.0 in
-    λ i. record {
-      enclave = eqb-true a.enclave b.enclave second.0 i;
-      address = eqb-true a.address b.address second.1 i;
-      flags = eqb-true a.flags b.flags first.1 i;
-    }
-
 pub row_allows : (s : State) (f : ℕ) (coming : IsComing s f) (rec : Sealed) → first_of_row (commit_row s f coming rec) ≡ None
     → Allows (tag s.key coming.start.version rec.header rec.cipher) coming.header rec
 row_allows s f coming rec allowed =
     let k = none_holds (commit_row s f coming rec) allowed in
     record {
       tag = (bytes_eq-Decides rec.tag (tag s.key coming.start.version rec.header rec.cipher)).0 (not_false _ k.0);
-      header = one_header rec.header coming.header (not_false _ k.1.0);
+      header = same_headers rec.header coming.header (not_false _ k.1.0);
     }
 
 -- a machine that stands in all for its entries keeps the rules on instructions and versions

@@ -59,7 +59,7 @@ use Rattle.machine_laws.specs.inner.Guarded.{IsGuarded}
 use Rattle.std.proofs.lemmas.Bool.{leb-false}
 use Rattle.sgx_rules.specs.declared.entries.Answer.{Answer}
 use Rattle.sgx_rules.proofs.Contents.{free_there}
-use Rattle.sgx_rules.proofs.Rows.{none_holds}
+use Rattle.sgx_rules.proofs.Rows.{none_holds, start_names}
 use Rattle.sgx_types.proofs.Truths.{neither, tested}
 
 -- ---- the rows by the state and by the entries
@@ -168,7 +168,8 @@ entry_otherwise : (saves : TcsSight → Case Refusal) (saved : TcsSight → ℕ)
 entry_otherwise saves saved enclave tcs v fields other = rw other refl
 
 -- a row by a TCS page, in the state and by the entries, for who is inside as they say
-entry_agrees_by : (saves : TcsSight → Case Refusal) (saved : TcsSight → ℕ) (s : State) (past : List Entry) (b b' : Bool) (enclave tcs tf sf : ℕ)
+entry_agrees_by : (saves : TcsSight → Case Refusal) (saved : TcsSight → ℕ) (s : State) (past : List Entry) (b b' : Bool)
+    (enclave tcs tf sf : ℕ)
     → b ≡ b' → Stands s past
     → first_of_row (by_fields saves saved enclave tcs (record (enter_sight s 0 (seat_of enclave tcs tf sf)) { is_inside = b }))
     ≡ first_of_row
@@ -200,7 +201,8 @@ entry_agrees_by saves saved s past b b' enclave tcs tf sf same stands =
         ap (λ x. first_of_row (by_fields saves saved enclave tcs (record v { fields = tcs_fields (flat_page_words x) }))) (sym there)
 
 -- .. for a processor
-entry_agrees : (saves : TcsSight → Case Refusal) (saved : TcsSight → ℕ) (s : State) (past : List Entry) (p enclave tcs tf sf : ℕ) → Stands s past
+entry_agrees : (saves : TcsSight → Case Refusal) (saved : TcsSight → ℕ) (s : State) (past : List Entry) (p enclave tcs tf sf : ℕ)
+    → Stands s past
     → first_of_row (by_fields saves saved enclave tcs (enter_sight s p (seat_of enclave tcs tf sf))) ≡ first_of_row
     (by_fields saves saved enclave tcs (enter_sight_at s.frames past (stay past p) (seat_of enclave tcs tf sf)))
 entry_agrees saves saved s past p enclave tcs tf sf stands =
@@ -332,12 +334,6 @@ measure_told s past a _ r refused = tt
 free_in : (s : State) (past : List Entry) → HasColumns s past → (f : ℕ) → (s.is_sealing f || is_loading (s.content f)) ≡ false
     → is_valid (s.content f) ≡ false → content past f ≡ Free
 free_in s past columns f idle empty = sym (content_is columns f) ∙ free_there (s.content f) (s.is_sealing f) idle empty
-
--- the two frames of a start
-start_names : (frames f slot : ℕ) (other : Bool) → ((leb frames f || leb frames slot) || other) ≡ false → (f < frames) × (slot < frames)
-start_names frames f slot other within =
-    let both = neither (leb frames f) (leb frames slot) (neither (leb frames f || leb frames slot) other within).0 in
-    (leb-false _ _ both.0, leb-false _ _ both.1)
 
 -- the two frames of a seat
 seat_names : (s : State) (p : ℕ) (seat : Seat) (saves : Case Refusal) (saved : ℕ)

@@ -1,7 +1,7 @@
 -- The slots of the version array pages that frames hold: which are busy, and which versions they have, whatever records are brought.
 use Rattle.std.proofs.Common.{◌≡◌, ℕ, ◌<◌, ◌==◌, ◌&&◌, ◌||◌, Bool, true, false, cond, refl, sym, ap, ◌∙◌, subst}
 use Rattle.std.proofs.Common.{Some, List, ◌∷◌, IfSome, get_or, nat_le, arith, ⊎_elim}
-use Rattle.std.proofs.lemmas.Bool.{eqb-true, eq-eqb, false≢true, leb-false, leb-true}
+use Rattle.std.proofs.lemmas.Bool.{eqb-true, eq-eqb, false≢true, leb-false, leb-true, or_right}
 use Rattle.std.proofs.lemmas.List.FromFn.{get_or-map-range_with_len}
 use Rattle.sgx_rules.specs.declared.entries.Action.TheVariants.{Ewb, Eld}
 use Rattle.sgx_types.specs.declared.names.Actor.{Actor}
@@ -170,12 +170,8 @@ busy_is s past h guarded n k index held low =
     from_seal : s.is_sealing n ≡ true → is_slot_busy s.frames past slot ≡ true
     from_seal leaves =
         any_below-some (λ m. names_slot (open_slot past m) slot || takes_out past k m) s.frames n within
-        (right_true (names_slot (open_slot past n) slot) (takes_out past k n)
+        (or_right (names_slot (open_slot past n) slot) (takes_out past k n)
         (rw (there, eq-eqb k k refl) (sym (sealing_is h n) ∙ leaves)))
-      where
-        right_true : (a b : Bool) → b ≡ true → (a || b) ≡ true
-        right_true true b e = refl
-        right_true false b e = e
 
     to_state : is_slot_busy s.frames past slot ≡ true → (s.is_slot_named (place_at n index) || s.is_sealing n) ≡ true
     to_state busy =

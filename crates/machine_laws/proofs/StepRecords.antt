@@ -1,10 +1,8 @@
 -- The records that steps and commits make, and the bytes of the pages that are outside then.
-use Rattle.std.proofs.Common.{◌≡◌, ℕ, zero, suc, ◌+◌, ◌<◌, ◌==◌, ◌&&◌, not, arith, length, inl, inr, Bool, true, false, cond, refl, sym}
-use Rattle.std.proofs.Common.{ap, subst, ◌∙◌, Option, Some, None, option_map, MatchOption, List, [], ◌∷◌, ◌++◌, map}
-use Rattle.std.specs.List.{Any, range_with_len}
+use Rattle.std.proofs.Common.{◌≡◌, ℕ, ◌==◌, ◌&&◌, not, length, inl, inr, Bool, true, false, cond, refl, sym}
+use Rattle.std.proofs.Common.{ap, subst, ◌∙◌, Option, Some, None, option_map, MatchOption, List, [], ◌∷◌, ◌++◌}
+use Rattle.std.specs.List.{Any}
 use Rattle.std.proofs.lemmas.Bool.{false≢true}
-use Rattle.std.proofs.lemmas.List.{get_or_append_left, length-append}
-use Rattle.std.proofs.lemmas.List.FromFn.{map-range_with_len_more}
 use Rattle.std.proofs.lemmas.List.Quantifiers.{Any-push}
 use Rattle.std.proofs.lemmas.Option.{same_Some}
 use Rattle.sgx_rules.specs.declared.entries.Entry.{Entry}
@@ -29,6 +27,7 @@ use Rattle.sgx_rules.specs.inner.Enclaves.{created}
 use Rattle.sgx_types.proofs.Pages.{same_page-refl, same_pages}
 use Rattle.sgx_types.specs.Making.{Making}
 use Rattle.sgx_types.specs.Layouts.{bytes_of}
+use Rattle.sgx_types.proofs.Lists.{Any-front, map_below}
 use Rattle.measure_log.specs.Rule.{log}
 use Rattle.seal_record.specs.Cipher.{cipher, sealed}
 use Rattle.seal_record.specs.Records.{Made}
@@ -123,22 +122,6 @@ sealed_quiet_eld key s t past a f rec e back = by_entry (reloaded_entry s t a f 
     by_entry (inr (r, is)) = subst (λ x. SealedRule key past x) (sym is) tt
 
 -- ---- the commit of a write-out
-
--- what holds of one of a list holds of one of a longer list
-Any-front : {X : Type 0} (P : X → Type 0) (xs ys : List X) → Any P xs → Any P (xs ++ ys)
-Any-front P xs ys (k, x, low, here, holds) =
-    let longer : k < length (xs ++ ys) = omega (arith, length-append xs ys) in
-    (k, x, longer, get_or_append_left xs ys x k low ∙ here, holds)
-
--- lists that are made of the numbers below a limit by functions that agree there
-map_below : (f g : ℕ → ℕ) (n : ℕ) → ((k : ℕ) → k < n → f k ≡ g k) → map f (range_with_len 0 n) ≡ map g (range_with_len 0 n)
-map_below f g zero same = refl
-map_below f g (suc n) same =
-    let next : n + 1 ≡ suc n = omega arith in
-    subst (λ m. map f (range_with_len 0 m) ≡ map g (range_with_len 0 m)) next
-    (map-range_with_len_more f 0 n n (omega arith)
-    ∙ (λ i. map_below f g n (λ k low. same k (omega (arith, low))) i ++ same n (omega arith) i ∷ [])
-    ∙ sym (map-range_with_len_more g 0 n n (omega arith)))
 
 -- an enclave of which there is a digest by its measurement has it by the entries
 digest_same : (s : State) (past : List Entry) (e : ℕ) (x : FlatEnclave) (digest : List ℕ) → StandsWithRules s past

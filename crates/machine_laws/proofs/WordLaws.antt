@@ -7,11 +7,12 @@ use Rattle.sgx_types.specs.declared.lawful.PageInit.{PageInit}
 use Rattle.sgx_types.specs.declared.lawful.PageInit.TheVariants as inits
 use Rattle.sgx_types.specs.declared.names.Page.{Page}
 use Rattle.sgx_types.specs.Pages.{same_page}
-use Rattle.sgx_rules.specs.Frames.{Content, Free, Holds, IsLoading, IsVa, SecsOf, is_page, stands}
+use Rattle.sgx_rules.specs.Frames.{Content, Holds, is_page}
 use Rattle.sgx_rules.specs.Flat.{FlatMemory, FlatPage, added_as, first_words, tcs_fields, with_cssa, with_words}
 use Rattle.sgx_rules.specs.Flat.{rewritten as rewritten_page}
 use Rattle.sgx_rules.specs.declared.entries.Entry.{Entry}
 use Rattle.sgx_rules.specs.Rules.{NoPageTwice}
+use Rattle.sgx_rules.proofs.Contents.{own_there}
 use Rattle.sgx_types.proofs.Pages.{same_page-at, same_pages}
 use Rattle.machine_laws.specs.inner.State.{State, rewritten}
 use Rattle.machine_laws.specs.inner.Stands.{HasWords, Shows, Stands, enclaves_flat}
@@ -22,18 +23,10 @@ use Rattle.machine_laws.proofs.ColumnLaws.{content_is}
 abbrev pub IsOnce : (ℕ → Content) → Type 0
 IsOnce content = (m n : ℕ) (g : Page) → is_page (content m) g ≡ true → is_page (content n) g ≡ true → m ≡ n
 
--- a TCS or REG page that a frame holds stands in it
-pub page_stands : (c : Content) (g : Page) → is_page c g ≡ true → stands c g ≡ true
-page_stands (Holds page kind perm) g is = is
-page_stands Free g is = cc is
-page_stands (IsVa number) g is = cc is
-page_stands (SecsOf enclave) g is = cc is
-page_stands (IsLoading page) g is = cc is
-
 pub once_in_state : (s : State) (past : List Entry) → Stands s past → NoPageTwice past → IsOnce s.content
 once_in_state s past standing once m n g at_m at_n =
-    once m n g (rw (← content_is standing.columns m) (page_stands (s.content m) g at_m))
-    (rw (← content_is standing.columns n) (page_stands (s.content n) g at_n))
+    once m n g (rw (← content_is standing.columns m) (own_there (s.content m) g at_m))
+    (rw (← content_is standing.columns n) (own_there (s.content n) g at_n))
 
 -- a page's words are changed, in its frame and in flat memory
 pub words_changed : (content : ℕ → Content) (words : ℕ → List ℕ) (m : FlatMemory) (f : ℕ) (g : Page) (change : List ℕ → List ℕ)

@@ -8,7 +8,8 @@ use Rattle.std.proofs.lemmas.List.{append-nil, append_assoc}
 use Rattle.sgx_rules.specs.declared.entries.Entry.{Entry}
 use Rattle.page_commands.specs.Summary.{loaded_value}
 
-pub sum_more : (entries : List Entry) (i : ℕ) (d : Entry) (sum : ℕ) → i < length entries → sum ≡ sum_by loaded_value (take i entries) % 2 ^ 64
+pub sum_more : (entries : List Entry) (i : ℕ) (d : Entry) (sum : ℕ) → i < length entries
+    → sum ≡ sum_by loaded_value (take i entries) % 2 ^ 64
     → (sum + loaded_value (get_or entries i d)) % 2 ^ 64 ≡ sum_by loaded_value (take (i + 1) entries) % 2 ^ 64
 sum_more entries i d sum within is =
     ap (λ s. (s + loaded_value (get_or entries i d)) % 2 ^ 64) is

@@ -61,7 +61,8 @@ fn give<K: Sink>(
 ) -> Result<(), Ungiven>
     requires { length entries.old < 2 ^ 32 }
     ensures gave { OnOk result (K.given out.new ≡ followed_by (K.given out.old) (showing_text showing (reverse entries.old))) }
-    ensures broke { IsErrOf result Ungiven.Failed → GivesPart (K.given out.old) (K.given out.new) (showing_text showing (reverse entries.old)) }
+    ensures broke { IsErrOf result Ungiven.Failed
+        → GivesPart (K.given out.old) (K.given out.new) (showing_text showing (reverse entries.old)) }
     ensures memory { IsErrOf result Ungiven.Memory → out.new ≡ out.old }
     ensures failed { IsErrOf result Ungiven.Failed → HasRisen (K.faults out.old) (K.faults out.new) }
 {

@@ -89,7 +89,8 @@ pub(crate) fn read_entries<O: Source, K: Sink>(
 
 // Gives the line on the first fault of an old trace.
 fn tell_line<K: Sink>(alloc: Global, out: &mut K, line: u64) -> Status
-    ensures told { Ends (λ status text. (status ≡ Status.BadTrace) × (text ≡ trace_fault_line line)) result (K.given out.old) (K.given out.new) }
+    ensures told { Ends (λ status text. (status ≡ Status.BadTrace) × (text ≡ trace_fault_line line))
+        result (K.given out.old) (K.given out.new) }
     ensures kind { (result ≡ Status.BadTrace) ⊎ (result ≡ Status.WriteFault) ⊎ (result ≡ Status.Memory) }
     ensures write_fault { result ≡ Status.WriteFault → HasRisen (K.faults out.old) (K.faults out.new) }
     ensures memory { result ≡ Status.Memory → out.new ≡ out.old }

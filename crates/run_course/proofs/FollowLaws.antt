@@ -1,12 +1,10 @@
 -- What a turn of the pass made can be taken in.
 use Rattle.std.proofs.Common.{◌≡◌, ℕ, ◌+◌, ◌*◌, ◌≤◌, Bool, true, false, if◌then◌else◌, List}
-use Rattle.std.proofs.Common.{◌∷◌, Option, Some, None, IfSome, length, count_by, is_some, vec_len, vec_capacity, refl, sym, ap}
+use Rattle.std.proofs.Common.{◌∷◌, Option, Some, None, IfSome, length, count_by, is_some, vec_len, vec_capacity, sym, ap}
 use Rattle.std.proofs.Common.{subst}
-use Rattle.std.proofs.Common.{◌∙◌, arith, length-set}
+use Rattle.std.proofs.Common.{◌∙◌, arith}
 use Rattle.std.proofs.lemmas.List.Sums.{count_by-le-length}
 use Rattle.sgx_rules.specs.declared.entries.Entry.{Entry}
-use Rattle.sgx_rules.specs.declared.entries.Event.{Event}
-use Rattle.sgx_rules.specs.declared.entries.Event.TheVariants.{Age, Bus, Did, Kick, Refused}
 use Rattle.sgx_types.specs.Making.{Making}
 use Rattle.sgx_rules.specs.inner.Enclaves.{EnclavesAreFlat}
 use Rattle.backing_store.specs.Calls.{Call}
@@ -43,8 +41,8 @@ use Rattle.run_records.proofs.TurnBytes.{turn_bytes}
 use Rattle.run_records.proofs.PassRecords.{turn_flat, turn_honest, turn_stays, turn_told}
 use Rattle.run_records.specs.inner.Honest.{StaysHonest}
 use Rattle.driver_reclaim.proofs.ReadyLaws.{can_step}
-use Rattle.due_tables.specs.declared.cpu_turns.CpuTurn.{CpuTurn}
 use Rattle.due_tables.specs.inner.Noting.{with_kick}
+use Rattle.due_tables.proofs.NoteLaws.{kick_length}
 use Rattle.driver_rules.specs.Spent.{IsUsedUp}
 use Rattle.run_course.specs.declared.course.Course.{Course}
 use Rattle.run_course.specs.inner.Courses.{KeepsCourse, has_open_load, past_of}
@@ -58,14 +56,6 @@ use Rattle.run_course.proofs.SpentLaws.{turn_used}
 use Rattle.run_course.proofs.TakeLaws.{own_entry}
 
 -- ---- small facts
-
--- a kick changes no number of processors
-kick_length : (event : Event) (cpus : List CpuTurn) → length (with_kick event cpus) ≡ length cpus
-kick_length (Kick cpu) cpus = length-set cpus cpu.0 _
-kick_length (Did action answer) cpus = refl
-kick_length (Refused action refusal) cpus = refl
-kick_length (Age page look) cpus = refl
-kick_length (Bus page reason) cpus = refl
 
 every : (P : List Call → Type 0) (told : Option (List Call)) → ((calls : List Call) → P calls) → IfSome told P
 every P None all = tt

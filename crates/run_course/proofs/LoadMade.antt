@@ -31,7 +31,6 @@ use Rattle.driver_list.specs.inner.Places.{IsPlaced}
 use Rattle.driver_list.specs.inner.States.{state_of as page_state, with_state}
 use Rattle.driver_list.specs.declared.page_states.PageState.{PageState}
 use Rattle.driver_list.specs.declared.page_states.PageState.TheVariants as states
-use Rattle.driver_list.proofs.PageLaws.{is_same}
 use Rattle.driver_list.proofs.StateLaws.{state_of-with_state}
 use Rattle.driver_rules.specs.Dues.{IsNext, Reports}
 use Rattle.driver_rules.specs.Passes.{pass}
@@ -80,6 +79,7 @@ use Rattle.driver_rules.specs.Stops.{spends}
 use Rattle.run_course.proofs.SpentLaws.{step_calm}
 use Rattle.due_notes.proofs.EntryLaws.{IsEntryOf, entry_by}
 use Rattle.sgx_types.specs.declared.names.Actor.{Actor}
+use Rattle.sgx_types.proofs.Pages.{same_page-refl}
 use Rattle.sgx_rules.specs.inner.Enclaves.{EnclavesAreFlat}
 use Rattle.machine_laws.specs.inner.State.{State}
 use Rattle.machine_laws.specs.inner.Steps.{IsStep}
@@ -304,7 +304,7 @@ begun_opens j past cpu page d d' m' e work own shows placed room is =
     state : page_state (with_state d.states page (states.Loading is.frame is.slot)) page ≡ states.Loading is.frame is.slot
     state =
         state_of-with_state d.states page page (states.Loading is.frame is.slot) shows.sized placed placed
-        ∙ ap (λ b. cond b (states.Loading is.frame is.slot) (page_state d.states page)) (is_same page)
+        ∙ ap (λ b. cond b (states.Loading is.frame is.slot) (page_state d.states page)) (same_page-refl page)
 
 -- ---- the end of a load
 

@@ -12,33 +12,18 @@ use Rattle.history_rules.specs.Given.{UnforgedRun}
 use Rattle.history_rules.specs.Histories.{History}
 use Rattle.history_rules.specs.inner.Histories.{GoesOn}
 use Rattle.history_rules.specs.Stored.{PutsAreFlat}
+use Rattle.history_rules.proofs.HistoryLaws.{ended_history}
 use Rattle.run_crew.specs.inner.Views.{BookView, Holds}
 use Rattle.run_jobs.specs.Ends.{IsEndOf}
 use Rattle.run_jobs.specs.Runs.{WholeRun}
 use Rattle.run_jobs.specs.declared.ends.End.{End}
 use Rattle.run_jobs.specs.declared.ends.End.TheVariants as ends
 
--- a history that goes on is a history where the run is at its end
-at_end : (j : JobView) (past : List Entry) → GoesOn j past → IsEnded j past → History j past
-at_end j past on ended = record {
-  script = (ended, on.script);
-  refusal = on.refusal;
-  flat = on.flat;
-  fits = on.fits;
-  stale = on.stale;
-  evict = on.evict;
-  fresh = on.fresh;
-  sealed = on.sealed;
-  measure = on.measure;
-  age = on.age;
-  kick = on.kick;
-}
-
 histories : (j : JobView) (past : List Entry) (told : Option (List Call)) → IsEnded j past
     → IfSome told (λ calls. UnforgedRun j.key past calls → GoesOn j past × PutsAreFlat j.key past calls)
     → IfSome told (λ calls. UnforgedRun j.key past calls → History j past × PutsAreFlat j.key past calls)
 histories j past None ended holds = tt
-histories j past (Some calls) ended holds = λ unforged. let both = holds unforged in (at_end j past both.0 ended, both.1)
+histories j past (Some calls) ended holds = λ unforged. let both = holds unforged in (ended_history j past both.0 ended, both.1)
 
 -- where each page came back, no processor was ended by one
 pub no_bus : (past : List Entry) (end : End) → IsEndOf past end → AllCameBack past → end ≢ ends.Bus

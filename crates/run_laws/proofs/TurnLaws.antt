@@ -49,7 +49,6 @@ use Rattle.driver_laws.specs.inner.Used.{StartTells}
 use Rattle.driver_laws.proofs.AgreeLaws.{found_index, ours_within}
 use Rattle.driver_laws.proofs.BuiltLaws.{own_there}
 use Rattle.driver_laws.proofs.EpochLaws.{none_older}
-use Rattle.driver_laws.proofs.ReadyLaws.{first_below}
 use Rattle.driver_tables.specs.declared.driver.Driver.{Driver}
 use Rattle.driver_tables.proofs.TargetLaws.{fixed_within}
 use Rattle.driver_tables.specs.inner.Agrees.{Agrees}
@@ -64,6 +63,7 @@ use Rattle.driver_reclaim.specs.inner.Kept.{Keeps, TurnKeeps}
 use Rattle.driver_reclaim.specs.inner.Shown.{ShowsAfter, ShowsEntry}
 use Rattle.run_laws.specs.inner.Turns.{OfEntry}
 use Rattle.run_laws.proofs.PlainLaws.{enclave_is}
+use Rattle.machine_copies.proofs.DrawnLaws.{first_below}
 
 -- what an entry of the reclaimer is, besides what its turn keeps
 record IsOwn (first : ℕ) (past : List Entry) (e : Entry) : Type 0 where

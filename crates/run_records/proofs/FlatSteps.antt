@@ -26,13 +26,14 @@ use Rattle.sgx_types.specs.Pages.{page_at, same_page}
 use Rattle.sgx_rules.specs.Frames.{added, added_by}
 use Rattle.sgx_types.specs.Cases.{first_of_row}
 use Rattle.sgx_rules.specs.Table.{add_row, create_row, init_row}
+use Rattle.sgx_rules.proofs.Rows.{init_open}
 use Rattle.sgx_types.proofs.Pages.{same_page-swap}
 use Rattle.machine_copies.proofs.FlatLaws.{event_kinds}
 use Rattle.measure_log.specs.Rule.{IsExpected, IsOther}
 use Rattle.machine_laws.specs.inner.Columns.{HasColumns}
 use Rattle.machine_laws.specs.inner.State.{State, after_init, row_of, secs_sight, sight}
 use Rattle.machine_laws.specs.inner.Steps.{IsDone, IsStep, did_by, refused_by}
-use Rattle.machine_laws.proofs.BuildLaws.{add_open, create_open, init_open, is_some-added_as}
+use Rattle.machine_laws.proofs.BuildLaws.{add_open, create_open, is_some-added_as}
 use Rattle.machine_laws.proofs.ColumnLaws.{enclave_seen, page_seen}
 use Rattle.machine_laws.proofs.TestLaws.{is_none-None}
 use Rattle.run_records.specs.inner.Builds.{builds, is_building}

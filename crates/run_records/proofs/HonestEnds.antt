@@ -1,10 +1,8 @@
 -- A run over an honest store stays honest with the ends of loads and of write-outs: each page comes back, and a version array page with
 -- the versions with which it went out.
-use Rattle.std.proofs.Common.{◌≡◌, ℕ, zero, suc, ◌<◌, ◌+◌, Bool, true, false, List, [], ◌∷◌, ◌++◌, Option, Some, None, is_some}
-use Rattle.std.proofs.Common.{IfSome, MatchOption, map, refl, sym, ap, subst, ◌∙◌, arith}
-use Rattle.std.specs.List.{range_with_len}
+use Rattle.std.proofs.Common.{◌≡◌, ℕ, ◌<◌, Bool, true, false, List, ◌∷◌, Option, Some, None, is_some}
+use Rattle.std.proofs.Common.{IfSome, MatchOption, refl, sym, ap, subst, ◌∙◌, arith}
 use Rattle.std.specs.Option.{IsSomeAnd}
-use Rattle.std.proofs.lemmas.List.FromFn.{map-range_with_len_more}
 use Rattle.std.proofs.lemmas.Bool.{false≢true}
 use Rattle.std.proofs.lemmas.Option.{same_Some}
 use Rattle.sgx_types.proofs.Pages.{same_page-refl}
@@ -26,6 +24,7 @@ use Rattle.sgx_rules.specs.inner.Starts.{BareStart}
 use Rattle.sgx_types.specs.Cases.{first_of_row}
 use Rattle.sgx_types.specs.Making.{Making}
 use Rattle.sgx_types.specs.Sealed.{Sealed}
+use Rattle.sgx_types.proofs.Lists.{map_below}
 use Rattle.epcm_entry.specs.inner.Words.{words_of as words_in}
 use Rattle.job_grammar.specs.Jobs.{JobView, va_pages}
 use Rattle.seal_record.specs.Cipher.{cipher}
@@ -186,16 +185,6 @@ ended_honest made j past (Some calls) d d' m m' t cpu page n loaded can k keys l
     λ honest. end_entry made j past calls d d' m m' t cpu page n loaded can k keys last is honest
 
 -- ---- the end of a write-out
-
--- lists that are made of the same numbers are the same
-map_below : (f g : ℕ → ℕ) (n : ℕ) → ((i : ℕ) → i < n → f i ≡ g i) → map f (range_with_len 0 n) ≡ map g (range_with_len 0 n)
-map_below f g zero same = refl
-map_below f g (suc n) same =
-    let next : n + 1 ≡ suc n = omega arith in
-    subst (λ k. map f (range_with_len 0 k) ≡ map g (range_with_len 0 k)) next
-    (map-range_with_len_more f 0 n n (omega arith)
-    ∙ (λ i. map_below f g n (λ k low. same k (omega (arith, low))) i ++ same n (omega arith) i ∷ [])
-    ∙ sym (map-range_with_len_more g 0 n n (omega arith)))
 
 slots_same : (s : State) (past : List Entry) (f number : ℕ) → s.content f ≡ IsVa number → HasAllVersions s past
     → slots_in s f ≡ va_words past number

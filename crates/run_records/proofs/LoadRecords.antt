@@ -1,8 +1,7 @@
 -- A fault step's entry and the end of a load tell what is so of their records.
-use Rattle.std.proofs.Common.{◌≡◌, ℕ, ◌<◌, ◌==◌, ◌&&◌, not, Bool, true, false, if◌then◌else◌, refl, sym}
+use Rattle.std.proofs.Common.{◌≡◌, ℕ, ◌<◌, not, Bool, true, false, if◌then◌else◌, refl, sym}
 use Rattle.std.proofs.Common.{◌∙◌, ap, subst, List, ◌∷◌, Option, Some, None, MatchOption, Result, Ok, Err, length}
 use Rattle.std.specs.Option.{IsSomeAnd}
-use Rattle.std.proofs.lemmas.Bool.{eqb-true}
 use Rattle.std.specs.Str.{bytes_eq}
 use Rattle.std.proofs.lemmas.Option.{same_Some}
 use Rattle.sgx_rules.specs.declared.entries.Action.TheVariants.{Eld}
@@ -26,11 +25,12 @@ use Rattle.sgx_types.specs.Sealed.{Sealed}
 use Rattle.sgx_rules.specs.Starts.{Start, open_start}
 use Rattle.sgx_rules.specs.inner.Starts.{BareStart}
 use Rattle.sgx_types.specs.Cases.{first_of_row}
-use Rattle.sgx_types.proofs.Truths.{both_true, not_false}
+use Rattle.sgx_types.proofs.Truths.{not_false}
 use Rattle.sgx_rules.specs.inner.Enclaves.{EnclavesAreFlat}
 use Rattle.sgx_rules.proofs.Busy.{IsBareOf}
 use Rattle.seal_record.specs.Cipher.{tag}
 use Rattle.seal_record.specs.inner.Row.{eld_row, is_header, same_header}
+use Rattle.seal_record.proofs.HeaderLaws.{same_headers}
 use Rattle.job_grammar.specs.Jobs.{JobView}
 use Rattle.sgx_types.specs.Pages.{frame_at}
 use Rattle.backing_store.specs.Calls.{Call}
@@ -270,17 +270,6 @@ fault_flat past cpu page x d d' m m' told told' answer is seen =
 -- what is there has what holds of each that can be there
 some_and : {X : Type 0} (P : X → Type 0) (o : Option X) (x : X) → o ≡ Some x → P x → IsSomeAnd o P
 some_and P o x is h = subst (λ v. IsSomeAnd v P) (sym is) h
-
--- headers that the test finds the same are equal
-same_headers : (a b : Header) → same_header a b ≡ true → a ≡ b
-same_headers a b h =
-    let k = both_true ((a.enclave == b.enclave) && (a.address == b.address)) (a.flags == b.flags) h in
-    let first = both_true (a.enclave == b.enclave) (a.address == b.address) k.0 in
-    λ i. record {
-      enclave = eqb-true a.enclave b.enclave first.0 i;
-      address = eqb-true a.address b.address first.1 i;
-      flags = eqb-true a.flags b.flags k.1 i;
-    }
 
 -- a record that is not refused has the page's header
 row_headed : (rec : Sealed) (computed : List ℕ) (header : Header) → first_of_row (eld_row rec computed (Some header)) ≡ None

@@ -5,17 +5,13 @@ use Rattle.std.specs.List.{All, Any}
 use Rattle.std.proofs.lemmas.List.{length-append, get_or_append_left, get_or_push, take-append-le, take_all}
 use Rattle.std.proofs.lemmas.List.Quantifiers.{Any-push}
 use Rattle.seal_record.specs.Records.{Made, Given, Tagged, IsFitting, CarriesTag, IsAmong, Unforged, tag_of, made_of, given_of}
+use Rattle.sgx_types.proofs.Lists.{Any-front}
 
 All-front : {X : Type 0} (P : X → Type 0) (xs ys : List X) → All P (xs ++ ys) → All P xs
 All-front P xs ys all k d low =
     let longer : k < length (xs ++ ys) = omega (arith, length-append xs ys) in
     let same : get_or (xs ++ ys) k d ≡ get_or xs k d = get_or_append_left xs ys d k low in
     subst P same (all k d longer)
-
-Any-front : {X : Type 0} (P : X → Type 0) (xs ys : List X) → Any P xs → Any P (xs ++ ys)
-Any-front P xs ys (k, x, low, here, holds) =
-    let longer : k < length (xs ++ ys) = omega (arith, length-append xs ys) in
-    (k, x, longer, get_or_append_left xs ys x k low ∙ here, holds)
 
 All-last : {X : Type 0} (P : X → Type 0) (xs : List X) (last : X) → All P (xs ++ last ∷ []) → P last
 All-last P xs last all =

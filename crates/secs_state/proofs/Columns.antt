@@ -1,19 +1,13 @@
 -- What a change of one page or one enclave leaves of every page and every enclave.
 use Rattle.std.proofs.Common.{◌≡◌, ◌≢◌, ℕ, ◌-◌, ◌<◌, ◌≤◌, ◌==◌, Bool, false, cond, List, length, get_or}
 use Rattle.std.proofs.Common.{set, Option, Some, None, sym, ap, ◌∙◌, arith, length-set, ⊎_elim}
-use Rattle.std.proofs.lemmas.Bool.{cases_lt, cases_eq, cond_both, cond-true, cond-false, eqb-true, eq-eqb, ne_eqb, false≢true}
-use Rattle.std.proofs.lemmas.List.{get_or-set_same, get_or-set_other, get_or_past}
+use Rattle.std.proofs.lemmas.Bool.{cases_lt, cases_eq, cond-true, cond-false, eq-eqb, ne_eqb}
+use Rattle.std.proofs.lemmas.List.{get_or_past}
 use Rattle.sgx_types.specs.declared.names.Kind.{Kind}
 use Rattle.sgx_types.specs.declared.names.Perm.{Perm}
+use Rattle.sgx_types.proofs.Lists.{get_or-set_if}
 use Rattle.secs_state.specs.inner.Secs.{SecsState, IsSecs, page_count, added_at, is_busy_at, with_page, with_busy}
 use Rattle.secs_state.specs.inner.Table.{enclave_at, with_enclave}
-
--- a write to a list, read at each place
-get_or-set_if : {A : Type 0} (xs : List A) (i n : ℕ) (a d : A) → i < length xs → get_or (set xs i a) n d ≡ cond (i == n) a (get_or xs n d)
-get_or-set_if xs i n a d low =
-    cond_both (i == n) a (get_or xs n d) (λ v. get_or (set xs i a) n d ≡ v)
-    (λ e. rw (← eqb-true i n e) (get_or-set_same xs i a d low))
-    (λ e. get_or-set_other xs i n a d (λ same. false≢true (sym e ∙ eq-eqb i n (sym same))))
 
 pub added_at-with_page : (secs : SecsState) (number n : ℕ) (kind : Kind) (perm : Perm) → IsSecs secs → number < page_count secs.size
     → added_at (with_page secs number kind perm) n ≡ cond (number == n) (Some (kind, perm)) (added_at secs n)

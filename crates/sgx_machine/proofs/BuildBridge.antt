@@ -20,6 +20,7 @@ use Rattle.sgx_rules.specs.Flat.{first_words, as_initialised}
 use Rattle.sgx_rules.proofs.Contents.{free_there}
 use Rattle.sgx_rules.proofs.Rows.{none_holds}
 use Rattle.sgx_types.proofs.Truths.{apart, both_true, neither, not_false}
+use Rattle.sgx_types.proofs.Lists.{get_or-like}
 use Rattle.epcm_entry.specs.declared.entry_view.EntryView.{EntryView}
 use Rattle.epcm_entry.specs.declared.entry_view.EntryView.TheVariants as views
 use Rattle.epcm_entry.specs.inner.EntryView.{is_valid, holding, block_of, goes_out}
@@ -46,7 +47,7 @@ use Rattle.sgx_machine.specs.inner.Whole.{AreHeld, IsNamedFor, IsSecsOf, IsTable
 use Rattle.machine_copies.specs.inner.Away.{SecsIsIn}
 use Rattle.machine_laws.proofs.GuardLaws.{secs_is_in}
 use Rattle.sgx_machine.proofs.HeldLaws.{added_in_counts, created_in, held_put, still_there}
-use Rattle.sgx_machine.proofs.Columns.{like, through, same_at, numbered, enclave_column, enclave_kept, page_column}
+use Rattle.sgx_machine.proofs.Columns.{through, same_at, numbered, enclave_column, enclave_kept, page_column}
 use Rattle.sgx_machine.proofs.Columns.{measure_set}
 
 -- ---- a frame that a row takes
@@ -164,9 +165,9 @@ create_state d e f base size begun k new is there =
       words = λ n. words_at-with_secs d.epc f e n i;
       enclaves = λ n. enclave_column d.secs e y is.places k.first k.last enclave_of n i;
       added = λ q. enclave_kept d.secs e y is.places k.first k.last (λ o. added_in o q.number) q.enclave
-          (like (page_count size) q.number None ∙ ap (λ o. added_in o q.number) (sym new)) i;
+          (get_or-like (page_count size) q.number None ∙ ap (λ o. added_in o q.number) (sym new)) i;
       is_busy = λ q. enclave_kept d.secs e y is.places k.first k.last (λ o. is_busy_in o q.number) q.enclave
-          (like (page_count size) q.number false ∙ ap (λ o. is_busy_in o q.number) (sym new)) i;
+          (get_or-like (page_count size) q.number false ∙ ap (λ o. is_busy_in o q.number) (sym new)) i;
       measure = λ n. measure_set d.measures e n begun there i;
     }
 

@@ -1,12 +1,13 @@
 -- What a write to one place of the machine's parts leaves of each place.
 use Rattle.std.proofs.Common.{◌≡◌, ℕ, zero, suc, ◌-◌, ◌<◌, ◌≤◌, ◌==◌, ◌&&◌, Bool, true, false, cond, refl}
-use Rattle.std.proofs.Common.{sym, ap, ◌∙◌, arith, ◌⊎◌, inl, inr, ⊎_elim, Option, Some, None, List, [], ◌∷◌, length}
-use Rattle.std.proofs.Common.{get_or, set, replicate, length-set}
-use Rattle.std.proofs.lemmas.Bool.{cond_both, cond-false, eqb-true, eq-eqb, ne_eqb, false≢true, cases_lt, cases_eq}
-use Rattle.std.proofs.lemmas.List.{get_or-set_same, get_or-set_other, get_or_past, set-get_or, get_or-replicate, length-replicate}
+use Rattle.std.proofs.Common.{sym, ap, ◌∙◌, arith, ⊎_elim, Option, Some, None, List, [], ◌∷◌, length}
+use Rattle.std.proofs.Common.{get_or, set, length-set}
+use Rattle.std.proofs.lemmas.Bool.{cond_both, cond-false, eqb-true, ne_eqb, cases_eq}
+use Rattle.std.proofs.lemmas.List.{set-get_or}
 use Rattle.sgx_types.specs.declared.names.Page.{Page}
 use Rattle.sgx_types.specs.Pages.{page_at, same_page}
 use Rattle.sgx_types.proofs.Truths.{eqb-swap}
+use Rattle.sgx_types.proofs.Lists.{get_or-set_if, get_or-like, there_below}
 use Rattle.measure_log.specs.declared.measure.Measure.{Measure}
 use Rattle.secs_state.specs.inner.Secs.{SecsState}
 use Rattle.secs_state.specs.inner.Table.{enclave_at, with_enclave}
@@ -15,35 +16,11 @@ use Rattle.sgx_machine.specs.inner.Whole.{IsSecsOf, IsTable}
 
 -- ---- lists
 
--- a write to a list, read at each place
-pub get_or-set_if : {A : Type 0} (xs : List A) (i n : ℕ) (a d : A) → i < length xs
-    → get_or (set xs i a) n d ≡ cond (i == n) a (get_or xs n d)
-get_or-set_if xs i n a d low =
-    cond_both (i == n) a (get_or xs n d) (λ v. get_or (set xs i a) n d ≡ v)
-    (λ e. rw (← eqb-true i n e) (get_or-set_same xs i a d low))
-    (λ e. get_or-set_other xs i n a d (λ same. false≢true (sym e ∙ eq-eqb i n (sym same))))
-
--- a place of a list of like items, or past it
-pub like : {X : Type 0} (n i : ℕ) (x : X) → get_or (replicate n x) i x ≡ x
-like n i x = by_place (cases_lt i n)
-  where
-    by_place : (i < n) ⊎ (n ≤ i) → get_or (replicate n x) i x ≡ x
-    by_place (inl low) = get_or-replicate n i x x low
-    by_place (inr past) = get_or_past (replicate n x) i x (rw (length-replicate n x) past)
-
 -- a place of a list, whatever stands for one past its end
 pub get_or-default : {A : Type 0} (xs : List A) (i : ℕ) (a b : A) → i < length xs → get_or xs i a ≡ get_or xs i b
 get_or-default [] i a b low = absurd (omega arith)
 get_or-default (x ∷ xs) zero a b low = refl
 get_or-default (x ∷ xs) (suc i) a b low = get_or-default xs i a b (omega arith)
-
--- a place that holds something is below the length
-pub there_below : {X : Type 0} (xs : List (Option X)) (n : ℕ) (x : X) → get_or xs n None ≡ Some x → n < length xs
-there_below xs n x is = by_place (cases_lt n (length xs))
-  where
-    by_place : (n < length xs) ⊎ (length xs ≤ n) → n < length xs
-    by_place (inl low) = low
-    by_place (inr past) = absurd (let none = get_or_past xs n None past in cc (none, is))
 
 -- a function of one of two values
 pub through : {A B : Type 0} (h : A → B) (b : Bool) (x y : A) → h (cond b x y) ≡ cond b (h x) (h y)

@@ -15,7 +15,7 @@ use Rattle.epcm_entry.specs.inner.Epc.{EpcFrame, free_frame, entry_at, is_free_f
 use Rattle.epcm_entry.specs.inner.Sights.{held}
 use Rattle.sgx_machine.proofs.Columns.{get_or-default}
 
-free_held : (v : EntryView) → frames.is_free (held v) ≡ is_free v
+pub free_held : (v : EntryView) → frames.is_free (held v) ≡ is_free v
 free_held views.Free = refl
 free_held (views.Loading page) = refl
 free_held (views.Valid page kinds.Secs perm blocked sealing) = refl

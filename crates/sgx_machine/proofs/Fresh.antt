@@ -22,6 +22,7 @@ use Rattle.track_epoch.specs.inner.Tracks.{track_of}
 use Rattle.version_array.specs.inner.Slots.{IsVaTable}
 use Rattle.version_array.proofs.TableLaws.{IsVaTable-none}
 use Rattle.sgx_types.specs.declared.names.TheConstants.{MOST_FRAMES}
+use Rattle.sgx_types.proofs.Lists.{get_or-like}
 use Rattle.evict_reload.proofs.PageLaws.{pages-none}
 use Rattle.sgx_machine.specs.declared.starts.Start as starts
 use Rattle.machine_laws.specs.inner.Guarded.{IsGuarded}
@@ -35,7 +36,6 @@ use Rattle.sgx_machine.specs.inner.Parts.{seat_of_mode, noted_by}
 use Rattle.sgx_machine.specs.inner.Parts.{epoch_from, start_of}
 use Rattle.sgx_machine.specs.inner.Whole.{AreHeld, IsNamedFor, IsTable, IsWithin, IsTracked, IsWhole, parts_of}
 use Rattle.sgx_machine.specs.declared.machine.Machine.TheInside.{Inside}
-use Rattle.sgx_machine.proofs.Columns.{like}
 use Rattle.machine_laws.proofs.ShapeSteps.{fresh_shaped}
 use Rattle.machine_laws.proofs.WholeLaws.{fresh_all}
 
@@ -45,7 +45,7 @@ replicate_more n x = replicate-append-replicate n 1 x
 
 no_enclave : (e : ℕ) → enclave_at empty_table e ≡ None
 no_enclave e = cond_both (e == 0) None (get_or empty_table (e - 1) None) (λ (v : Option SecsState). v ≡ None) (λ _. refl)
-    (λ _. like {X = Option SecsState} 8 (e - 1) None)
+    (λ _. get_or-like {X = Option SecsState} 8 (e - 1) None)
 
 -- each enclave is at the first epoch
 epochs_from : (n k epoch : ℕ) → epoch_from epoch (slice_get (replicate n (starting_at epoch)) k) ≡ epoch
@@ -62,24 +62,24 @@ pub made_state : (frames cpus : ℕ) (key : List ℕ) (epoch version : ℕ)
     → state_of (made frames cpus key epoch version) ≡ fresh frames cpus key epoch version
 made_state frames cpus key epoch version = λ i. record {
   frames = length-replicate frames free_frame i;
-  content = λ n. ap (λ (x : EpcFrame). held x.entry) (like frames n free_frame) i;
-  blocked = λ n. ap (λ (x : EpcFrame). block_of x.entry) (like frames n free_frame) i;
-  is_sealing = λ n. ap (λ (x : EpcFrame). goes_out x.entry) (like frames n free_frame) i;
-  words = λ n. ap (λ (x : EpcFrame). x.words) (like frames n free_frame) i;
+  content = λ n. ap (λ (x : EpcFrame). held x.entry) (get_or-like frames n free_frame) i;
+  blocked = λ n. ap (λ (x : EpcFrame). block_of x.entry) (get_or-like frames n free_frame) i;
+  is_sealing = λ n. ap (λ (x : EpcFrame). goes_out x.entry) (get_or-like frames n free_frame) i;
+  words = λ n. ap (λ (x : EpcFrame). x.words) (get_or-like frames n free_frame) i;
   enclaves = λ e. ap enclave_of (no_enclave e) i;
   added = λ g. ap (λ o. added_in o g.number) (no_enclave g.enclave) i;
   vas_made = 0;
   is_busy = λ g. ap (λ o. is_busy_in o g.number) (no_enclave g.enclave) i;
-  measure = λ e. like {X = Option Measure} 9 e None i;
-  inside = λ p. ap (λ x. seat_of_mode x.mode) (like cpus p idle) i;
-  acc = λ p. ap (λ x. x.acc) (like cpus p idle) i;
-  cache = λ p. ap (λ x. x.cache) (like cpus p idle) i;
-  noted = λ p. ap (λ x. noted_by x.mode) (like cpus p idle) i;
+  measure = λ e. get_or-like {X = Option Measure} 9 e None i;
+  inside = λ p. ap (λ x. seat_of_mode x.mode) (get_or-like cpus p idle) i;
+  acc = λ p. ap (λ x. x.acc) (get_or-like cpus p idle) i;
+  cache = λ p. ap (λ x. x.cache) (get_or-like cpus p idle) i;
+  noted = λ p. ap (λ x. noted_by x.mode) (get_or-like cpus p idle) i;
   epoch = λ e. first_epochs epoch e i;
   version_in = λ slot. 0;
   is_slot_named = λ slot. false;
   next_version = version;
-  start = λ n. ap start_of (like {X = Option starts.Start} frames n None) i;
+  start = λ n. ap start_of (get_or-like {X = Option starts.Start} frames n None) i;
   cpus = length-replicate cpus idle i;
   key = key;
   first_epoch = epoch;
@@ -143,8 +143,8 @@ held_made frames small = record {
   small = rw (length-replicate frames free_frame) small;
   counted = λ e. rw (no_enclave e) tt;
   owned = λ n. subst (λ (x : EpcFrame). IfSome (owner_in (held x.entry)) (λ e. is_some (enclave_at empty_table e) ≡ true))
-      (sym (like frames n free_frame)) tt;
-  named = λ n. subst (λ (x : EpcFrame). IsNamedFor x.entry) (sym (like frames n free_frame)) tt;
+      (sym (get_or-like frames n free_frame)) tt;
+  named = λ n. subst (λ (x : EpcFrame). IsNamedFor x.entry) (sym (get_or-like frames n free_frame)) tt;
 }
 
 table_made : IsTable empty_table

@@ -22,6 +22,7 @@ use Rattle.sgx_rules.specs.Table.{LoadSight, SecsSight, UseSight}
 use Rattle.sgx_rules.proofs.Contents.{invalid_no_va}
 use Rattle.sgx_rules.proofs.Rows.{none_holds}
 use Rattle.sgx_types.proofs.Truths.{eqb-swap, neither}
+use Rattle.sgx_types.proofs.Lists.{get_or-set_if}
 use Rattle.epcm_entry.specs.declared.entry_view.EntryView.{EntryView}
 use Rattle.epcm_entry.specs.declared.entry_view.EntryView.TheVariants as views
 use Rattle.epcm_entry.specs.inner.EntryView.{is_valid, block_of, goes_out, with_block, outgoing}
@@ -54,7 +55,7 @@ use Rattle.sgx_machine.specs.declared.starts.Start as opened
 use Rattle.sgx_machine.specs.inner.Parts.{Parts, added_in, enclave_of, is_busy_in, is_noted, start_of, epoch_from, state_of}
 use Rattle.sgx_machine.specs.inner.Whole.{IsNamedFor, IsSecsOf, IsTable, IsTracked, IsWhole, parts_of}
 use Rattle.sgx_machine.specs.declared.machine.Machine.TheInside.{Inside}
-use Rattle.sgx_machine.proofs.Columns.{get_or-set_if, through, same_at, numbered}
+use Rattle.sgx_machine.proofs.Columns.{through, same_at, numbered}
 use Rattle.sgx_machine.proofs.HeldLaws.{held_put, held_same, named_put, still_beside}
 use Rattle.sgx_machine.proofs.KeptStates.{kept_block, kept_track, kept_ewbstart, kept_eldstart}
 use Rattle.sgx_machine.proofs.PagingSights.{epoch_seen, frame_numbered, track_there, track_row_at, ewbstart_row_at}

@@ -11,6 +11,7 @@ use Rattle.sgx_types.specs.Pages.{is_va_page, page_at, same_page, secs_page, va_
 use Rattle.sgx_rules.specs.Frames.{Content, Free, IsVa, SecsOf, Holds, IsLoading, is_page}
 use Rattle.sgx_rules.specs.Sights.{seat_of}
 use Rattle.sgx_types.proofs.Pages.{same_pages}
+use Rattle.sgx_types.proofs.Lists.{get_or-set_if}
 use Rattle.epcm_entry.specs.inner.EntryView.{block_of, goes_out}
 use Rattle.epcm_entry.specs.inner.Epc.{EpcFrame, free_frame, entry_at, words_at, with_words}
 use Rattle.epcm_entry.specs.inner.Sights.{held}
@@ -37,7 +38,7 @@ use Rattle.sgx_machine.specs.inner.Parts.{seat_of_mode, state_of}
 use Rattle.sgx_machine.specs.inner.Whole.{IsSecsOf, IsTable}
 use Rattle.machine_laws.specs.inner.Stands.{IsSound, IsFramed}
 use Rattle.machine_laws.specs.inner.Stands.{HasEnclaves}
-use Rattle.sgx_machine.proofs.Columns.{get_or-set_if, get_or-default, same_at, numbered, enclave_kept, page_column}
+use Rattle.sgx_machine.proofs.Columns.{get_or-default, same_at, numbered, enclave_kept, page_column}
 use Rattle.machine_laws.proofs.SoundLaws.{seat_at}
 
 -- ---- how a processor stands

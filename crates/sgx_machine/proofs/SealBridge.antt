@@ -1,6 +1,7 @@
 -- What is sealed of what goes out of a frame: its header and its bytes.
 use Rattle.std.proofs.Common.{◌≡◌, ◌∙◌, ℕ, ◌==◌, Bool, true, false, not, refl, ap, subst, Option, Some, None, is_some, List, get_or, length}
 use Rattle.std.specs.Option.{IsSomeAnd}
+use Rattle.std.proofs.lemmas.Bool.{not-true}
 use Rattle.sgx_types.specs.declared.names.Kind.{Kind}
 use Rattle.sgx_types.specs.declared.names.Kind.TheVariants as kinds
 use Rattle.sgx_types.specs.declared.names.Page.{Page}
@@ -11,6 +12,7 @@ use Rattle.sgx_types.specs.Pages.{is_own_page, is_va_page, secs_page, va_page}
 use Rattle.sgx_types.specs.Layouts.{bytes_of}
 use Rattle.sgx_types.specs.Sealed.{header_of}
 use Rattle.sgx_types.proofs.Truths.{both_true}
+use Rattle.sgx_types.proofs.Lists.{there_below}
 use Rattle.sgx_rules.specs.Flat.{FlatEnclave}
 use Rattle.sgx_rules.specs.Frames.{Content, Free, Holds, IsLoading, IsVa, SecsOf, page_there}
 use Rattle.sgx_rules.specs.PageBytes.{secs_header, va_header}
@@ -27,13 +29,8 @@ use Rattle.sgx_machine.specs.declared.machine.Machine.TheInside.{Inside}
 use Rattle.sgx_machine.specs.inner.Parts.{Parts, state_of}
 use Rattle.sgx_machine.specs.inner.Whole.{IsWhole, parts_of}
 use Rattle.sgx_machine.proofs.BuildSteps.{measure_there}
-use Rattle.sgx_machine.proofs.Columns.{there_below}
 use Rattle.sgx_machine.proofs.CommitBridge.{HasHeader, own_choice}
 use Rattle.sgx_machine.proofs.ProcessorBridge.{pages_made}
-
-not_true : (b : Bool) → not b ≡ true → b ≡ false
-not_true true k = cc k
-not_true false k = refl
 
 -- ---- headers
 
@@ -51,8 +48,8 @@ held_header m h f page there = by_content (s.content f) refl there
     by_own (Some y) None own made added k q = cc q
     by_own (Some y) (Some x) own made added k q =
         let k = both_true (not (is_va_page page)) (not (page.number == SECS_NUMBER)) own in
-        let va = not_true (is_va_page page) k.0 in
-        let number = not_true (page.number == SECS_NUMBER) k.1 in
+        let va = not-true (is_va_page page) k.0 in
+        let number = not-true (page.number == SECS_NUMBER) k.1 in
         record {
           header = header_of y.base page x.0 x.1;
           headed = own_choice (is_va_page page) (page.number == SECS_NUMBER) _ _ _ va number
@@ -72,7 +69,7 @@ held_header m h f page there = by_content (s.content f) refl there
         let same : g ≡ page = cc k in
         let own : is_own_page g ≡ true = rw at at (h.guarded.kept.named f) in
         by_own (s.enclaves page.enclave) (s.added page) (rw (← same) own) refl refl
-        (pages_made (parts_of m) h.held.owned f page (ap page_there at ∙ ap Some same) (not_true (is_va_page page)
+        (pages_made (parts_of m) h.held.owned f page (ap page_there at ∙ ap Some same) (not-true (is_va_page page)
         (both_true (not (is_va_page page)) (not (page.number == SECS_NUMBER)) (rw (← same) own)).0))
         (rw (← same) (h.framed f g kind perm at))
 

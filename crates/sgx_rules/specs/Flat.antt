@@ -210,25 +210,13 @@ is_processors (OutLoad enclave off) = true
 is_processors (OutStore enclave off value) = true
 is_processors _ = false
 
--- an instruction that programs see
+-- an instruction that programs see: one that builds an enclave, or one of a processor
 abbrev pub is_visible : Action → Bool
 is_visible (Create enclave f base size) = true
 is_visible (Add enclave number f kind perm init) = true
 is_visible (Extend f chunk) = true
 is_visible (Init enclave expect) = true
-is_visible (Enter enclave tcs tf sf) = true
-is_visible (Resume enclave tcs tf sf) = true
-is_visible Exit = true
-is_visible (Aex cause) = true
-is_visible (Load off) = true
-is_visible (Store off value) = true
-is_visible (Xadd off value) = true
-is_visible (Set value) = true
-is_visible (Plus value) = true
-is_visible (Pf op off) = true
-is_visible (OutLoad enclave off) = true
-is_visible (OutStore enclave off value) = true
-is_visible _ = false
+is_visible action = is_processors action
 
 -- the row of an instruction of processor p
 abbrev pub flat_cpu_row : FlatMemory → ℕ → Action → Row

@@ -2,7 +2,7 @@
 -- machine reads what an instruction looks at from its own state, the rule on refusals from the entries, and flat memory
 -- from itself, so that no row can mean two things.
 use Rattle.std.specs.Prelude.{ℕ, ◌==◌, ◌+◌, ◌-◌, ◌%◌, ◌&&◌, ◌||◌, Bool, true, false}
-use Rattle.std.specs.Prelude.{if◌then◌else◌, Option, Some, None, List, [], ◌∷◌, nat_lt, not, is_none}
+use Rattle.std.specs.Prelude.{Option, Some, None, List, nat_lt, not, is_none}
 use Rattle.sgx_rules.specs.declared.refusals.Refusal.{Refusal}
 use Rattle.sgx_rules.specs.declared.refusals.Refusal.TheVariants as why
 use Rattle.sgx_types.specs.declared.names.Kind.{Kind}
@@ -18,7 +18,8 @@ use Rattle.sgx_types.specs.Pages.{page_at}
 use Rattle.sgx_rules.specs.Frames.{Content, Free, IsVa, SecsOf, Holds, IsLoading, is_page, is_free}
 use Rattle.sgx_types.specs.Cases.{Case, when, ◌otherwise◌, allowed}
 
--- a row: for whom it is refused and why, the first case that holds deciding
+-- a row: the cases in which an instruction is refused, each with its reason, in the order of the checks; the first
+-- case that holds decides
 abbrev pub Row : Type 0
 Row = List (Case Refusal)
 

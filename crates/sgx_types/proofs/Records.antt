@@ -1,9 +1,8 @@
 -- A record and its bytes.
 use Rattle.std.proofs.Common.{◌≡◌, ℕ, ◌+◌, ◌-◌, ◌^◌, ◌<◌, ◌≤◌, List, ◌++◌, length, get_or, take, drop}
-use Rattle.std.proofs.Common.{refl, ap, sym, ◌∙◌, arith, ⊎_elim}
+use Rattle.std.proofs.Common.{refl, ap, sym, ◌∙◌, arith}
 use Rattle.std.specs.Int.{w64, to_le_bytes, from_le_bytes}
-use Rattle.std.proofs.lemmas.Bool.{cases_lt}
-use Rattle.std.proofs.lemmas.List.{take-append-drop, get_or-take, get_or-drop, get_or_past, length-take, length-drop}
+use Rattle.std.proofs.lemmas.List.{take-append-drop, length-take, length-drop}
 use Rattle.std.proofs.lemmas.List.{append_assoc}
 use Rattle.std.proofs.lemmas.List.{drop-drop, take_at, drop_at, take_rest}
 use Rattle.std.proofs.lemmas.Nat.{le_bytes_8, from_le_bytes-to_le_bytes_8}
@@ -11,6 +10,7 @@ use Rattle.sgx_types.specs.inner.Layouts.{long_at}
 use Rattle.sgx_types.proofs.Chunks.{two_pieces}
 use Rattle.sgx_types.specs.Sealed.{Sealed}
 use Rattle.sgx_types.specs.inner.Sealed.{IsRecord, record_bytes}
+use Rattle.sgx_types.proofs.Lists.{piece_below}
 
 -- a record by its parts
 abbrev pub sealed_of : ℕ → ℕ → ℕ → List ℕ → List ℕ → Sealed
@@ -20,14 +20,6 @@ sealed_of enclave address flags cipher tag =
 -- the record that stands in so many bytes
 abbrev pub record_in : List ℕ → Sealed
 record_in bytes = sealed_of (long_at bytes 0) (long_at bytes 8) (long_at bytes 16) (take 4096 (drop 24 bytes)) (drop 4120 bytes)
-
--- every element of a piece is below a bound that the list keeps
-piece_below : (n i : ℕ) (xs : List ℕ) → ((k : ℕ) → get_or xs k 0 < 256) → (k : ℕ) → get_or (take n (drop i xs)) k 0 < 256
-piece_below n i xs small k =
-    ⊎_elim (λ (low : k < n). rw (get_or-take n (drop i xs) k 0 low, get_or-drop i xs k 0) (small (i + k)))
-    (λ (past : n ≤ k). let short : length (take n (drop i xs)) ≤ k = simp length-take (omega arith) in
-    let none : get_or (take n (drop i xs)) k 0 ≡ 0 = get_or_past (take n (drop i xs)) k 0 short in omega arith)
-    (cases_lt k n)
 
 -- the number in 8 bytes has these bytes
 long_bytes : (i : ℕ) (bytes : List ℕ) → i + 8 ≤ length bytes → ((k : ℕ) → get_or bytes k 0 < 256)

@@ -5,9 +5,9 @@
 // many of the entries are made so, and whether the calls of the store are those that are given. All that is expected was made by the
 // reference program, a plain, unverified one with the same command line.
 //
-// Behind `audits` given traces are judged, and by the processor's rules alone too. Each right one is a history of its job, and each wrong one
-// beside it fails first at the place, and by the rule, that is told of it. Behind `checks` stand traces of another driver, and nothing else
-// is told of them than what the processor's rules say.
+// Behind `audits` given traces are judged, and by the processor's rules alone too. Each right one is a history of its
+// job, and each wrong one beside it fails first at the place, and by the rule, that is told of it. Behind `checks` stand
+// traces of another driver, and nothing else is told of them than what the processor's rules say.
 #![tactic(auto)]
 
 mod audits;

@@ -17,8 +17,8 @@ impl fmt::Display for Shown {
     }
 }
 
-/// Whether a trace of which this is told by all rules can be judged so by the processor's alone: one of which they tell is judged alike, and
-/// any other fails by them at no earlier place.
+/// Whether a trace of which this is told by all rules can be judged so by the processor's alone: one of which they tell
+/// is judged alike, and any other fails by them at no earlier place.
 pub fn goes_with(told: Verdict, checked: Verdict) -> bool {
     let Verdict::No { place, rule } = told else {
         return checked == Verdict::Yes;

@@ -19,8 +19,8 @@ pub struct Wrong {
 }
 
 impl Wrong {
-    /// Reads a wrong trace: lines `# WHAT`, `no PLACE RULE`, `at PLACE drop COUNT`, and `+ ENTRY` for each entry that stands there. A second
-    /// line `yes` says that it is a history all the same.
+    /// Reads a wrong trace: lines `# WHAT`, `no PLACE RULE`, `at PLACE drop COUNT`, and `+ ENTRY` for each entry that
+    /// stands there. A second line `yes` says that it is a history all the same.
     pub fn read(alloc: Global, text: &str) -> Result<Option<Wrong>, Memory> {
         let mut lines = text.lines();
         let (Some(first), Some(second), Some(third)) = (lines.next(), lines.next(), lines.next())

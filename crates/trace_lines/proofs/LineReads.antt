@@ -23,7 +23,8 @@ use Rattle.trace_text.specs.declared.edition.Edition.TheVariants as editions
 use Rattle.trace_text.specs.Names.{look_word, stop_word}
 use Rattle.text_words.proofs.Splits.{AreWords, IsApart, is_word, join-apart, split-join}
 use Rattle.text_words.proofs.WordLaws.{decimal-is_word, digest-is_word, hexadecimal-is_word}
-use Rattle.trace_text.specs.Fields.{AllFit, Field, Fits, action_fields, answer_fields, event_fields, field_words, refusal_fields, words_of_fields}
+use Rattle.trace_text.specs.Fields.{AllFit, Field, Fits, field_words, words_of_fields}
+use Rattle.trace_text.specs.Fields.{action_fields, answer_fields, event_fields, refusal_fields}
 use Rattle.trace_text.specs.Fields.{name, number, address, enclave, page, digest, is_lettered_secs, page_words}
 use Rattle.trace_text.specs.TraceText.{actor_word, spelling}
 use Rattle.trace_text.specs.Readable.{IsReadable}
@@ -136,7 +137,8 @@ module _ (edition : Edition) where
   both-few : (fields others : List Field) → length (words_of_fields edition fields) ≤ 9 → length (words_of_fields edition others) ≤ 4
       → length (words_of_fields edition (fields ++ others)) ≤ 13
   both-few fields others few less =
-      rw (words_append edition fields others) (omega (arith, length-append (words_of_fields edition fields) (words_of_fields edition others), few, less))
+      rw (words_append edition fields others)
+      (omega (arith, length-append (words_of_fields edition fields) (words_of_fields edition others), few, less))
 
   event-few : (event : Event) → length (words_of_fields edition (event_fields event)) ≤ 14
   event-few (events.Did action answer) =

@@ -67,7 +67,8 @@ module _ (edition : Edition) where
 
   -- the words of an instruction, and any behind them
   action-read : (action : Action) (rest : Words) → AllFit (action_fields action)
-      → let words : Words = words_of_fields edition (action_fields action) ++ rest in action_of (first words) (drop 1 words) ≡ Some (action, rest)
+      → let words : Words = words_of_fields edition (action_fields action) ++ rest in
+      action_of (first words) (drop 1 words) ≡ Some (action, rest)
   unfolding action_of row_of operands_in
   action-read (actions.Epa f) rest fits = rw (frame-read f.0 fits.1.0) refl
   action-read (actions.Create e f base size) rest fits =

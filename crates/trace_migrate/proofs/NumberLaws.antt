@@ -117,7 +117,8 @@ pub along_more : (entries : List Entry) (i : ℕ) (d : Entry) → i < length ent
     (get_or entries i d) ∷ []
 along_more entries i d within =
     ap (λ (past : List Entry). reverse (numbered_anew past)) (newest_more entries i d within)
-    ∙ reverse-append (numbered_entry (vas_made (reverse (take i entries))) (get_or entries i d) ∷ []) (numbered_anew (reverse (take i entries)))
+    ∙ reverse-append (numbered_entry (vas_made (reverse (take i entries))) (get_or entries i d) ∷ [])
+    (numbered_anew (reverse (take i entries)))
 
 pub made_more : (entries : List Entry) (i : ℕ) (d : Entry) → i < length entries
     → vas_made (reverse (take (i + 1) entries)) ≡ vas_after (get_or entries i d).event (vas_made (reverse (take i entries)))

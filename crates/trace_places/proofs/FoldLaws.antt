@@ -101,4 +101,5 @@ place_by past g None None (Some version) a l v = (has_none past (Has g) a, has_n
 place_by past g None None None a l v = (has_none past (Has g) a, has_none past (Awaits g) l, v)
 
 pub is_place : (past : List Entry) (g : Page) → IsWhere past g (place_of past g)
-is_place past g = place_by past g (least (frames_having past (Has g))) (least (frames_having past (Awaits g))) (gone_last past g) refl refl refl
+is_place past g =
+    place_by past g (least (frames_having past (Has g))) (least (frames_having past (Awaits g))) (gone_last past g) refl refl refl

@@ -47,7 +47,8 @@ pub not_gone : (change : Change) (g : Page) (before : Option ℕ) → is_this (p
 not_gone (Puts f t) g before h = refl
 not_gone (Empties f went) g before h = not_gone_by went g before h
 
-pub frames_stay : (change : Change) (former : Option Tenant) (t : Tenant) (ns : List ℕ) → is_this (page_at_frame former) (page_of_tenant t) ≡ false
+pub frames_stay : (change : Change) (former : Option Tenant) (t : Tenant) (ns : List ℕ)
+    → is_this (page_at_frame former) (page_of_tenant t) ≡ false
     → is_this (page_named change) (page_of_tenant t) ≡ false → frames_with change former t ns ≡ ns
 frames_stay change former t ns a b =
     rw (other_tenant (tenant_of change) t (not_put change (page_of_tenant t) b), other_tenant former t a) refl

@@ -3,7 +3,7 @@ use Rattle.std.proofs.Common.{inl, inr}
 use Rattle.std.proofs.Common.{◌≡◌, ℕ, ◌<◌, ◌≤◌, ◌==◌, ◌&&◌, ◌||◌, not, Bool, true, false, nat_lt}
 use Rattle.std.proofs.Common.{List, [], ◌∷◌, refl, sym, ap, ◌∙◌, arith}
 use Rattle.std.proofs.lemmas.Bool.{cases_order, lt-ltb, le-ltb, eq-eqb, ne_eqb, eqb-true, or_parts, and_right}
-use Rattle.sgx_types.proofs.Truths.{tested}
+use Rattle.sgx_types.proofs.Truths.{tested, or_swap}
 use Rattle.trace_places.specs.Places.{put_in, take_out}
 use Rattle.trace_places.specs.Laws.{has_number, RiseFrom, IsRising}
 
@@ -69,11 +69,6 @@ pub none_below : (b n : ℕ) (ms : List ℕ) → n ≤ b → RiseFrom b ms → h
 none_below b n [] le h = refl
 none_below b n (m ∷ ms) le h =
     rw (ne_eqb m n (λ e. omega (arith, le, h.0, e))) (none_below m n ms (omega (arith, le, h.0)) h.1)
-
-or_swap : (a b c : Bool) → (a || (b || c)) ≡ (b || (a || c))
-or_swap true true c = refl
-or_swap true false c = refl
-or_swap false b c = refl
 
 or_twice : (a c : Bool) → (a || c) ≡ (a || (a || c))
 or_twice true c = refl

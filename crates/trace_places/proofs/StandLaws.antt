@@ -8,7 +8,8 @@ use Rattle.trace_places.specs.declared.change.Tenant.TheVariants.{Has, Awaits}
 use Rattle.trace_places.specs.declared.change.Change.{Change}
 use Rattle.trace_places.specs.declared.places.Places.{Places}
 use Rattle.trace_places.specs.Places.{change_after, change_by, frame_changed, tenant_of, tenant_after, tenant, is_tenant}
-use Rattle.trace_places.specs.Places.{put_in, take_out, frames_after, frames_having, gone_after, gone_last, va_number, least, where_by, place_of}
+use Rattle.trace_places.specs.Places.{put_in, take_out, frames_after, frames_having, gone_after, gone_last}
+use Rattle.trace_places.specs.Places.{va_number, least, where_by, place_of}
 use Rattle.trace_places.specs.inner.Frames.{frames_in}
 use Rattle.trace_places.specs.inner.Tables.{tenant_in, gone_in, place_in, Stands, frames_with}
 use Rattle.trace_places.proofs.RisingLaws.{take_absent}

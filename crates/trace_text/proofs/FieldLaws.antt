@@ -24,7 +24,8 @@ refusal_words edition why.WrongMode = refl
 refusal_words edition refusal = refl
 
 -- the words of a refusal behind those of its instruction
-pub refused_words : (edition : Edition) (fields : List Field) (refusal : Refusal) → words_of_fields edition (fields ++ refusal_fields refusal)
+pub refused_words : (edition : Edition) (fields : List Field) (refusal : Refusal)
+    → words_of_fields edition (fields ++ refusal_fields refusal)
     ≡ words_of_fields edition fields ++ words_of_fields editions.Two (refusal_fields refusal)
 refused_words edition fields refusal = words_append edition fields (refusal_fields refusal)
     ∙ ap (λ words. words_of_fields edition fields ++ words) (refusal_words edition refusal)
@@ -37,6 +38,7 @@ add_words edition enclave number f kind perm (inits.Words v) = refl
 add_words edition enclave number f kind perm (inits.Tcs ossa nssa) = refl
 
 pub init_words : (edition : Edition) (enclave : ℕ) (expect : Option (List ℕ))
-    → words_of_fields edition (action_fields (actions.Init enclave expect)) ≡ words_of_fields editions.Two (action_fields (actions.Init enclave expect))
+    → words_of_fields edition (action_fields (actions.Init enclave expect))
+    ≡ words_of_fields editions.Two (action_fields (actions.Init enclave expect))
 init_words edition enclave None = refl
 init_words edition enclave (Some digest) = refl

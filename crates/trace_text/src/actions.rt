@@ -273,7 +273,8 @@ fn write_outload(enclave: u16, off: u64, onto: &mut Vec<u8>)
 
 fn write_outstore(enclave: u16, off: u64, value: u64, onto: &mut Vec<u8>)
     requires { HasRoom ACTION_ROOM onto.old }
-    ensures text { onto.new.items ≡ with_words onto.old.items (words_of_fields Edition.Two (action_fields (Action.OutStore enclave off value))) }
+    ensures text { onto.new.items
+        ≡ with_words onto.old.items (words_of_fields Edition.Two (action_fields (Action.OutStore enclave off value))) }
     ensures room { UsesRoom ACTION_ROOM onto.old onto.new }
 {
     write_words(

@@ -27,7 +27,8 @@ use Rattle.worked_driver.proofs.LawfulLaws.{lawful_says, misdone_breaks, none_of
 use Rattle.worked_driver.proofs.SettledLaws.{settled}
 
 -- what a rule of the machine says of a place alone
-says_of_place : (j : JobView) (past : List Entry) (rule : Rule) → is_settled j past ≡ true → is_machines rule ≡ true → RuleSays j rule past None
+says_of_place : (j : JobView) (past : List Entry) (rule : Rule) → is_settled j past ≡ true → is_machines rule ≡ true
+    → RuleSays j rule past None
 says_of_place j past rules.Refusal h own = tt
 says_of_place j past rules.Flat h own = tt
 says_of_place j past rules.Fits h own = (tt, (settled j past h).0)

@@ -37,7 +37,7 @@ use Rattle.sgx_rules.proofs.Contents.{free_is}
 use Rattle.job_grammar.specs.Jobs.{JobView}
 use Rattle.script_rules.specs.Machines.{machine_of}
 use Rattle.driver_rules.specs.inner.Same.{same_numbers}
-use Rattle.driver_rules.proofs.SameLaws.{action-refl, action-true}
+use Rattle.driver_rules.proofs.SameLaws.{action-refl, numbers-true}
 use Rattle.history_rules.specs.declared.rules.Rule.{Rule}
 use Rattle.history_rules.specs.declared.rules.Rule.TheVariants as rules
 use Rattle.history_rules.specs.Histories.{RuleSays}
@@ -58,12 +58,6 @@ pub is_below : (m n : ℕ) → nat_lt m n ≡ true → m < n
 is_below m n h = grind arith
 
 -- ---- lists of numbers, by the digest of an `init`
-
-numbers_equal : (a b : List ℕ) → same_numbers a b ≡ true → a ≡ b
-numbers_equal a b h = told (action-true (Init 0 (Some a)) (Init 0 (Some b)) h)
-  where
-    told : Init 0 (Some a) ≡ Init 0 (Some b) → a ≡ b
-    told e = cc
 
 numbers_refl : (a : List ℕ) → same_numbers a a ≡ true
 numbers_refl a = action-refl (Init 0 (Some a))
@@ -294,7 +288,7 @@ was_out : (o : Option Out) (version : ℕ) (tag : List ℕ) → is_out o version
 was_out None version tag h = absurd (false≢true h)
 was_out (Some out) version tag h =
     let k = both_true (out.version == version) (same_numbers out.tag tag) h in
-    λ i. Some (record { version = eqb-true out.version version k.0 i; tag = numbers_equal out.tag tag k.1 i })
+    λ i. Some (record { version = eqb-true out.version version k.0 i; tag = numbers-true out.tag tag k.1 i })
 
 in_slot : (past : List Entry) (o : Option Start) (version : ℕ) → is_in_slot past o version ≡ true
     → IsSomeAnd o (λ start. version_in past start.slot ≡ version)

@@ -33,7 +33,8 @@ pub data IsBest (frames : ℕ) (held : List Page) (page : Page) (coming : List P
 -- such a step for each access
 abbrev pub IsBestRun : ℕ → List Page → List Page → List StepView → Type 0
 IsBestRun frames held [] [] = Unit {0}
-IsBestRun frames held (page ∷ coming) (step ∷ steps) = IsBest frames held page coming step × IsBestRun frames (held_behind held step) coming steps
+IsBestRun frames held (page ∷ coming) (step ∷ steps) =
+    IsBest frames held page coming step × IsBestRun frames (held_behind held step) coming steps
 IsBestRun frames held _ _ = ⊥
 
 -- pages that are held are distinct, and fit

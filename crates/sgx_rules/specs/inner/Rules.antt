@@ -8,7 +8,6 @@ use Rattle.sgx_rules.specs.Frames.{content, stands}
 use Rattle.sgx_types.specs.Making.{Making}
 use Rattle.sgx_rules.specs.Starts.{open_start}
 use Rattle.sgx_rules.specs.inner.Starts.{is_load_of}
-use Rattle.sgx_rules.specs.Flat.{flat}
 use Rattle.sgx_rules.specs.Rules.{Along, RefusalRule, FlatRule, Fits, Stale}
 
 -- ---- what a driver keeps so that no page stands in two frames

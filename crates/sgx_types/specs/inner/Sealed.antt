@@ -1,5 +1,5 @@
 -- The bytes of a record, and why bytes give none.
-use Rattle.std.specs.Prelude.{ℕ, ◌≡◌, ◌+◌, ◌<◌, ◌^◌, ◌==◌, if◌then◌else◌, List, ◌++◌, length}
+use Rattle.std.specs.Prelude.{ℕ, ◌≡◌, ◌<◌, ◌^◌, ◌==◌, if◌then◌else◌, List, ◌++◌, length}
 use Rattle.sgx_types.specs.declared.record.RecordFault.{RecordFault}
 use Rattle.sgx_types.specs.declared.record.RecordFault.TheVariants.{BadLength, Memory}
 use Rattle.sgx_types.specs.Sealed.{Sealed, header_bytes}

@@ -8,8 +8,8 @@ use Rattle.trace_places.specs.inner.Tables.{Stands}
 use Rattle.trace_query.specs.inner.Insides as insides
 use Rattle.trace_tally.specs.declared.sights.Sights.{Sights}
 use Rattle.trace_tally.specs.declared.counts.Seen.{Seen}
-use Rattle.trace_tally.specs.Tests.{is_page_entered, tenant_page, was_back, is_written, is_entered_then, is_cached_now, is_reloaded, is_again}
-use Rattle.trace_tally.specs.Tests.{is_odd}
+use Rattle.trace_tally.specs.Tests.{is_page_entered, tenant_page, was_back, is_written}
+use Rattle.trace_tally.specs.Tests.{is_entered_then, is_cached_now, is_reloaded, is_again, is_odd}
 use Rattle.trace_tally.specs.inner.Blocks as blocks
 
 pub record Knows (known : Sights) (past : List Entry) : Type 0 where

@@ -1,8 +1,9 @@
 use Rattle.std.proofs.Common.{◌<◌, length, arith}
 use Rattle.io_edges.proofs.Read.{told_at_err}
 use Rattle.picture_text.specs.PictureText.{lane_text}
+use Rattle.picture_text.proofs.PartLaws.{lines_more}
 use Rattle.trace_pieces.proofs.HeldLaws.{broke_off, held_line}
-use Rattle.command_picture.proofs.PieceLaws.{lines_more, lines_parted}
+use Rattle.command_picture.proofs.PieceLaws.{lines_parted}
 use Rattle.command_picture.proofs.pieces.give_lanes.Goals as goal
 
 pub loop-lane-preserved : goal.loop-lane-preserved

@@ -30,9 +30,11 @@ returns-in-Err-Failed-clause-says g c =
     c.in-Ok.ensures.entries in
     let text : List ℕ = showing_text c.args.showing (reverse c.in-Ok.entries.items) in
     let part : GivesPart (g.K.Sink.given c.args.out.now) (g.K.Sink.given c.give.new.out) text =
-    subst (λ entries. GivesPart (g.K.Sink.given c.args.out.now) (g.K.Sink.given c.give.new.out) (showing_text c.args.showing (reverse entries)))
+    subst (λ entries. GivesPart (g.K.Sink.given c.args.out.now)
+    (g.K.Sink.given c.give.new.out) (showing_text c.args.showing (reverse entries)))
     c.deref_mut.ensures.value
-    (subst (λ o. GivesPart (g.K.Sink.given o) (g.K.Sink.given c.give.new.out) (showing_text c.args.showing (reverse c.deref_mut.result.now)))
+    (subst (λ o. GivesPart (g.K.Sink.given o)
+    (g.K.Sink.given c.give.new.out) (showing_text c.args.showing (reverse c.deref_mut.result.now)))
     c.in-Ok.ensures.untold (c.in-Err-Failed.ensures.broke (ap Err c.in-Err-Failed.field-0-is))) in
     let Told : Edition → Type 0 = λ e. OfRead (g.O.Source.left c.args.old.now) (λ bytes.
     Ends (OfTrace e bytes (λ past. Is (showing_text c.args.showing past))) statuses.WriteFault (g.K.Sink.given c.args.out.now)
