@@ -67,7 +67,8 @@ use Rattle.driver_laws.proofs.MarkLaws.{head_own}
 use Rattle.driver_laws.proofs.OwnLaws.{script_own}
 use Rattle.driver_laws.proofs.PassLaws.{tracks_stay}
 use Rattle.driver_laws.proofs.SoundLaws.{entry_of, first_sound, stays_sound}
-use Rattle.driver_laws.proofs.StageLaws.{first_pages, left_before, pages_kept, takes}
+use Rattle.driver_laws.proofs.AsideLaws.{left_before, takes}
+use Rattle.driver_laws.proofs.StageLaws.{first_pages, pages_kept}
 use Rattle.driver_laws.proofs.StillLaws.{holds_here}
 use Rattle.driver_laws.proofs.WithinLaws.{HoldsNonePast, none_past, script_load, within_past}
 use Rattle.sgx_rules.specs.declared.entries.Action.TheVariants as actions

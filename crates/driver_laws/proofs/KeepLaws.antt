@@ -23,8 +23,12 @@ use Rattle.driver_laws.specs.inner.Keeps.{ArraysFirst, GivesIf, IsSameOut, Keepe
 use Rattle.driver_laws.specs.inner.Kinds.{CanMove}
 use Rattle.driver_laws.specs.inner.Sound.{is_absent, IsSound, stands_in}
 use Rattle.driver_laws.specs.inner.Used.{StartTells, VersionsStand}
-use Rattle.driver_laws.proofs.AgreeLaws.{is_less, is_more, shows_add, shows_age, shows_create, shows_eld, shows_eldstart, shows_epa}
-use Rattle.driver_laws.proofs.AgreeLaws.{shows_ewb, shows_ewbstart, shows_occupied, shows_refused, shows_unkept}
+use Rattle.driver_laws.proofs.KeeperGives.{shows_eld}
+use Rattle.driver_laws.proofs.KeeperGrows.{shows_epa}
+use Rattle.driver_laws.proofs.KeeperRests.{shows_add, shows_age, shows_create, shows_eldstart}
+use Rattle.driver_laws.proofs.KeeperTakes.{is_less, is_more}
+use Rattle.driver_laws.proofs.KeeperRests.{shows_ewb, shows_refused}
+use Rattle.driver_laws.proofs.KeeperTakes.{shows_ewbstart, shows_occupied, shows_unkept}
 use Rattle.driver_laws.proofs.SoundLaws.{entry_of, load_start, named}
 use Rattle.sgx_rules.specs.declared.entries.Look.TheVariants as looks
 use Rattle.sgx_rules.specs.declared.refusals.Refusal.TheVariants as why

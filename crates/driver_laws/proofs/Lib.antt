@@ -16,9 +16,15 @@ pub mod ThreeEntryLaws
 pub mod ThreeLaws
 pub mod TcsLaws
 pub mod SlotMoves
-pub mod AgreeLaws
+pub mod KeeperRests
+pub mod KeeperTakes
+pub mod KeeperGives
+pub mod KeeperGrows
 pub mod MarkLaws
 pub mod StillLaws
+pub mod WaitLaws
+pub mod OwnPassLaws
+pub mod AsideLaws
 pub mod StageLaws
 pub mod SpentLaws
 pub mod StartedLaws

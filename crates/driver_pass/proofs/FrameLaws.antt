@@ -19,7 +19,7 @@ use Rattle.driver_rules.specs.Passes.{Pass}
 use Rattle.driver_rules.specs.Places.{Leaving, place}
 use Rattle.driver_laws.proofs.MoveLaws.{place-quiet}
 use Rattle.driver_laws.proofs.SoundLaws.{entry_of}
-use Rattle.driver_laws.proofs.StageLaws.{AllOwn, OwnPass}
+use Rattle.driver_laws.proofs.OwnPassLaws.{AllOwn, OwnPass}
 use Rattle.driver_laws.proofs.StillLaws.{frames_apart, still}
 use Rattle.driver_laws.specs.inner.Kinds.{CanMove, is_quiet}
 use Rattle.driver_laws.specs.inner.Sound.{IsSound}

@@ -39,7 +39,7 @@ use Rattle.driver_rules.proofs.ReclaimLaws.{due_is_other}
 use Rattle.driver_laws.proofs.MarkLaws.{head_own}
 use Rattle.driver_laws.proofs.MoveLaws.{place-quiet}
 use Rattle.driver_laws.proofs.SoundLaws.{entry_of}
-use Rattle.driver_laws.proofs.StageLaws.{OwnPass, pass_own}
+use Rattle.driver_laws.proofs.OwnPassLaws.{OwnPass, pass_own}
 use Rattle.driver_laws.proofs.StillLaws.{still}
 use Rattle.driver_laws.specs.inner.Agrees.{Keeping}
 use Rattle.driver_laws.specs.inner.Kinds.{CanMove}

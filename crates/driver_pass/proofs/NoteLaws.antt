@@ -29,7 +29,7 @@ use Rattle.driver_rules.specs.Passes.{Between, Blocking, Pass, Tries, keepers, k
 use Rattle.driver_rules.specs.Places.{Leaving, active, place}
 use Rattle.driver_laws.proofs.MarkLaws.{head_own}
 use Rattle.driver_laws.proofs.SoundLaws.{entry_of}
-use Rattle.driver_laws.proofs.StageLaws.{AllOwn, OwnPass, pass_own}
+use Rattle.driver_laws.proofs.OwnPassLaws.{AllOwn, OwnPass, pass_own}
 use Rattle.driver_laws.proofs.StillLaws.{holds_here}
 use Rattle.driver_laws.proofs.TrackLaws.{own_holds}
 use Rattle.driver_laws.specs.inner.Agrees.{Keeping}

@@ -24,7 +24,7 @@ use Rattle.driver_rules.specs.Passes as passes
 use Rattle.driver_rules.specs.Passes.{Aside, aside, IsGoing, IsToGo, NoneAside}
 use Rattle.driver_rules.specs.Places.{place}
 use Rattle.driver_rules.specs.Spares.{array_at, due_by, due_with, is_alone, is_full, is_spare, least_from, Outs, outs_kept, spare}
-use Rattle.driver_laws.proofs.AgreeLaws.{found_made}
+use Rattle.driver_laws.proofs.KeeperTakes.{found_made}
 use Rattle.driver_laws.proofs.BuiltLaws.{added_has_pages, own_added, vas_moved}
 use Rattle.driver_laws.proofs.MarkLaws.{head_own}
 use Rattle.driver_laws.specs.inner.Sound.{is_absent}

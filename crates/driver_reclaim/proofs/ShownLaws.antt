@@ -42,7 +42,7 @@ use Rattle.driver_rules.specs.Places.{active, Here, Leaving, place}
 use Rattle.driver_rules.specs.Spares.{array_at, due_by, due_with, is_alone, is_full, is_spare, least_from, Outs, outs_kept, spare}
 use Rattle.driver_laws.proofs.KeepLaws.{stays_shown}
 use Rattle.driver_laws.proofs.MarkLaws.{is_markless, listed-quiet}
-use Rattle.driver_laws.proofs.AgreeLaws.{ours_within}
+use Rattle.driver_laws.proofs.KeeperTakes.{ours_within}
 use Rattle.driver_laws.proofs.RowLaws.{own_held}
 use Rattle.driver_laws.proofs.SoundLaws.{head_here, own_none}
 use Rattle.driver_laws.proofs.StillLaws.{holds_here}

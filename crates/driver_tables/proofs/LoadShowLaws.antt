@@ -35,7 +35,9 @@ use Rattle.driver_laws.specs.inner.Keeps.{GivesIf}
 use Rattle.driver_slots.specs.inner.Keeper.{is_ours}
 use Rattle.driver_laws.specs.inner.Kinds.{CanMove}
 use Rattle.driver_laws.specs.inner.Sound.{IsSound}
-use Rattle.driver_laws.proofs.AgreeLaws.{is_less, IsLess, shows_eld, shows_eldstart, shows_refused}
+use Rattle.driver_laws.proofs.KeeperGives.{shows_eld}
+use Rattle.driver_laws.proofs.KeeperRests.{shows_eldstart, shows_refused}
+use Rattle.driver_laws.proofs.KeeperTakes.{is_less, IsLess}
 use Rattle.driver_laws.proofs.MarkLaws.{listed-eld, listed-eld-other, listed-quiet}
 use Rattle.driver_laws.proofs.MoveLaws.{loads-other, place-eld, place-eld-other, place-eld-refused, place-eld-refused-other}
 use Rattle.driver_laws.proofs.MoveLaws.{place-eldstart}

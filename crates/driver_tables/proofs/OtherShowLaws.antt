@@ -31,7 +31,8 @@ use Rattle.driver_laws.specs.inner.Agrees.{Keeping, ShowsSlots, has_pages, liste
 use Rattle.driver_laws.specs.inner.Kinds.{CanMove, is_quiet}
 use Rattle.driver_laws.specs.inner.Sound.{IsSound}
 use Rattle.driver_laws.specs.inner.Used.{VersionsStand}
-use Rattle.driver_laws.proofs.AgreeLaws.{shows_add, shows_create, shows_epa}
+use Rattle.driver_laws.proofs.KeeperGrows.{shows_epa}
+use Rattle.driver_laws.proofs.KeeperRests.{shows_add, shows_create}
 use Rattle.driver_laws.proofs.MarkLaws.{is_markless, is_use, listed-add, listed-quiet, listed-use, listed-uses}
 use Rattle.driver_laws.proofs.MoveLaws.{place-add, place-add-other, place-create, place-create-other, place-epa, place-epa-other}
 use Rattle.driver_laws.proofs.MoveLaws.{place-quiet}

@@ -39,7 +39,8 @@ use Rattle.driver_laws.specs.inner.Keeps.{GivesIf, IsSameOut, KeeperMoves, Leave
 use Rattle.driver_laws.specs.inner.Used.{VersionsStand}
 use Rattle.driver_laws.specs.inner.Kinds.{CanMove, is_quiet}
 use Rattle.driver_laws.specs.inner.Sound.{IsSound, is_absent}
-use Rattle.driver_laws.proofs.AgreeLaws.{is_more, shows_age, shows_ewb, shows_ewbstart}
+use Rattle.driver_laws.proofs.KeeperRests.{shows_age, shows_ewb}
+use Rattle.driver_laws.proofs.KeeperTakes.{is_more, shows_ewbstart}
 use Rattle.driver_laws.proofs.KeepLaws.{stays_shown}
 use Rattle.driver_laws.proofs.MarkLaws.{head_own, is_markless, listed-aside, listed-held, listed-noroom, listed-quiet, listed-taken}
 use Rattle.driver_laws.proofs.MarkLaws.{listed-young}

@@ -56,7 +56,7 @@ use Rattle.driver_laws.specs.inner.Sound.{IsSound}
 use Rattle.driver_laws.proofs.DueLaws.{due_inits}
 use Rattle.driver_laws.proofs.OwnLaws.{script_own}
 use Rattle.driver_laws.proofs.SoundLaws.{entry_of}
-use Rattle.driver_laws.proofs.StageLaws.{left_before, takes}
+use Rattle.driver_laws.proofs.AsideLaws.{left_before, takes}
 use Rattle.driver_laws.proofs.StepLaws.{Builds, ByStep, NoStep, builds_or_none}
 use Rattle.driver_laws.proofs.HistoryLaws.{stands_where}
 use Rattle.due_notes.specs.inner.Noted.{HasSecsHere}

@@ -10,5 +10,7 @@ pub mod OrderLaws
 pub mod EndLaws
 pub mod OnceLaws
 pub mod NeedLaws
+pub mod HeldLists
+pub mod HoldBegins
 pub mod HoldLaws
 pub mod FirstLaws

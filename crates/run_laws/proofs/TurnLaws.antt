@@ -46,7 +46,7 @@ use Rattle.driver_laws.specs.inner.Stages.{HasAside, HasPages, IsTaken, IsTrying
 use Rattle.driver_laws.specs.inner.Tracking.{TrackingRule}
 use Rattle.driver_laws.specs.inner.Tracks.{IsCalm, IsUntracked, KeepsTracks}
 use Rattle.driver_laws.specs.inner.Used.{StartTells}
-use Rattle.driver_laws.proofs.AgreeLaws.{found_index, ours_within}
+use Rattle.driver_laws.proofs.KeeperTakes.{found_index, ours_within}
 use Rattle.driver_laws.proofs.BuiltLaws.{own_there}
 use Rattle.driver_laws.proofs.EpochLaws.{none_older}
 use Rattle.driver_tables.specs.declared.driver.Driver.{Driver}

@@ -1,13 +1,12 @@
 -- What the commits of EWB and ELDU leave of the machine's parts, and what they answer.
-use Rattle.std.proofs.Common.{◌≡◌, ◌≢◌, ℕ, ◌/◌, ◌<◌, ◌≤◌, ◌==◌, ◌&&◌, not, Bool, true, false}
-use Rattle.std.proofs.Common.{cond, refl, sym, ap, subst, ◌∙◌, ◌⊎◌, inl, inr, arith}
-use Rattle.std.proofs.Common.{Option, Some, None, IfSome, List, length, set, is_some, length-set}
-use Rattle.std.specs.Prelude.{Ok, nat_lt, slice_index}
-use Rattle.std.specs.Option.{IsSomeAnd, option_and_then}
-use Rattle.std.proofs.lemmas.Bool.{cases_lt, eqb-true, false≢true}
-use Rattle.std.proofs.lemmas.List.{get_or_past}
+use Rattle.std.proofs.Common.{◌≡◌, ◌≢◌, ℕ, ◌/◌, ◌<◌, ◌==◌, ◌&&◌, Bool, true, false}
+use Rattle.std.proofs.Common.{cond, refl, sym, ap, subst, ◌∙◌, arith}
+use Rattle.std.proofs.Common.{Option, Some, None, List, length, set, is_some, length-set}
+use Rattle.std.specs.Prelude.{Ok, slice_index}
+use Rattle.std.specs.Option.{IsSomeAnd}
+use Rattle.std.proofs.lemmas.Bool.{eqb-true, false≢true}
 use Rattle.sgx_types.specs.declared.names.Actor.{Actor}
-use Rattle.sgx_rules.specs.declared.entries.Action.TheVariants.{Ewb, Eld}
+use Rattle.sgx_rules.specs.declared.entries.Action.TheVariants.{Eld}
 use Rattle.sgx_rules.specs.declared.entries.Answer.TheVariants.{Moved}
 use Rattle.sgx_rules.specs.declared.entries.Entry.{Entry}
 use Rattle.sgx_types.specs.declared.names.Frame.{Frame}
@@ -16,379 +15,62 @@ use Rattle.sgx_types.specs.declared.names.Kind.{Kind}
 use Rattle.sgx_types.specs.declared.names.Kind.TheVariants as kinds
 use Rattle.sgx_types.specs.declared.names.Perm.{Perm}
 use Rattle.sgx_types.specs.declared.names.SlotAt.{SlotAt}
-use Rattle.sgx_types.specs.declared.names.TheConstants.{SECS_NUMBER}
-use Rattle.sgx_types.specs.declared.record.Header.{Header}
-use Rattle.sgx_types.specs.Pages.{is_own_page, is_secs_page, is_va_page, no_perm}
+use Rattle.sgx_types.specs.Pages.{is_va_page}
 use Rattle.sgx_types.specs.inner.Places.{same_place}
-use Rattle.sgx_types.specs.Sealed.{Sealed, header_of}
+use Rattle.sgx_types.specs.Sealed.{Sealed}
 use Rattle.sgx_types.proofs.Pages.{same_places}
 use Rattle.sgx_types.proofs.Truths.{apart, both_true}
 use Rattle.sgx_rules.specs.declared.refusals.Refusal.{Refusal}
-use Rattle.sgx_rules.specs.Flat.{FlatEnclave, enclave_sight_of}
-use Rattle.sgx_rules.specs.Frames.{Content, IsLoading, IsVa, SecsOf, page_there, reloaded, reloaded_as}
-use Rattle.sgx_rules.specs.PageBytes.{secs_header, va_header}
+use Rattle.sgx_rules.specs.Frames.{Content, IsLoading, reloaded}
 use Rattle.sgx_rules.specs.inner.Starts.{BareStart}
 use Rattle.sgx_rules.specs.Table as table
 use Rattle.sgx_types.specs.Cases.{first_of_row}
-use Rattle.sgx_rules.specs.Table.{is_made}
 use Rattle.sgx_rules.proofs.Contents.{loading_no_va}
 use Rattle.epcm_entry.specs.declared.entry_view.EntryView.{EntryView}
 use Rattle.epcm_entry.specs.declared.entry_view.EntryView.TheVariants as views
 use Rattle.epcm_entry.specs.inner.EntryView.{block_of, holding, goes_out}
-use Rattle.epcm_entry.specs.inner.Epc.{EpcFrame, free_frame, entry_at, words_at, with_page, cleared}
+use Rattle.epcm_entry.specs.inner.Epc.{EpcFrame, entry_at, words_at, with_page, cleared}
 use Rattle.epcm_entry.specs.inner.Sights.{held, content_of}
 use Rattle.epcm_entry.specs.inner.Words.{words_of}
 use Rattle.epcm_entry.proofs.Words.{length-words_of}
 use Rattle.epcm_entry.proofs.Columns.{entry_at-cleared, entry_at-with_entry, entry_at-with_words, length-with_entry, length-with_words}
 use Rattle.epcm_entry.proofs.Columns.{length-cleared, words_at-with_entry, words_at-with_words}
-use Rattle.secs_state.specs.inner.Secs.{SecsState, added_at}
-use Rattle.secs_state.specs.inner.Table.{enclave_at}
-use Rattle.seal_record.specs.Cipher.{cipher, sealed, tag}
-use Rattle.seal_record.specs.declared.seal.SealedWork.{SealedWork}
+use Rattle.secs_state.specs.inner.Secs.{SecsState}
+use Rattle.seal_record.specs.Cipher.{cipher, tag}
 use Rattle.seal_record.specs.declared.unseal.UnsealedWork.{UnsealedWork}
 use Rattle.seal_record.specs.inner.Row.{eld_row}
 use Rattle.version_array.specs.declared.va_page.SlotState.{SlotState}
-use Rattle.version_array.specs.inner.Slots.{IsSlot, IsVaTable, VaArrays, filled_page, page_at, version_in, with_busy, with_version}
+use Rattle.version_array.specs.inner.Slots.{IsSlot, IsVaTable, VaArrays, filled_page, page_at, version_in, with_busy}
 use Rattle.evict_reload.specs.inner.Effects as effects
-use Rattle.evict_reload.specs.inner.Effects.{SameBeside, emptied, kind_in, page_of, refilled}
-use Rattle.evict_reload.specs.inner.Effects.{with_ended, with_in, with_kind, with_out, with_plain}
+use Rattle.evict_reload.specs.inner.Effects.{SameBeside, refilled}
+use Rattle.evict_reload.specs.inner.Effects.{with_in, with_kind, with_plain}
 use Rattle.evict_reload.specs.inner.Effects.{with_reloaded}
-use Rattle.evict_reload.specs.inner.Sights as parts
-use Rattle.evict_reload.specs.inner.Sights.{AreCountedIn, is_array, is_kind_own, owner_in}
-use Rattle.evict_reload.proofs.CallLaws.{after_commit_in, after_commit_out}
+use Rattle.evict_reload.specs.inner.Sights.{AreCountedIn, is_array, is_kind_own}
+use Rattle.evict_reload.proofs.CallLaws.{after_commit_in}
 use Rattle.evict_reload.proofs.PageLaws.{pages-cleared}
-use Rattle.machine_laws.proofs.Contents.{waits_for}
 use Rattle.machine_laws.proofs.TestLaws.{none_there}
-use Rattle.machine_laws.specs.inner.Guarded.{IsOpen, IsPaged, Loads}
-use Rattle.machine_laws.specs.inner.State.{State, is_known, after_ewb, after_eld, after_failed_eld}
-use Rattle.machine_laws.specs.inner.Steps.{CanBring, CanEnd, SealsPage, IsWrittenOut, IsComing, IsReloaded}
-use Rattle.machine_laws.specs.inner.Steps.{commit_row, did_by, refused_by, header_by, header_in}
+use Rattle.machine_laws.specs.inner.Guarded.{IsOpen}
+use Rattle.machine_laws.specs.inner.State.{State, is_known, after_eld, after_failed_eld}
+use Rattle.machine_laws.specs.inner.Steps.{CanBring, CanEnd, IsComing, IsReloaded}
+use Rattle.machine_laws.specs.inner.Steps.{commit_row, did_by, refused_by, header_in}
 use Rattle.sgx_machine.specs.declared.machine.Machine.TheInside.{Inside}
 use Rattle.sgx_machine.specs.declared.starts.Start as opened
-use Rattle.sgx_machine.specs.inner.Parts.{Parts, enclave_of, added_in, start_of, state_of}
-use Rattle.sgx_machine.specs.inner.Whole.{IsNamedFor, IsWhole, parts_of}
+use Rattle.sgx_machine.specs.inner.Parts.{Parts, start_of, state_of}
+use Rattle.sgx_machine.specs.inner.Whole.{IsWhole, parts_of}
 use Rattle.sgx_machine.proofs.ArrayBridge.{busy_back, page_back, room, table_back, version_back}
 use Rattle.sgx_machine.proofs.HeldLaws.{held_put, placed, still_beside}
-use Rattle.sgx_machine.proofs.KeptStates.{kept_ewb, kept_eld, kept_failed_eld}
-use Rattle.sgx_machine.proofs.PagingSights.{added_same, leaving_page}
-use Rattle.sgx_machine.proofs.PagingBridge.{IsWritable, written_parts, failed_parts, ewb_state, failed_state, beside_state, table_beside}
-use Rattle.sgx_machine.proofs.PagingBridge.{owned_beside, table_ended, version_ended, busy_ended, pages_marked, slots_marked, gone_table}
-use Rattle.sgx_machine.proofs.PagingBridge.{gone_slot, entry_column, entry_kept, start_column}
+use Rattle.sgx_machine.proofs.KeptStates.{kept_eld, kept_failed_eld}
+use Rattle.sgx_machine.proofs.EndBridge.{failed_parts, failed_state}
+use Rattle.sgx_machine.proofs.StartBridge.{IsWritable, beside_state, table_beside}
+use Rattle.sgx_machine.proofs.PagingBridge.{pages_marked, slots_marked}
+use Rattle.sgx_machine.proofs.StartBridge.{owned_beside, table_ended, version_ended, busy_ended}
+use Rattle.sgx_machine.proofs.BlockBridge.{entry_column, entry_kept}
+use Rattle.sgx_machine.proofs.StartBridge.{start_column}
 use Rattle.sgx_machine.proofs.WholeMachines.{Leaves, kept_of, done_step, refused_step}
+use Rattle.sgx_machine.proofs.EwbBridge.{length-ended, length-refilled, low_in, writable}
+use Rattle.sgx_machine.proofs.WaitBridge.{Waits, has_header, header_seen, waits, waits_idle}
 
--- ---- what a page's name chooses
-
-pub own_choice : {A : Type 0} (va number : Bool) (x y z : A) → va ≡ false → number ≡ false → cond va x (cond (not va && number) y z) ≡ z
-own_choice true number x y z a b = cc a
-own_choice false true x y z a b = cc b
-own_choice false false x y z a b = refl
-
-pub secs_choice : {A : Type 0} (va number : Bool) (x y z : A) → va ≡ false → number ≡ true → cond va x (cond (not va && number) y z) ≡ y
-secs_choice true number x y z a b = cc a
-secs_choice false false x y z a b = cc b
-secs_choice false true x y z a b = refl
-
--- ---- the frame and the slot of a start
-
--- past the end of the EPC a frame is free
-below : (d : Parts) (f : ℕ) → (entry_at d.epc f ≡ views.Free → ⊥) → f < length d.epc
-below d f used = by_place (cases_lt f (length d.epc))
-  where
-    by_place : (f < length d.epc) ⊎ (length d.epc ≤ f) → f < length d.epc
-    by_place (inl low) = low
-    by_place (inr past) = absurd (used (ap (λ (x : EpcFrame). x.entry) (get_or_past d.epc f free_frame past)))
-
-pub low_out : (d : Parts) (f : ℕ) → (state_of d).is_sealing f ≡ true → f < length d.epc
-low_out d f leaves = below d f (λ free. false≢true (sym (ap goes_out free) ∙ leaves))
-
-pub low_in : (d : Parts) (f : ℕ) → table.is_loading ((state_of d).content f) ≡ true → f < length d.epc
-low_in d f waits = below d f (λ free. false≢true (sym (ap (λ v. table.is_loading (held v)) free) ∙ waits))
-
--- an open start names a slot of the table
-pub writable : (m : Inside) → IsWhole m → (f : ℕ) (start : BareStart) → f < length m.epc → (state_of (parts_of m)).start f ≡ Some start
-    → IsWritable (parts_of m) f start.at
-writable m h f start low at =
-    let is : IsOpen (state_of (parts_of m)) start = rw at at (h.guarded.opened f) in
-    record {
-      low = low;
-      there = rw h.start_places low;
-      is_slot = record { paged = h.held.pages start.at.frame.0 ∙ ap table.is_va is.held; within = is.within };
-    }
-
--- the same start
-one_start : (o : Option BareStart) (a b : BareStart) → o ≡ Some a → o ≡ Some b → a ≡ b
-one_start o a b p q = let same : Some a ≡ Some b = sym p ∙ q in cc same
-
--- ---- EWB
-
-length-ended : (table : List (Option (List SlotState))) (slot : SlotAt) (version : ℕ)
-    → length (with_ended table slot version) ≡ length table
-length-ended table slot version =
-    length-set (with_version table slot version) slot.frame.0 _ ∙ length-set table slot.frame.0 _
-
-length-emptied : (b : Bool) (table : List (Option (List SlotState))) (f : ℕ) → length (emptied b table f) ≡ length table
-length-emptied true table f = length-set table f None
-length-emptied false table f = refl
-
-length-refilled : (b : Bool) (table : List (Option (List SlotState))) (f : ℕ) (plain : List ℕ)
-    → length (refilled b table f plain) ≡ length table
-length-refilled true table f plain = length-set table f (Some (filled_page plain))
-length-refilled false table f plain = refl
-
--- the slot of a write-out is in another frame
-pub out_elsewhere : (m : Inside) → IsWhole m → (f : ℕ) (start : BareStart) → (state_of (parts_of m)).is_sealing f ≡ true
-    → (state_of (parts_of m)).start f ≡ Some start → f ≢ start.at.frame.0
-out_elsewhere m h f start leaves at same =
-    let is : IsOpen (state_of (parts_of m)) start = rw at at (h.guarded.opened f) in
-    false≢true (sym is.stays ∙ ap (state_of (parts_of m)).is_sealing (sym same) ∙ leaves)
-
-pub ewb_leaves : (m : Inside) → IsWhole m → (f : ℕ) (start : BareStart) (secs : List (Option SecsState)) (d' : Parts)
-    → (state_of (parts_of m)).is_sealing f ≡ true → (state_of (parts_of m)).start f ≡ Some start → SameBeside m.secs secs
-    → AreCountedIn (cleared m.epc f) secs → d' ≡ record (written_parts (parts_of m) f start) { secs = secs }
-    → Leaves d' (after_ewb (state_of (parts_of m)) f start)
-ewb_leaves m h f start secs d' leaves at same counts done =
-    let d = parts_of m in
-    let k = writable m h f start (low_out d f leaves) at in
-    let other = out_elsewhere m h f start leaves at in
-    let elsewhere : (f == start.at.frame.0) ≡ false = apart f start.at.frame.0 other in
-    let gone = emptied (table.is_va (held (entry_at d.epc f))) d.va.pages f in
-    let sized : length gone ≡ length d.va.pages = length-emptied (table.is_va (held (entry_at d.epc f))) d.va.pages f in
-    rw done (record {
-      state = beside_state (written_parts d f start) secs same ∙ ewb_state d f start h.slots h.held.pages h.guarded leaves k elsewhere;
-      kept = kept_ewb (state_of d) f start at leaves (kept_of m h);
-      processors = h.processors;
-      places = h.places;
-      table = table_beside m.secs secs same h.table;
-      track_places = h.track_places;
-      tracked = h.tracked;
-      slots = table_ended gone start.at start.version (gone_table d f start h.slots h.held.pages h.guarded leaves k elsewhere)
-          (gone_slot d f start h.slots h.held.pages h.guarded leaves k elsewhere);
-      held = held_put d.epc (cleared d.epc f) m.secs secs m.va _ f views.Free (length-cleared d.epc f)
-          (λ n. entry_at-cleared d.epc f n k.low)
-          (after_commit_out d.epc d.va.pages f start.at start.version h.held.pages k.is_slot k.low other)
-          (length-ended gone start.at start.version ∙ sized ∙ h.held.places) counts tt (still_beside m.secs secs same) tt h.held;
-      start_places = length-set d.starts f _ ∙ h.start_places ∙ sym (length-cleared d.epc f);
-    })
-
--- what the commit of EWB leaves and answers
-pub record Written (m : Inside) (a : Actor) (f : Frame) (e : Entry) (rec : Sealed) (d' : Parts) : Type 0 where
-  pub start : BareStart
-  pub leaves : Leaves d' (after_ewb (state_of (parts_of m)) f.0 start)
-  pub out : IsWrittenOut (state_of (parts_of m)) a f e rec (state_of d')
-
--- the page that an entry names is the one that its frame holds
-page_named : (d : Parts) (f : ℕ) (page : Page) → ((n : ℕ) → IsNamedFor (entry_at d.epc n)) → page_of (entry_at d.epc f) ≡ Some page
-    → page_there ((state_of d).content f) ≡ Some page
-page_named d f page named is = by_entry (entry_at d.epc f) refl is
-  where
-    by_entry : (v : EntryView) → entry_at d.epc f ≡ v → page_of v ≡ Some page → page_there ((state_of d).content f) ≡ Some page
-    by_entry views.Free at k = cc k
-    by_entry (views.Loading g) at k = cc k
-    by_entry (views.Valid g kind perm blocked sealing) at k =
-        let same : g ≡ page = cc k in leaving_page d f g kind perm blocked sealing named at ∙ ap Some same
-
-pub written : (m : Inside) → IsWhole m → (a : Actor) (f : Frame) (e : Entry) (work : SealedWork) (start : opened.Start) (page : Page)
-    (epc : List EpcFrame) (secs : List (Option SecsState)) (va : VaArrays)
-    → (state_of (parts_of m)).is_sealing f.0 ≡ true
-    → SealsPage (state_of (parts_of m)) f.0 work.key work.version work.rec.header work.plain.items
-    → (state_of (parts_of m)).start f.0 ≡ start_of (Some start)
-    → page_of (entry_at m.epc f.0) ≡ Some page → epc ≡ cleared m.epc f.0
-    → va ≡ record m.va { pages = with_out m.epc m.va.pages f.0 start.at work.version } → SameBeside m.secs secs → AreCountedIn epc secs
-    → e ≡ did_by a (Ewb f) (Moved page start.version work.rec.tag)
-    → Written m a f e work.rec (record (parts_of m) { epc = epc; secs = secs; va = va; starts = set m.starts.items f.0 None })
-written m h a f e work start page epc secs va leaves seals at holds frees ends beside counts told =
-    let d = parts_of m in
-    let s = state_of d in
-    let k = seals.leaving in
-    let same : k.start ≡ record { at = start.at; slot = start.slot; version = start.version; loads = start.loads } =
-    one_start (s.start f.0) k.start _ k.opened at in
-    let slots : va ≡ record d.va { pages = with_out d.epc d.va.pages f.0 k.start.at k.start.version } = ends
-    ∙ (λ i. record d.va { pages = with_out d.epc d.va.pages f.0 (let x : BareStart = sym same i in x.at) (seals.version i) }) in
-    let parts : record d { epc = epc; secs = secs; va = va; starts = set d.starts f.0 None }
-    ≡ record (written_parts d f.0 k.start) { secs = secs } =
-    λ i. record d { epc = frees i; secs = secs; va = slots i; starts = set d.starts f.0 None } in
-    let left = ewb_leaves m h f.0 k.start secs _ leaves k.opened beside (subst (λ x. AreCountedIn x secs) frees counts) parts in
-    let one : Some page ≡ Some k.page = sym (page_named d f.0 page h.held.named holds) ∙ k.held in
-    let page_is : page ≡ k.page = cc one in
-    record {
-      start = k.start;
-      leaves = left;
-      out = record {
-        leaving = k;
-        sealed = work.is_sealed ∙ (λ i. sealed (seals.key i) (seals.version i) (seals.header i) (seals.plain i));
-        entry = told ∙ (λ i. did_by a (Ewb f) (Moved (page_is i) (let x : BareStart = sym same i in x.version) work.rec.tag));
-        state = left.state;
-      };
-    }
-
--- ---- ELDU
-
--- a page that there is has a header
-pub record HasHeader (s : State) (page : Page) : Type 0 where
-  pub header : Header
-  pub headed : header_in s page ≡ Some header
-
-pub has_header : (s : State) (page : Page) → is_known s page ≡ true → HasHeader s page
-has_header s page known = by_name (is_va_page page) (page.number == SECS_NUMBER) refl refl known
-  where
-    by_own : (o : Option FlatEnclave) (x : Option (Kind × Perm)) → is_va_page page ≡ false → (page.number == SECS_NUMBER) ≡ false
-        → s.enclaves page.enclave ≡ o → s.added page ≡ x → (is_made (enclave_sight_of o) && is_some x) ≡ true → HasHeader s page
-    by_own None x va inner made added k = cc k
-    by_own (Some y) None va inner made added k = cc k
-    by_own (Some y) (Some x) va inner made added k =
-        record {
-          header = header_of y.base page x.0 x.1;
-          headed = own_choice (is_va_page page) (page.number == SECS_NUMBER) _ _ _ va inner
-              ∙ ap (λ q. header_by q (s.added page) page) made ∙ ap (λ q. header_by (Some y) q page) added;
-        }
-
-    by_name : (va number : Bool) → is_va_page page ≡ va → (page.number == SECS_NUMBER) ≡ number
-        → cond va (nat_lt page.number s.vas_made) (cond (not va && number) (is_made (enclave_sight_of (s.enclaves page.enclave)))
-        (is_made (enclave_sight_of (s.enclaves page.enclave)) && is_some (s.added page))) ≡ true → HasHeader s page
-    by_name true number va is k = record { header = va_header page.number; headed = rw va refl }
-    by_name false true va is k = record {
-      header = secs_header page.enclave;
-      headed = secs_choice (is_va_page page) (page.number == SECS_NUMBER) _ _ _ va is;
-    }
-    by_name false false va is k = by_own (s.enclaves page.enclave) (s.added page) va is refl refl k
-
--- the header of a page by the table and by the state
-pub header_seen : (d : Parts) (page : Page) → effects.header_in d.secs page ≡ header_in (state_of d) page
-header_seen d page = by_name (is_va_page page) (is_secs_page page)
-  where
-    by_kind : (x : SecsState) (o : Option (Kind × Perm)) → effects.header_by (Some x) page o
-        ≡ header_by (enclave_of (Some x)) o page
-    by_kind x None = refl
-    by_kind x (Some k) = refl
-
-    by_state : (o : Option SecsState) → effects.header_by o page (option_and_then (λ (x : SecsState). added_at x page.number) o)
-        ≡ header_by (enclave_of o) (added_in o page.number) page
-    by_state None = refl
-    by_state (Some x) = by_kind x (added_at x page.number)
-
-    by_name : (va inner : Bool)
-        → cond va (Some (va_header page.number)) (cond inner (Some (secs_header page.enclave))
-        (effects.header_by (enclave_at d.secs page.enclave) page (parts.added_in d.secs page)))
-        ≡ cond va (Some (va_header page.number)) (cond inner (Some (secs_header page.enclave))
-        (header_by ((state_of d).enclaves page.enclave) ((state_of d).added page) page))
-    by_name true inner = refl
-    by_name false true = refl
-    by_name false false = by_state (enclave_at d.secs page.enclave)
-
-waits_idle : (v : EntryView) → table.is_loading (held v) ≡ true → goes_out v ≡ false
-waits_idle views.Free h = refl
-waits_idle (views.Loading page) h = refl
-waits_idle (views.Valid page kinds.Tcs perm blocked sealing) h = cc h
-waits_idle (views.Valid page kinds.Reg perm blocked sealing) h = cc h
-waits_idle (views.Valid page kinds.Secs perm blocked sealing) h = cc h
-waits_idle (views.Valid page kinds.Va perm blocked sealing) h = cc h
-
--- a page that a frame waits for, with its kind and permissions
-pub record Waits (d : Parts) (f : ℕ) (page : Page) : Type 0 where
-  pub known : is_known (state_of d) page ≡ true
-  pub waits : (state_of d).content f ≡ IsLoading page
-  pub kind : Kind
-  pub perm : Perm
-  pub is : kind_in d.secs page ≡ Some (kind, perm)
-  pub back : content_of page kind perm ≡ reloaded page ((state_of d).added page)
-  pub own : is_own_page page ≡ is_kind_own kind
-  pub array : is_va_page page ≡ is_array kind
-  pub named : IsNamedFor (holding page kind perm)
-  pub owned : IfSome (owner_in (content_of page kind perm)) (λ e. is_some (enclave_at d.secs e) ≡ true)
-
-pub waits : (m : Inside) → IsWhole m → (f : ℕ) (start : BareStart) (page : Page)
-    → table.is_loading ((state_of (parts_of m)).content f) ≡ true → (state_of (parts_of m)).start f ≡ Some start
-    → start.loads ≡ Some page → Waits (parts_of m) f page
-waits m h f start page comes at loads =
-    let s = state_of (parts_of m) in
-    let is : IsOpen s start = rw at at (h.guarded.opened f) in
-    let w = waits_for (s.content f) comes in
-    let told : Loads w.0 start = rw at at (h.guarded.loaded f w.0 w.1) in
-    let one : Some w.0 ≡ Some page = sym told ∙ loads in
-    let same : w.0 ≡ page = cc one in
-    by_name (is_va_page page) (page.number == SECS_NUMBER) refl refl (rw loads at is.loads) (w.1 ∙ ap IsLoading same)
-  where
-    there : (o : Option SecsState) → is_made (enclave_sight_of (enclave_of o)) ≡ true → is_some o ≡ true
-    there None k = cc k
-    there (Some x) k = refl
-
-    by_kind : (kind : Kind) (perm : Perm) → is_va_page page ≡ false → (page.number == SECS_NUMBER) ≡ false
-        → (state_of (parts_of m)).added page ≡ Some (kind, perm) → IsPaged kind
-        → is_known (state_of (parts_of m)) page ≡ true → (state_of (parts_of m)).content f ≡ IsLoading page
-        → is_some (enclave_at m.secs page.enclave) ≡ true → Waits (parts_of m) f page
-    by_kind kinds.Tcs perm va other added paged known holds made = record {
-      known = known;
-      waits = holds;
-      kind = kinds.Tcs;
-      perm = perm;
-      is = own_choice (is_va_page page) (page.number == SECS_NUMBER) _ _ _ va other ∙ added_same m.secs page ∙ added;
-      back = sym (own_choice (is_va_page page) (page.number == SECS_NUMBER) (IsVa page.number) (SecsOf page.enclave)
-          (reloaded_as page ((state_of (parts_of m)).added page)) va other ∙ ap (reloaded_as page) added);
-      own = rw (va, other) refl;
-      array = va;
-      named = tt;
-      owned = made;
-    }
-    by_kind kinds.Reg perm va other added paged known holds made = record {
-      known = known;
-      waits = holds;
-      kind = kinds.Reg;
-      perm = perm;
-      is = own_choice (is_va_page page) (page.number == SECS_NUMBER) _ _ _ va other ∙ added_same m.secs page ∙ added;
-      back = sym (own_choice (is_va_page page) (page.number == SECS_NUMBER) (IsVa page.number) (SecsOf page.enclave)
-          (reloaded_as page ((state_of (parts_of m)).added page)) va other ∙ ap (reloaded_as page) added);
-      own = rw (va, other) refl;
-      array = va;
-      named = tt;
-      owned = made;
-    }
-    by_kind kinds.Secs perm va other added paged known holds made = absurd paged
-    by_kind kinds.Va perm va other added paged known holds made = absurd paged
-
-    by_added : (o : Option (Kind × Perm)) → is_va_page page ≡ false → (page.number == SECS_NUMBER) ≡ false
-        → (state_of (parts_of m)).added page ≡ o → IfSome o (λ k. IsPaged k.0 × (is_own_page page ≡ true))
-        → is_known (state_of (parts_of m)) page ≡ true → (state_of (parts_of m)).content f ≡ IsLoading page
-        → (is_made (enclave_sight_of ((state_of (parts_of m)).enclaves page.enclave)) && is_some o) ≡ true → Waits (parts_of m) f page
-    by_added None va other added kind known holds k = absurd (false≢true (sym (never (is_made (enclave_sight_of
-        ((state_of (parts_of m)).enclaves page.enclave)))) ∙ k))
-      where
-        never : (b : Bool) → (b && false) ≡ false
-        never true = refl
-        never false = refl
-    by_added (Some x) va other added kind known holds k =
-        by_kind x.0 x.1 va other added kind.0 known holds (there (enclave_at m.secs page.enclave) (both_true _ _ k).0)
-
-    by_name : (va number : Bool) → is_va_page page ≡ va → (page.number == SECS_NUMBER) ≡ number
-        → is_known (state_of (parts_of m)) page ≡ true → (state_of (parts_of m)).content f ≡ IsLoading page → Waits (parts_of m) f page
-    by_name true number va other known holds = record {
-      known = known;
-      waits = holds;
-      kind = kinds.Va;
-      perm = no_perm;
-      is = rw va refl;
-      back = rw va refl;
-      own = rw va refl;
-      array = va;
-      named = eqb-true page.enclave 0 va;
-      owned = tt;
-    }
-    by_name false true va number known holds = record {
-      known = known;
-      waits = holds;
-      kind = kinds.Secs;
-      perm = no_perm;
-      is = secs_choice (is_va_page page) (page.number == SECS_NUMBER) _ _ _ va number;
-      back = sym (secs_choice (is_va_page page) (page.number == SECS_NUMBER) (IsVa page.number) (SecsOf page.enclave)
-          (reloaded_as page ((state_of (parts_of m)).added page)) va number);
-      own = rw (va, number) refl;
-      array = va;
-      named = eqb-true page.number SECS_NUMBER number;
-      owned = there (enclave_at m.secs page.enclave)
-          (sym (secs_choice (is_va_page page) (page.number == SECS_NUMBER) _ _ _ va number) ∙ known);
-    }
-    by_name false false va number known holds =
-        by_added ((state_of (parts_of m)).added page) va number refl (h.guarded.kinds page) known holds
-        (sym (own_choice (is_va_page page) (page.number == SECS_NUMBER) _ _ _ va number) ∙ known)
+-- ---- ELDU, the page that is back
 
 -- a frame that holds a page of a kind, with its bytes
 kind_length : (epc : List EpcFrame) (f : ℕ) (page : Page) (kind : Kind) (perm : Perm) (plain : List ℕ)

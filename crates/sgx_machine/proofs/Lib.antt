@@ -11,7 +11,12 @@ pub mod EntryBridge
 pub mod AccessBridge
 pub mod Fresh
 pub mod PagingSights
+pub mod BlockBridge
+pub mod StartBridge
+pub mod EndBridge
 pub mod PagingBridge
 pub mod ArrayBridge
+pub mod EwbBridge
+pub mod WaitBridge
 pub mod CommitBridge
 pub mod SealBridge

@@ -29,7 +29,8 @@ use Rattle.sgx_machine.specs.declared.machine.Machine.TheInside.{Inside}
 use Rattle.sgx_machine.specs.inner.Parts.{Parts, state_of}
 use Rattle.sgx_machine.specs.inner.Whole.{IsWhole, parts_of}
 use Rattle.sgx_machine.proofs.BuildSteps.{measure_there}
-use Rattle.sgx_machine.proofs.CommitBridge.{HasHeader, own_choice}
+use Rattle.sgx_machine.proofs.EwbBridge.{own_choice}
+use Rattle.sgx_machine.proofs.WaitBridge.{HasHeader}
 use Rattle.sgx_machine.proofs.ProcessorBridge.{pages_made}
 
 -- ---- headers

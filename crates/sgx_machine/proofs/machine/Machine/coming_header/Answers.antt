@@ -7,7 +7,8 @@ use Rattle.machine_laws.specs.inner.State.{State}
 use Rattle.machine_laws.specs.inner.Steps.{IsComingHeader}
 use Rattle.sgx_machine.specs.inner.Whole.{parts_of}
 use Rattle.sgx_machine.specs.inner.Parts.{Parts, state_of}
-use Rattle.sgx_machine.proofs.CommitBridge.{coming, has_header, header_seen, waits}
+use Rattle.sgx_machine.proofs.CommitBridge.{coming}
+use Rattle.sgx_machine.proofs.WaitBridge.{has_header, header_seen, waits}
 use Rattle.sgx_machine.proofs.PagingSights.{loads_in, start_in}
 use Rattle.sgx_machine.proofs.machine.Machine.coming_header.Goals as goal
 

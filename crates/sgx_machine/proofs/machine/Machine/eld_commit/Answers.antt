@@ -7,7 +7,9 @@ use Rattle.sgx_rules.specs.declared.entries.Answer.TheVariants.{Moved}
 use Rattle.sgx_machine.specs.inner.Whole.{parts_of}
 use Rattle.sgx_machine.specs.inner.Parts.{state_of}
 use Rattle.machine_laws.specs.inner.Steps.{did_by}
-use Rattle.sgx_machine.proofs.CommitBridge.{Ended, IsOpened, brings, ended_back, ended_refused, low_in, waits, writable}
+use Rattle.sgx_machine.proofs.CommitBridge.{Ended, IsOpened, brings, ended_back, ended_refused}
+use Rattle.sgx_machine.proofs.EwbBridge.{low_in, writable}
+use Rattle.sgx_machine.proofs.WaitBridge.{waits}
 use Rattle.sgx_machine.proofs.ArrayBridge.{room}
 use Rattle.machine_laws.proofs.FitLaws.{reloaded_fits}
 use Rattle.machine_laws.proofs.ShapeSteps.{reloaded_arrays_told, reloaded_shaped}

@@ -6,7 +6,7 @@ use Rattle.sgx_types.specs.Sealed.{Sealed}
 use Rattle.machine_laws.specs.inner.Steps.{did_by}
 use Rattle.sgx_machine.specs.inner.Whole.{parts_of}
 use Rattle.sgx_machine.specs.inner.Parts.{state_of}
-use Rattle.sgx_machine.proofs.CommitBridge.{Written, written, low_out, out_elsewhere, writable}
+use Rattle.sgx_machine.proofs.EwbBridge.{Written, written, low_out, out_elsewhere, writable}
 use Rattle.machine_laws.proofs.MakingLaws.{written_making}
 use Rattle.machine_laws.proofs.FitLaws.{written_fits}
 use Rattle.machine_laws.proofs.ShapeSteps.{written_arrays, written_shaped}

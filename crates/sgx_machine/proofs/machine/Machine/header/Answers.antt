@@ -7,7 +7,7 @@ use Rattle.epcm_entry.specs.inner.Epc.{entry_at}
 use Rattle.sgx_machine.specs.inner.Whole.{parts_of}
 use Rattle.sgx_machine.specs.inner.Parts.{state_of}
 use Rattle.machine_laws.specs.inner.Steps.{header_in}
-use Rattle.sgx_machine.proofs.CommitBridge.{header_seen}
+use Rattle.sgx_machine.proofs.WaitBridge.{header_seen}
 use Rattle.sgx_machine.proofs.PagingSights.{leaving_page}
 use Rattle.sgx_machine.proofs.SealBridge.{held_header}
 use Rattle.sgx_machine.proofs.machine.Machine.header.Goals as goal
