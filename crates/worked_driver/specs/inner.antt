@@ -1,4 +1,5 @@
 pub mod Words
+pub mod TightJob
 pub mod KickTrace
 pub mod BusTrace
 pub mod SecsTrace

@@ -1,45 +1,22 @@
 -- A job in which the store has no room at first, so that a page stays.
-use Rattle.std.specs.Prelude.{List, [], ◌∷◌, None, true, replicate, reverse}
+use Rattle.std.specs.Prelude.{List, [], ◌∷◌, ◌++◌, reverse}
 use Rattle.sgx_types.specs.declared.names.Actor.TheVariants.{Builder, Reclaimer}
 use Rattle.sgx_rules.specs.declared.entries.Cause.TheVariants as causes
 use Rattle.sgx_rules.specs.declared.entries.Entry.{Entry}
 use Rattle.sgx_rules.specs.declared.entries.Look.TheVariants as looks
-use Rattle.job_grammar.specs.declared.jobs.PageLine.TheVariants as lines
-use Rattle.job_grammar.specs.declared.jobs.Op.TheVariants as ops
-use Rattle.job_grammar.specs.Jobs.{JobView, default_marks}
-use Rattle.worked_driver.specs.inner.Words.{add_reg, add_tcs, aex, age, back, block, cpu, create, enter, epa, exit, fill, init}
-use Rattle.worked_driver.specs.inner.Words.{load, out, resume}
-use Rattle.worked_driver.specs.inner.Words.{rw_perm, start_back, start_out, track, try_refused}
+use Rattle.job_grammar.specs.Jobs.{JobView}
+use Rattle.worked_driver.specs.inner.TightJob.{fills_up, reads_page, tight_job}
+use Rattle.worked_driver.specs.inner.Words.{add_reg, aex, age, back, block, cpu, enter, exit, fill, init, load, out}
+use Rattle.worked_driver.specs.inner.Words.{resume, start_back, start_out, track, try_refused}
 
 -- the first room and the third get fail, which no rule here looks at
 abbrev pub room_job : JobView
-room_job = record {
-  epc = 7;
-  marks = default_marks 7;
-  key = replicate 32 0;
-  start_epoch = 1;
-  start_version = 1;
-  enclaves = record {
-    base = 0x10000;
-    size = 0x10000;
-    lines = lines.Tcs 0 1 1 true ∷ lines.Reg 1 1 rw_perm 0 true ∷ lines.Reg 2 6 rw_perm 7 true ∷ [];
-    expect = None;
-  } ∷ [];
-  plans = [];
-  scripts = (ops.Enter 1 0 ∷ ops.Load 0x2000 ∷ ops.Exit ∷ []) ∷ [];
-}
+room_job = tight_job reads_page
 
 -- its trace
 abbrev pub room_trace : List Entry
-room_trace = reverse (
-    epa Builder 0
-    ∷ create Builder 1
-    ∷ add_tcs Builder 0 2 1
-    ∷ add_reg Builder 1 3 0
-    ∷ add_reg Builder 2 4 7
-    ∷ add_reg Builder 3 5 7
-    ∷ add_reg Builder 4 6 7
-    ∷ age 0 looks.NoRoom
+room_trace = reverse (fills_up ++ (
+    age 0 looks.NoRoom
     ∷ age 1 looks.Taken
     ∷ block Reclaimer 3
     ∷ try_refused Reclaimer 3 0 1 0
@@ -89,4 +66,4 @@ room_trace = reverse (
     ∷ load (cpu 0) 0x2000 7
     ∷ track Reclaimer
     ∷ exit (cpu 0)
-    ∷ [])
+    ∷ []))

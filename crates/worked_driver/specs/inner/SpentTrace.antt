@@ -1,30 +1,15 @@
 -- A job that begins at the last epoch, so that its first track ends the run.
-use Rattle.std.specs.Prelude.{List, [], ◌∷◌, None, true, replicate, reverse}
+use Rattle.std.specs.Prelude.{List, [], ◌∷◌, reverse}
 use Rattle.sgx_types.specs.declared.names.Actor.TheVariants.{Builder, Reclaimer}
 use Rattle.sgx_rules.specs.declared.entries.Entry.{Entry}
 use Rattle.sgx_rules.specs.declared.entries.Look.TheVariants as looks
-use Rattle.job_grammar.specs.declared.jobs.PageLine.TheVariants as lines
-use Rattle.job_grammar.specs.declared.jobs.Op.TheVariants as ops
 use Rattle.job_grammar.specs.Jobs.{JobView}
-use Rattle.worked_driver.specs.inner.Words.{add_reg, add_tcs, age, block, create, epa, rw_perm, track_refused, try_refused}
+use Rattle.worked_driver.specs.inner.TightJob.{reads_page, tight_job}
+use Rattle.worked_driver.specs.inner.Words.{add_reg, add_tcs, age, block, create, epa, track_refused, try_refused}
 
 -- seven frames, and the last epoch but none to come
 abbrev pub spent_job : JobView
-spent_job = record {
-  epc = 7;
-  marks = record { low = 2; high = 3; scan = 2 };
-  key = replicate 32 0;
-  start_epoch = 1099511627775;
-  start_version = 1;
-  enclaves = record {
-    base = 0x10000;
-    size = 0x10000;
-    lines = lines.Tcs 0 1 1 true ∷ lines.Reg 1 1 rw_perm 0 true ∷ lines.Reg 2 6 rw_perm 7 true ∷ [];
-    expect = None;
-  } ∷ [];
-  plans = [];
-  scripts = (ops.Enter 1 0 ∷ ops.Load 0x2000 ∷ ops.Exit ∷ []) ∷ [];
-}
+spent_job = record (tight_job reads_page) { marks = record { low = 2; high = 3; scan = 2 }; start_epoch = 1099511627775 }
 
 -- its trace
 abbrev pub spent_trace : List Entry

@@ -1,54 +1,27 @@
 -- A job with an interrupt, faults that no reload can help and a load from outside: saved state survives that its page is out.
-use Rattle.std.specs.Prelude.{List, [], ◌∷◌, None, true, replicate, reverse}
-use Rattle.sgx_rules.specs.declared.entries.AccessOp.TheVariants as accesses
+use Rattle.std.specs.Prelude.{List, [], ◌∷◌, ◌++◌, reverse}
 use Rattle.sgx_types.specs.declared.names.Actor.TheVariants.{Builder, Reclaimer}
+use Rattle.sgx_rules.specs.declared.entries.AccessOp.TheVariants as accesses
 use Rattle.sgx_rules.specs.declared.entries.Cause.TheVariants as causes
 use Rattle.sgx_rules.specs.declared.entries.Entry.{Entry}
 use Rattle.sgx_rules.specs.declared.entries.Look.TheVariants as looks
 use Rattle.sgx_rules.specs.declared.entries.PfWhy.TheVariants as pfs
-use Rattle.job_grammar.specs.declared.jobs.PageLine.TheVariants as lines
 use Rattle.job_grammar.specs.declared.jobs.Op.TheVariants as ops
-use Rattle.job_grammar.specs.Jobs.{JobView, default_marks}
-use Rattle.worked_driver.specs.inner.Words.{add_reg, add_tcs, aex, age, back, block, cpu, create, enter, epa, exit, fill, init}
-use Rattle.worked_driver.specs.inner.Words.{kick, load, out}
-use Rattle.worked_driver.specs.inner.Words.{outload, pf, plus, resume, rw_perm, set, start_back, start_out, track, try_refused}
+use Rattle.job_grammar.specs.Jobs.{JobView}
+use Rattle.worked_driver.specs.inner.TightJob.{first_out, tight_job}
+use Rattle.worked_driver.specs.inner.Words.{add_reg, aex, age, back, block, cpu, enter, exit, fill, init, kick, load}
+use Rattle.worked_driver.specs.inner.Words.{out, outload, pf, plus, resume, set, start_back, start_out, track}
+use Rattle.worked_driver.specs.inner.Words.{try_refused}
 
 -- seven frames
 abbrev pub timer_job : JobView
-timer_job = record {
-  epc = 7;
-  marks = default_marks 7;
-  key = replicate 32 0;
-  start_epoch = 1;
-  start_version = 1;
-  enclaves = record {
-    base = 0x10000;
-    size = 0x10000;
-    lines = lines.Tcs 0 1 1 true ∷ lines.Reg 1 1 rw_perm 0 true ∷ lines.Reg 2 6 rw_perm 7 true ∷ [];
-    expect = None;
-  } ∷ [];
-  plans = [];
-  scripts = (ops.Enter 1 0 ∷ ops.Set 5 ∷ ops.Load 0x6000 ∷ ops.Timer ∷ ops.OutLoad 1 0x2000 ∷ ops.Resume 1 0
-      ∷ ops.Plus 1 ∷ ops.Load 0x2000 ∷ ops.Load 0x8000 ∷ ops.Load 0x0 ∷ ops.Exit ∷ []) ∷ [];
-}
+timer_job = tight_job (ops.Enter 1 0 ∷ ops.Set 5 ∷ ops.Load 0x6000 ∷ ops.Timer ∷ ops.OutLoad 1 0x2000 ∷ ops.Resume 1 0
+    ∷ ops.Plus 1 ∷ ops.Load 0x2000 ∷ ops.Load 0x8000 ∷ ops.Load 0x0 ∷ ops.Exit ∷ [])
 
 -- its trace
 abbrev pub timer_trace : List Entry
-timer_trace = reverse (
-    epa Builder 0
-    ∷ create Builder 1
-    ∷ add_tcs Builder 0 2 1
-    ∷ add_reg Builder 1 3 0
-    ∷ add_reg Builder 2 4 7
-    ∷ add_reg Builder 3 5 7
-    ∷ add_reg Builder 4 6 7
-    ∷ age 0 looks.Taken
-    ∷ block Reclaimer 2
-    ∷ try_refused Reclaimer 2 0 1 0
-    ∷ track Reclaimer
-    ∷ start_out Reclaimer 2 0 1
-    ∷ out Reclaimer 2 0 1
-    ∷ age 1 looks.Taken
+timer_trace = reverse (first_out 1 ++ (
+    age 1 looks.Taken
     ∷ add_reg Builder 5 2 7
     ∷ block Reclaimer 3
     ∷ try_refused Reclaimer 3 1 2 0
@@ -131,4 +104,4 @@ timer_trace = reverse (
     ∷ pf (cpu 0) accesses.Load 0x8000 pfs.Absent
     ∷ pf (cpu 0) accesses.Load 0x0 pfs.WrongType
     ∷ exit (cpu 0)
-    ∷ [])
+    ∷ []))
