@@ -1,5 +1,5 @@
 -- The last event of an actor, and what ends a run or a script early. Entries stand newest first.
-use Rattle.std.specs.Prelude.{ℕ, Bool, true, false, if◌then◌else◌, List, [], ◌∷◌, Option, Some, None}
+use Rattle.std.specs.Prelude.{ℕ, Bool, true, false, ◌||◌, if◌then◌else◌, List, [], ◌∷◌, Option, Some, None}
 use Rattle.sgx_rules.specs.declared.entries.Entry.{Entry}
 use Rattle.sgx_rules.specs.declared.entries.Event.{Event}
 use Rattle.sgx_rules.specs.declared.entries.Event.TheVariants.{Refused, Bus}
@@ -49,3 +49,8 @@ is_bus _ = false
 abbrev pub has_bus : List Entry → ℕ → Bool
 has_bus [] p = false
 has_bus (e ∷ past) p = if is_by p e.actor then (if is_bus e.event then true else has_bus past p) else has_bus past p
+
+-- whether a page could not be reloaded
+abbrev pub has_loss : List Entry → Bool
+has_loss [] = false
+has_loss (e ∷ past) = is_bus e.event || has_loss past

@@ -407,7 +407,7 @@ noted_shown j past old new before e is s can = record {
   places = ap (map length) is.tcs ∙ places_stay e.event (page_left e.actor before) old.tcs ∙ s.places;
   last = is.last;
   spent = is.spent ∙ ap (λ b. if spends e.event then true else b) s.spent;
-  loss = is.loss ∙ ap (λ b. if is_bus e.event then true else b) s.loss;
+  loss = is.loss ∙ ap (λ b. is_bus e.event || b) s.loss;
 }
   where
     stands : Stands j (e ∷ past) new.cursor

@@ -32,7 +32,7 @@ use Rattle.run_course.specs.inner.Kept.{IsKept, view_of}
 use Rattle.run_course.proofs.PutLaws.{puts_are_flat}
 use Rattle.run_course.specs.inner.Views.{HoldsUnforged, Holds, HoldsAnyhow}
 use Rattle.history_rules.specs.Honest.{IsHonest}
-use Rattle.run_laws.specs.Lost.{AllCameBack}
+use Rattle.driver_rules.specs.Stops.{has_loss}
 use Rattle.run_laws.specs.inner.Books.{KeepsHonest}
 
 -- ---- from a rule along the entries to what is said before each of them
@@ -98,7 +98,7 @@ store_true j past plans (Some calls) d tells plans_are = (plans_are, tells.store
 
 -- over an honest store all pages came back
 all_back : (made : Making) (past : List Entry) (m : Parts) (told : Option (List Call)) → IfSome told (KeepsHonest made past m)
-    → IfSome told (λ calls. IsHonest calls → AllCameBack past)
+    → IfSome told (λ calls. IsHonest calls → has_loss past ≡ false)
 all_back made past m None keeps = tt
 all_back made past m (Some calls) keeps = λ honest. (keeps honest).back
 

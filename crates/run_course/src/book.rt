@@ -4,8 +4,7 @@ ghost use Rattle.std.specs.Prelude.{◌≡◌, ◌<◌, [], false, true, IfOk, I
 ghost use Rattle.driver_laws.specs.inner.Agrees.{loaded_by};
 ghost use Rattle.driver_rules.specs.Turns.{last_of};
 ghost use Rattle.driver_rules.specs.inner.Stops.{frame_started};
-ghost use Rattle.driver_rules.specs.Stops.{is_spent, last_event};
-ghost use Rattle.due_tables.specs.inner.Shown.{has_loss};
+ghost use Rattle.driver_rules.specs.Stops.{has_loss, is_spent, last_event};
 ghost use Rattle.job_grammar.specs.inner.Valid.{IsValid};
 ghost use Rattle.sgx_types.specs.declared.names.Actor.TheVariants as actors;
 ghost use Rattle.run_course.specs.inner.Views.{Holds, IsBuild, IsLoadEnd, IsOutEnd, IsReclaim, IsRun, is_stopped, tells_stop};

@@ -1,13 +1,15 @@
 -- A book that has ended is a whole run.
 use Rattle.std.proofs.Common.{◌≡◌, ◌≢◌, ℕ, ◌<◌, List, Option, Some, None, length, subst}
+use Rattle.std.proofs.Common.{sym, ◌∙◌}
 use Rattle.std.specs.Prelude.{IfSome}
+use Rattle.std.proofs.lemmas.Bool.{false≢true}
 use Rattle.sgx_rules.specs.declared.entries.Entry.{Entry}
 use Rattle.io_edges.specs.declared.plans.PlanLine.{PlanLine}
 use Rattle.job_grammar.specs.Jobs.{JobView}
 use Rattle.backing_store.specs.Calls.{Call}
 use Rattle.driver_rules.specs.Scripts.{IsDone, IsEnded}
 use Rattle.run_laws.proofs.DoneLaws.{all_done}
-use Rattle.run_laws.specs.Lost.{AllCameBack}
+use Rattle.driver_rules.specs.Stops.{has_loss}
 use Rattle.history_rules.specs.Given.{UnforgedRun}
 use Rattle.history_rules.specs.Histories.{History}
 use Rattle.history_rules.specs.inner.Histories.{GoesOn}
@@ -26,9 +28,9 @@ histories j past None ended holds = tt
 histories j past (Some calls) ended holds = λ unforged. let both = holds unforged in (ended_history j past both.0 ended, both.1)
 
 -- where each page came back, no processor was ended by one
-pub no_bus : (past : List Entry) (end : End) → IsEndOf past end → AllCameBack past → end ≢ ends.Bus
+pub no_bus : (past : List Entry) (end : End) → IsEndOf past end → has_loss past ≡ false → end ≢ ends.Bus
 no_bus past ends.Done is back = λ same. cc
-no_bus past ends.Bus is back = λ same. is.1 back
+no_bus past ends.Bus is back = λ same. false≢true (sym back ∙ is.1)
 no_bus past ends.Spent is back = λ same. cc
 
 done_of : (j : JobView) (past : List Entry) (end : End) → IsEnded j past → IsEndOf past end → end ≡ ends.Done

@@ -7,7 +7,7 @@ use Rattle.job_grammar.specs.Jobs.{JobView}
 use Rattle.backing_store.specs.Calls.{Call}
 use Rattle.driver_rules.specs.Ages.{KeptAgeRule, KickRule}
 use Rattle.driver_rules.specs.Scripts.{IsDone, Script}
-use Rattle.run_laws.specs.Lost.{AllCameBack}
+use Rattle.driver_rules.specs.Stops.{has_loss}
 use Rattle.history_rules.specs.Given.{UnforgedRun}
 use Rattle.history_rules.specs.Histories.{History}
 use Rattle.history_rules.specs.Honest.{IsHonest}
@@ -40,4 +40,4 @@ pub record WholeRun (j : JobView) (past : List Entry) (end : End) (told : Option
   pub done : end ≡ ends.Done → (p : ℕ) → p < length j.scripts → IsDone j past p
   -- over a store that failed nothing and gave each page's last record put, no page was lost, however the run ended. This supposes nothing
   -- of forged records
-  pub honest : IfSome told (λ calls. IsHonest calls → AllCameBack past)
+  pub honest : IfSome told (λ calls. IsHonest calls → has_loss past ≡ false)

@@ -2,8 +2,7 @@
 
 ghost use Rattle.std.specs.Prelude.{◌≡◌, List};
 ghost use Rattle.sgx_rules.specs.declared.entries.Entry.{Entry};
-ghost use Rattle.driver_rules.specs.Stops.{is_spent};
-ghost use Rattle.due_tables.specs.inner.Shown.{has_loss};
+ghost use Rattle.driver_rules.specs.Stops.{has_loss, is_spent};
 ghost use Rattle.run_jobs.specs.Ends.{IsEndOf};
 
 /// How a run ended (this project's own).

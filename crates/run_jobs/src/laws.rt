@@ -3,7 +3,7 @@
 ghost use Rattle.backing_store.specs.inner.Store.{IsStore, StoreState, is_put};
 ghost use Rattle.backing_store.specs.inner.Told.{told_of};
 ghost use Rattle.job_grammar.specs.Jobs.{JobView};
-ghost use Rattle.run_laws.specs.Lost.{AllCameBack};
+ghost use Rattle.driver_rules.specs.Stops.{has_loss};
 ghost use Rattle.run_jobs.specs.Runs.{WholeRun};
 ghost use Rattle.run_jobs.specs.declared.ends.End.{End};
 ghost use Rattle.run_jobs.specs.declared.ends.End.TheVariants as ends;
@@ -15,5 +15,5 @@ ghost use Rattle.std.specs.Prelude.{◌≡◌, ◌≢◌, Some, List, [], count_
 pub fn planned_runs_without_lines_lose_nothing()
     ensures { (j : JobView) (past : List Entry) (end : End) (store : StoreState) → IsStore store
         → length store.puts ≡ count_by is_put store.calls → j.plans ≡ []
-        → WholeRun j past end (Some (told_of store.calls store.puts)) store.plans → AllCameBack past × (end ≢ ends.Bus) }
+        → WholeRun j past end (Some (told_of store.calls store.puts)) store.plans → (has_loss past ≡ false) × (end ≢ ends.Bus) }
 {}

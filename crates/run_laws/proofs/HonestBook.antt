@@ -35,6 +35,7 @@ use Rattle.history_rules.specs.Honest.{IsHonest, last_put}
 use Rattle.history_rules.proofs.HonestLaws.{gifts_more, IsOutOf, same_last}
 use Rattle.run_laws.specs.inner.Books.{FindsVersion, IsHonestEntry}
 use Rattle.run_laws.specs.inner.Honest.{IsArrayPut, IsHonestBook, LoadsHaveFound, PutsAreArrays, PutsArray}
+use Rattle.driver_rules.specs.Stops.{has_loss, is_bus}
 
 -- ---- versions that were found
 
@@ -179,7 +180,7 @@ pub honest_goes : (made : Making) (j : JobView) (past : List Entry) (d d' : Driv
     → Agrees made j past d m → IsNextOf made j past d m e d' m' → CallsAre (e ∷ past) longer → IsHonest longer
     → IsHonestBook made past m (before e.event longer) → IsHonestEntry made past m e m' longer → IsHonestBook made (e ∷ past) m' longer
 honest_goes made j past d d' m m' e longer r n calls honest was now = record {
-  back = (now.back was, was.back);
+  back = or_from (is_bus e.event) (has_loss past) (now.back was) was.back;
   gifts = gifts_more past e longer r.sound n.can calls honest was.gifts;
   found = found_more past e r.sound n.can n.starts (now.finds was) was.found;
   arrays = now.arrays was;

@@ -3,9 +3,8 @@
 ghost use Rattle.backing_store.specs.inner.Store.{IsStore, StoreState, is_put};
 ghost use Rattle.backing_store.specs.inner.Told.{told_of};
 ghost use Rattle.driver_rules.specs.Scripts.{IsDone, IsEnded};
-ghost use Rattle.driver_rules.specs.Stops.{is_spent};
+ghost use Rattle.driver_rules.specs.Stops.{has_loss, is_spent};
 ghost use Rattle.job_grammar.specs.Jobs.{JobView};
-ghost use Rattle.run_laws.specs.Lost.{AllCameBack};
 ghost use Rattle.history_rules.specs.Honest.{IsHonest};
 ghost use Rattle.sgx_rules.specs.declared.entries.Entry.{Entry};
 ghost use Rattle.std.specs.Prelude.{ℕ, ◌≡◌, ◌<◌, false, List, [], count_by, length};
@@ -20,6 +19,6 @@ pub fn planned_stores_without_lines_are_honest()
 /// Where a run is at its end, each page came back, and no epoch or version was used up, each operation of each script has its reply, and
 /// each processor is outside.
 pub fn runs_without_a_loss_are_done()
-    ensures { (j : JobView) (past : List Entry) → IsEnded j past → AllCameBack past → is_spent past ≡ false
+    ensures { (j : JobView) (past : List Entry) → IsEnded j past → has_loss past ≡ false → is_spent past ≡ false
         → (p : ℕ) → p < length j.scripts → IsDone j past p }
 {}

@@ -58,7 +58,7 @@ carried_honest made past m m' e told quiet shape carries =
 -- no frame holds a page, and none is loading
 pub first_honest : (made : Making) (m : Parts) → ShapeWithRules made (state_of m) [] → IsHonestBook made [] m []
 first_honest made m shape = record {
-  back = tt;
+  back = refl;
   gifts = λ g f slot at. cc;
   found = λ n x opened loads. cc;
   arrays = λ n number held. absurd (never_array number (sym (content_is shape.shape.columns n) ∙ held));

@@ -146,7 +146,7 @@ pub record IsNoted (j : JobView) (old : Turns) (before : Mode) (e : Entry) (new 
   pub tcs : new.tcs ≡ saves_after e.event (page_left e.actor before) old.tcs
   pub last : new.last ≡ Some e.actor
   pub spent : new.is_spent ≡ (if spends e.event then true else old.is_spent)
-  pub loss : new.has_loss ≡ (if is_bus e.event then true else old.has_loss)
+  pub loss : new.has_loss ≡ (is_bus e.event || old.has_loss)
 
 -- ---- what the code asks
 

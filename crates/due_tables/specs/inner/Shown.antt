@@ -28,11 +28,6 @@ pub record ShowsCpu (past : List Entry) (p : ℕ) (turn : CpuTurn) : Type 0 wher
   pub interruption : interruption_told turn.interruption ≡ interruption past p
   pub last : last_told turn.last ≡ last_of past p
 
--- whether a page could not be reloaded
-abbrev pub has_loss : List Entry → Bool
-has_loss [] = false
-has_loss (e ∷ past) = if is_bus e.event then true else has_loss past
-
 pub record ShowsTurns (j : JobView) (past : List Entry) (t : Turns) : Type 0 where
   pub valid : IsValid j
   -- the steps of the builder that are left

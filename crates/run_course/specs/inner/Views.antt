@@ -21,7 +21,7 @@ use Rattle.driver_rules.specs.Dues.{Due, Finished}
 use Rattle.driver_rules.specs.inner.Reclaims.{reclaimer_due_by}
 use Rattle.driver_rules.specs.Spares.{outs_kept}
 use Rattle.driver_rules.specs.Scripts.{IsEnded, ScriptRule}
-use Rattle.driver_rules.specs.Stops.{is_spent, last_event}
+use Rattle.driver_rules.specs.Stops.{has_loss, is_spent, last_event}
 use Rattle.driver_rules.specs.inner.Stops.{frame_started, started}
 use Rattle.driver_rules.specs.Turns.{Loads, builder_due, cpu_due, last_of}
 use Rattle.driver_laws.specs.inner.Agrees.{loaded_by}
@@ -30,7 +30,6 @@ use Rattle.history_rules.specs.Given.{UnforgedRun, gift}
 use Rattle.history_rules.specs.inner.Histories.{GoesOn}
 use Rattle.history_rules.specs.Honest.{IsHonest}
 use Rattle.history_rules.specs.Stored.{PutsAreFlat, StoreTrue}
-use Rattle.run_laws.specs.Lost.{AllCameBack}
 use Rattle.driver_rules.specs.Spent.{SpentRule}
 use Rattle.run_course.specs.declared.turn.Turn.{Turn}
 use Rattle.run_course.specs.declared.turn.Turn.TheVariants as turns
@@ -76,7 +75,7 @@ pub record HoldsAnyhow (b : BookView) : Type 0 where
   pub ended : builder_due b.job b.past ≡ Finished → ((p : ℕ) → p < length b.job.scripts → cpu_due b.job b.past p ≡ Finished)
       → IsEnded b.job b.past
   -- where the store failed nothing and gave each page's last record put, each page came back
-  pub honest : IfSome b.told (λ calls. IsHonest calls → AllCameBack b.past)
+  pub honest : IfSome b.told (λ calls. IsHonest calls → has_loss b.past ≡ false)
 
 -- where no record of the run was forged: all eleven rules, and each record that was put has the flat bytes of its page there
 abbrev pub HoldsUnforged : BookView → List Call → Type 0

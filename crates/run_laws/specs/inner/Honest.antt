@@ -21,7 +21,7 @@ use Rattle.sgx_machine.specs.inner.Parts.{Parts, state_of}
 use Rattle.history_rules.specs.Calls.{before}
 use Rattle.history_rules.specs.Honest.{last_put}
 use Rattle.history_rules.specs.inner.Honest.{GiftsAreLast}
-use Rattle.run_laws.specs.Lost.{AllCameBack}
+use Rattle.driver_rules.specs.Stops.{has_loss}
 
 -- an open start of a load has found the version that its slot holds
 abbrev pub LoadsHaveFound : List Entry → Type 0
@@ -47,7 +47,7 @@ pub record IsArrayPut (key : List ℕ) (past : List Entry) (calls : List Call) (
 
 pub record IsHonestBook (made : Making) (past : List Entry) (m : Parts) (calls : List Call) : Type 0 where
   -- each page came back
-  pub back : AllCameBack past
+  pub back : has_loss past ≡ false
   -- each started load has its page's last record put, and has found its version
   pub gifts : GiftsAreLast past calls
   pub found : LoadsHaveFound past
