@@ -2,7 +2,6 @@
 
 ghost use Rattle.std.specs.Prelude.{◌≡◌, OnErr, OnOk, option_map};
 ghost use Rattle.audit_machine.specs.inner.Kept.{kept_of, no_records, records_of, with_record, without_record};
-ghost use Rattle.audit_machine.specs.inner.Views.{key_of};
 
 use seal_record::unseal::UnsealedWork;
 use sgx_types::names::{Memory, Page};
@@ -10,26 +9,10 @@ use std::alloc::Global;
 use std::collections::HashMap;
 use std::marker::Model;
 
-// A page, as the key of a map.
-#[derive(Clone, Copy, Debug, PartialEq, Eq, Hash)]
-struct PageKey {
-    enclave: u16,
-    number: u32,
-}
-
-fn key_of(page: Page) -> PageKey
-    ensures { result ≡ key_of page }
-{
-    PageKey {
-        enclave: page.enclave,
-        number: page.number,
-    }
-}
-
 /// For each page a record with which it went out, opened, where one is kept. No call takes longer where more are.
 #[derive(Drop)]
 pub struct OldRecords {
-    works: HashMap<PageKey, UnsealedWork>,
+    works: HashMap<Page, UnsealedWork>,
 }
 
 impl Model for OldRecords {
@@ -59,7 +42,7 @@ impl OldRecords {
         ensures kept { OnOk result (records_of self.new ≡ with_record (records_of self.old) page (kept_of work)) }
         ensures refused { OnErr result (self.new ≡ self.old) }
     {
-        self.works.insert(key_of(page), work)?;
+        self.works.insert(page, work)?;
         Ok(())
     }
 
@@ -68,6 +51,6 @@ impl OldRecords {
         ensures taken { option_map kept_of result ≡ records_of self.old page }
         ensures gone { records_of self.new ≡ without_record (records_of self.old) page }
     {
-        self.works.remove(&key_of(page))
+        self.works.remove(&page)
     }
 }

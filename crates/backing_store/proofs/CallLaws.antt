@@ -10,12 +10,13 @@ use Rattle.std.proofs.lemmas.List.{append-nil, reverse-append}
 use Rattle.sgx_types.specs.declared.names.Page.{Page}
 use Rattle.sgx_types.specs.Pages.{same_page}
 use Rattle.sgx_types.proofs.Pages.{same_pages}
+use Rattle.backing_store.specs.declared.calls.GetAnswer.{GetAnswer}
 use Rattle.backing_store.specs.declared.calls.StoreCall.{StoreCall}
 use Rattle.backing_store.specs.declared.calls.StoreCall.TheVariants.{Room, Put, Got}
 use Rattle.backing_store.specs.declared.page_places.PageCounts.{PageCounts}
 use Rattle.backing_store.specs.declared.page_places.PagePlaces.{PagePlaces}
-use Rattle.backing_store.specs.inner.Places.{counts_of, place_of, OnePut}
-use Rattle.backing_store.specs.inner.Store.{is_put, is_get_of, more_of, records_of, nth}
+use Rattle.backing_store.specs.inner.Places.{counts_of, place_of, OneGet, OnePut}
+use Rattle.backing_store.specs.inner.Store.{is_get, is_get_of, is_put, more_of, nth, records_of}
 use Rattle.backing_store.specs.inner.Kept.{Counts, counts_in}
 use Rattle.backing_store.proofs.AnswerLaws.{slice_get-push}
 
@@ -115,5 +116,58 @@ Counts-put olds news rooms gets puts blanks puts' blanks' known known' page fail
       places = λ g n. places-put (same_page page g) page g calls (counts_of known page).puts puts n (place_of known g n)
           (place_of known' g n) refl
           (ap (λ (k : PageCounts). k.puts) is) counted.are_puts (counted.places g n) (put.place g n);
+    } in
+    rw last after
+
+-- ---- a get more
+
+-- how many gets of a page there are
+gets_more : (page g : Page) (answer : GetAnswer) (calls : List StoreCall)
+    → count_by (is_get_of g) (Got page answer ∷ calls) ≡ (if same_page page g then 1 else 0) + count_by (is_get_of g) calls
+gets_more page g answer calls = sum_by-cons (λ call. if is_get_of g call then 1 else 0) (Got page answer) calls
+
+abbrev counts_with : ℕ → ℕ → PageCounts
+counts_with gets puts = record { gets = gets; puts = puts }
+
+-- what is known of a page by its gets and its records, of which a get adds none
+same-records : (page g : Page) (answer : GetAnswer) (calls : List StoreCall) (gets : ℕ)
+    → gets ≡ count_by (is_get_of g) (Got page answer ∷ calls)
+    → counts_with gets (length (records_of g calls)) ≡ counts_in g (Got page answer ∷ calls)
+same-records page g answer calls gets is =
+    ap (λ n. counts_with n (length (records_of g calls))) is
+    ∙ ap (λ xs. counts_with (count_by (is_get_of g) (Got page answer ∷ calls)) (length xs)) (sym (append-nil (records_of g calls)))
+
+counts-get : (b : Bool) (page g : Page) (answer : GetAnswer) (calls : List StoreCall) (had now : PageCounts) → same_page page g ≡ b
+    → had ≡ counts_in page calls
+    → now ≡ (if b then record had { gets = had.gets + 1 } else counts_in g calls)
+    → now ≡ counts_in g (Got page answer ∷ calls)
+counts-get true page g answer calls had now same is after =
+    let of_page : Page → PageCounts = λ p. counts_with (count_by (is_get_of p) calls + 1) (length (records_of p calls)) in
+    let more : PageCounts → PageCounts = λ k. record k { gets = k.gets + 1 } in
+    let one : count_by (is_get_of g) calls + 1 ≡ count_by (is_get_of g) (Got page answer ∷ calls)
+    = rw (gets_more page g answer calls, same) (omega arith) in
+    after ∙ ap more is ∙ ap of_page (same_pages page g same) ∙ same-records page g answer calls (count_by (is_get_of g) calls + 1) one
+counts-get false page g answer calls had now same is after =
+    let none : count_by (is_get_of g) calls ≡ count_by (is_get_of g) (Got page answer ∷ calls)
+    = rw (gets_more page g answer calls, same) (omega arith) in
+    after ∙ same-records page g answer calls (count_by (is_get_of g) calls) none
+
+-- the numbers go on with a get
+pub Counts-get : (olds news : List StoreCall) (rooms gets puts blanks : ℕ) (known known' : PagePlaces) (page : Page) (answer : GetAnswer)
+    → news ≡ olds ++ Got page answer ∷ [] → OneGet known page known'
+    → Counts (reverse olds) rooms gets puts blanks known → Counts (reverse news) rooms (gets + 1) puts blanks known'
+Counts-get olds news rooms gets puts blanks known known' page answer pushed get counted =
+    let calls = reverse olds in
+    let last : reverse news ≡ Got page answer ∷ calls = ap reverse pushed ∙ reverse-append olds (Got page answer ∷ []) in
+    let after : Counts (Got page answer ∷ calls) rooms (gets + 1) puts blanks known' = record {
+      are_rooms = counted.are_rooms;
+      are_gets = omega (arith, counted.are_gets, sum_by-cons (λ call. if is_get call then 1 else 0) (Got page answer) calls);
+      are_puts = counted.are_puts;
+      are_spare = counted.are_spare;
+      counts = λ g. counts-get (same_page page g) page g answer calls (counts_of known page) (counts_of known' g) refl
+          (counted.counts page)
+          (get.counts g ∙ ap (λ k. if same_page page g then record (counts_of known page) { gets = (counts_of known page).gets + 1 }
+          else k) (counted.counts g));
+      places = λ g n. get.place g n ∙ counted.places g n ∙ ap (nth n) (sym (append-nil (records_of g calls)));
     } in
     rw last after

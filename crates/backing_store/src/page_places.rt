@@ -16,34 +16,18 @@ pub struct PageCounts {
     pub puts: u64,
 }
 
-// A page, as the key of a map.
-#[derive(Clone, Copy, PartialEq, Eq, Hash)]
-struct PageKey {
-    enclave: u16,
-    number: u32,
-}
-
 // The `nth` put of a page that did not fail, counted from 1.
 #[derive(Clone, Copy, PartialEq, Eq, Hash)]
 struct PutKey {
-    page: PageKey,
+    page: Page,
     nth: u64,
-}
-
-fn key_of(page: Page) -> PageKey
-    ensures { result ≡ record { enclave = page.enclave; number = page.number } }
-{
-    PageKey {
-        enclave: page.enclave,
-        number: page.number,
-    }
 }
 
 /// For each page how many gets and puts of it there were, and the place of each of its records, found in a time that does
 /// not grow with their number.
 #[derive(Drop)]
 pub struct PagePlaces {
-    counts: HashMap<PageKey, PageCounts>,
+    counts: HashMap<Page, PageCounts>,
     places: HashMap<PutKey, u64>,
 }
 
@@ -75,9 +59,8 @@ impl PagePlaces {
     pub fn counts(&self, page: Page) -> PageCounts
         ensures { result ≡ counts_of self.now page }
     {
-        let key = key_of(page);
         self.counts
-            .get(&key)
+            .get(&page)
             .copied()
             .unwrap_or(PageCounts { gets: 0, puts: 0 })
     }
@@ -86,10 +69,7 @@ impl PagePlaces {
     pub fn place(&self, page: Page, nth: u64) -> Option<u64>
         ensures { result ≡ place_of self.now page nth }
     {
-        let key = PutKey {
-            page: key_of(page),
-            nth,
-        };
+        let key = PutKey { page, nth };
         self.places.get(&key).copied()
     }
 
@@ -126,10 +106,7 @@ impl PagePlaces {
                 puts: nth,
             },
         );
-        let key = PutKey {
-            page: key_of(page),
-            nth,
-        };
+        let key = PutKey { page, nth };
         let kept: Result<_, _> = self.places.insert(key, place);
         kept.unwrap();
     }
@@ -140,8 +117,7 @@ impl PagePlaces {
         ensures places { self.new.places ≡ self.old.places }
         ensures room { spare self.old.counts ≤ spare self.new.counts + 1 }
     {
-        let key = key_of(page);
-        let kept: Result<_, _> = self.counts.insert(key, counts);
+        let kept: Result<_, _> = self.counts.insert(page, counts);
         kept.unwrap();
     }
 }

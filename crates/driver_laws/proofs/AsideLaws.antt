@@ -236,7 +236,7 @@ pub aside_stays : (j : JobView) (past : List Entry) (out : Outs) (a : Actor) (ev
     → ((g : Page) (f : ℕ) → place past g ≡ Here f → is_blocked past f ≡ false)
     → HasAside past (aside past) → HasAside (entry_of a ev ∷ past) (aside_after a ev (aside past))
 aside_stays j past out actors.Reclaimer ev s can own age here k =
-    aside_by_own j past (aside past) (due_with j past out) ev (λ g is. due_is_other j past out (last_event past actors.Reclaimer) g is) s can
+    aside_by_own j past (aside past) (due_with j past out) ev (due_is_other j past out (last_event past actors.Reclaimer)) s can
     age here k
 aside_stays j past out actors.Builder ev s can own age here k = by_own (is_reclaimers ev) refl
   where

@@ -261,7 +261,8 @@ names_stay j past c ev script own = record {
   seat = λ s at. own_seat j past c.0 ev own does s (subst (λ b. stay_after (move_by ev) b past (stay past c.0) ≡ Some s) (eqb-refl c.0) at);
   broken =
       λ i at. own_broken j past c.0 ev own i (subst
-      (λ b. (if b then interruption_after ev (stay past c.0) (interruption past c.0) else interruption past c.0) ≡ Some i) (eqb-refl c.0) at);
+      (λ b. (if b then interruption_after ev (stay past c.0) (interruption past c.0) else interruption past c.0) ≡ Some i)
+      (eqb-refl c.0) at);
 }
   where
     does : (a : Action) (answer : Answer) → ev ≡ Did a answer → Own j c.0 a

@@ -112,7 +112,8 @@ calm_kept past e n none calm p low = rw (last_kept past e n none) (by_move (move
     fresh (Some k) is = let under = last_low past n k is in grind arith
 
     by_move : (m : Move) (own : Bool) → is_in_before n (last_track past n) (stay_after m own past (stay past p)) ≡ false
-    by_move (Enters seat) true = and_right (seat.enclave == n) (is_before (last_track past n) (length past)) (fresh (last_track past n) refl)
+    by_move (Enters seat) true =
+        and_right (seat.enclave == n) (is_before (last_track past n) (length past)) (fresh (last_track past n) refl)
     by_move (Enters seat) false = calm p low
     by_move Leaves true = refl
     by_move Leaves false = calm p low

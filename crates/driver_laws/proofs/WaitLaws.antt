@@ -83,7 +83,8 @@ others_kept : (past : List Entry) (e : Entry) (b : Bool) (g : Page) (n : ℕ) (g
 others_kept past e b g n [] s can at only none h = tt
 others_kept past e b g n (x ∷ xs) s can at only none h =
     let two = neither (same_page x g) (is_among xs g) none in
-    let apart = frames_apart past x g (Leaving h.0.frame) (Leaving n) h.0.frame n s h.0.leaving (eqb-refl h.0.frame) at (eqb-refl n) two.0 in
+    let apart =
+    frames_apart past x g (Leaving h.0.frame) (Leaving n) h.0.frame n s h.0.leaving (eqb-refl h.0.frame) at (eqb-refl n) two.0 in
     (waits_kept past e b x s can h.0 (only h.0.frame (eqb-swap n h.0.frame ∙ apart)), others_kept past e b g n xs s can at only two.1 h.1)
 
 -- a block leaves what is blocked

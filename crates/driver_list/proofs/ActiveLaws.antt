@@ -36,7 +36,8 @@ pub count_apart : (pages : List Page) (p : Page) (f g : Page → Bool) → list_
     → ((q : Page) → q ≢ p → f q ≡ g q) → count_by f pages ≡ count_by g pages
 count_apart [] p f g none same = refl
 count_apart (q ∷ pages) p f g none same =
-    let apart : q ≢ p = λ e. false≢true (sym none ∙ ap (λ b. b || list_any (same_page p) pages) (ap (λ r. same_page p r) e ∙ same_page-refl p)) in
+    let apart : q ≢ p =
+    λ e. false≢true (sym none ∙ ap (λ b. b || list_any (same_page p) pages) (ap (λ r. same_page p r) e ∙ same_page-refl p)) in
     let rest : list_any (same_page p) pages ≡ false = or_rest (same_page p q) (list_any (same_page p) pages) none in
     sum_by-cons (λ (r : Page). one_if (f r)) q pages
     ∙ omega (arith, ap one_if (same q apart), count_apart pages p f g rest same)
@@ -57,7 +58,8 @@ count_change (x ∷ list) p f g is out here same =
     (λ at.
     let absent : list_any (same_page p) (pages_of list) ≡ false =
     ap (λ q. list_any (same_page q) (pages_of list)) (sym at) ∙ head_apart x list is in
-    let listed : is_listed (x ∷ list) p ≡ true = ap (λ b. b || list_any (same_page p) (pages_of list)) (ap (same_page p) at ∙ same_page-refl p) in
+    let listed : is_listed (x ∷ list) p ≡ true =
+    ap (λ b. b || list_any (same_page p) (pages_of list)) (ap (same_page p) at ∙ same_page-refl p) in
     omega (
       arith,
       f_cons,
@@ -92,7 +94,8 @@ held_others less more p q hold apart =
     ∙ held_is more q)
 
 held_more : (less more : List (List Page)) (p : Page) → OneHold less more p → is_held more p ≡ true
-held_more less more p hold = sym (held_is more p) ∙ lt-ltb 0 (hold_count more p) (omega (arith, hold.counts p, ap one_if (same_page-refl p)))
+held_more less more p hold =
+    sym (held_is more p) ∙ lt-ltb 0 (hold_count more p) (omega (arith, hold.counts p, ap one_if (same_page-refl p)))
 
 -- the count where a page is held once more: it falls where the page was not held and is listed
 pub unheld_more : (less more : List (List Page)) (list : List Listed) (p : Page) → OneHold less more p

@@ -381,7 +381,8 @@ pub arrays_in_pass : (j : JobView) (out : Outs) (old new : Keeper) (past : List 
     → (is_aside (aside past) event ≡ true → HasAsMany old new) → KeepsArrays j old past
     → KeepsArrays j new (record { actor = actors.Reclaimer; event = event } ∷ past)
 arrays_in_pass j out old new past event sound pages age many keeps =
-    by_aside (aside past) pages.aside (due_with j past out) (λ g. due_is_other j past out (last_event past actors.Reclaimer) g) event age many
+    by_aside (aside past) pages.aside (due_with j past out)
+    (λ g. due_is_other j past out (last_event past actors.Reclaimer) g) event age many
   where
     late : (ev : Event) (g : Page) → is_own_page g ≡ true → is_absent (place past g) ≡ false
         → KeepsArrays j new (record { actor = actors.Reclaimer; event = ev } ∷ past)

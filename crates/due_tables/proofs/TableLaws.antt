@@ -109,7 +109,8 @@ turn_set : (t : List (List (Option TcsTurn))) (page g : Page) (x y : TcsTurn) �
     → tcs_at (with_turn t page y) g ≡ (if same_page page g then Some y else tcs_at t g)
 turn_set t page g x y is =
     ap (λ row. get_or row g.number None)
-    (get_or-set_if t page.enclave g.enclave (set (get_or t page.enclave []) page.number (Some y)) [] (row_within t page.enclave page.number x is))
+    (get_or-set_if t page.enclave g.enclave (set (get_or t page.enclave []) page.number (Some y)) []
+    (row_within t page.enclave page.number x is))
     ∙ by_enclave (page.enclave == g.enclave) refl
   where
     by_enclave : (b : Bool) → (page.enclave == g.enclave) ≡ b
@@ -117,7 +118,8 @@ turn_set t page g x y is =
         ≡ (if b && (page.number == g.number) then Some y else tcs_at t g)
     by_enclave false other = refl
     by_enclave true same =
-        get_or-set_if (get_or t page.enclave []) page.number g.number (Some y) None (there_below (get_or t page.enclave []) page.number x is)
+        get_or-set_if (get_or t page.enclave []) page.number g.number (Some y) None
+        (there_below (get_or t page.enclave []) page.number x is)
         ∙ ap (λ e. if page.number == g.number then Some y else get_or (get_or t e []) g.number None)
         (eqb-true page.enclave g.enclave same)
 

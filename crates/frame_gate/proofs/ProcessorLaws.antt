@@ -166,7 +166,8 @@ leaves_gate count slots id me m e ps is s k _ at fits =
     (λ (t : e ≡ k.before).
     let a : 1 ≤ total (inside_at e) s.views = let b = one_of (inside_at e) s.views id me.0 at in omega arith in
     let a' : 1 ≤ total (inside_at k.before) s.views = subst (λ (y : ℕ). 1 ≤ total (inside_at y) s.views) t a in
-    let kept : l.is_set_back ≡ false = false_from_ne_true l.is_set_back (λ z. let b = k.counted.empty (k.counted.set_back z).0 in omega arith) in
+    let kept : l.is_set_back ≡ false =
+    false_from_ne_true l.is_set_back (λ z. let b = k.counted.empty (k.counted.set_back z).0 in omega arith) in
     let b : total (inside_at e) s.views + x ≡ l.kept = subst
     (λ (y : ℕ). total (inside_at y) s.views + get_or s.words (leave_word y) 0 ≡ l.kept) (sym t) (k.counted.older kept) in
     let c = k.counted.limited in

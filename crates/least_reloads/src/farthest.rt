@@ -9,7 +9,6 @@ ghost use Rattle.least_reloads.specs.inner.Plans.{IsLeast};
 ghost use Rattle.least_reloads.specs.inner.Farthest.{AreUses, Holds, Keeps, Chosen};
 
 use crate::load_plan::{LoadPlan, Step};
-use crate::page_key::PageKey;
 use sgx_types::names::{Memory, Page};
 use std::alloc::Global;
 use std::collections::{BTreeMap, HashMap};
@@ -81,7 +80,7 @@ fn next_uses(alloc: Global, accesses: &[Page]) -> Result<Vec<usize>, Memory>
     let mut later = HashMap::new(alloc);
     let mut uses = vec![in alloc; 0; accesses.len()]?;
     for i in (0..accesses.len()).rev() {
-        let next = later.insert(PageKey::of(accesses[i]), i)?;
+        let next = later.insert(accesses[i], i)?;
         uses[i] = next.unwrap_or(accesses.len() + i);
     }
     Ok(uses)

@@ -4,5 +4,4 @@
 pub mod farthest;
 pub mod lawful;
 pub mod load_plan;
-mod page_key;
 pub mod page_set;

@@ -6,7 +6,6 @@ ghost use Rattle.sgx_types.specs.declared.names.Page.{Page};
 ghost use Rattle.sgx_types.specs.Pages.{same_page};
 ghost use Rattle.least_reloads.specs.Plans.{has};
 
-use crate::page_key::PageKey;
 use sgx_types::names::{Memory, Page};
 use std::alloc::Global;
 use std::collections::HashSet;
@@ -15,7 +14,7 @@ use std::marker::Model;
 /// A set of pages. No call takes longer where it has more of them.
 #[derive(Drop)]
 pub struct PageSet {
-    keys: HashSet<PageKey>,
+    pages: HashSet<Page>,
 }
 
 impl Model for PageSet {
@@ -35,7 +34,7 @@ impl PageSet {
         ensures { result ≡ [] }
     {
         PageSet {
-            keys: HashSet::new(alloc),
+            pages: HashSet::new(alloc),
         }
     }
 
@@ -44,14 +43,14 @@ impl PageSet {
         ensures len { result ≡ length self.now }
         ensures once { IsDistinct same_page self.now }
     {
-        self.keys.len()
+        self.pages.len()
     }
 
     /// Whether a page is in the set.
     pub fn contains(&self, page: Page) -> bool
         ensures { result ≡ has self.now page }
     {
-        self.keys.contains(&PageKey::of(page))
+        self.pages.contains(&page)
     }
 
     /// Puts a page into the set, and tells whether it was not there.
@@ -59,7 +58,7 @@ impl PageSet {
         ensures added { IfOk result (λ added. added ≡ not (has self.old page)) }
         ensures new { OnOk result ((g : Page) → has self.new g ≡ (if same_page page g then true else has self.old g)) }
     {
-        Ok(self.keys.insert(PageKey::of(page))?)
+        Ok(self.pages.insert(page)?)
     }
 
     /// Takes a page out of the set, and tells whether it was there.
@@ -67,6 +66,6 @@ impl PageSet {
         ensures removed { result ≡ has self.old page }
         ensures new { (g : Page) → has self.new g ≡ (if same_page page g then false else has self.old g) }
     {
-        self.keys.remove(&PageKey::of(page))
+        self.pages.remove(&page)
     }
 }

@@ -244,7 +244,8 @@ pub record Makes (past : List Entry) (e : Entry) (new : Page) : Type 0 where
 pub epa_makes : (past : List Entry) (a : Actor) (f : Frame) (answer : Answer)
     → Makes past (entry_of a (Did (Epa f) answer)) (va_page (vas_made past))
 epa_makes past a f answer = record {
-  fresh = false_from_ne_true (ltb (vas_made past) (vas_made past)) (λ k. let low = ltb-true (vas_made past) (vas_made past) k in omega (arith, low));
+  fresh = false_from_ne_true (ltb (vas_made past) (vas_made past))
+      (λ k. let low = ltb-true (vas_made past) (vas_made past) k in omega (arith, low));
   there = lt-ltb (vas_made past) (vas_made past + 1) (omega arith);
   others = λ h. by_name h (h.enclave == 0) refl;
 }

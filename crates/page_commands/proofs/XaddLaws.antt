@@ -14,7 +14,8 @@ use Rattle.job_grammar.specs.Jobs.{JobView}
 use Rattle.script_rules.specs.Script.{is_interrupted, is_reply, numbers_from, replied, script_of}
 use Rattle.page_commands.specs.declared.exchanges.Progress.{Progress}
 use Rattle.page_commands.specs.Summary.{xadds, xadds_in, xadds_of}
-use Rattle.page_commands.specs.inner.Progress.{AreProgress, Counts, HaveRoom, IsProgress, more_if}
+use Rattle.page_commands.specs.inner.Progress.{AreProgress, Counts, HaveRoom, IsProgress}
+use Rattle.trace_tally.specs.Tally.{more_if}
 
 -- ---- sums over numbers from `first` on
 

@@ -200,23 +200,20 @@ looked_moves d d' page looks.Held calls sized placed is = turned_moves d d' page
 looked_moves d d' page looks.Young calls sized placed is = turned_moves d d' page looks.Young (turned d.active) calls is
 looked_moves d d' page looks.NoRoom calls sized placed is = turned_moves d d' page looks.NoRoom (turned d.active) calls is
 
+-- a look makes the calls that it tells of, where the tables have moved with each of them
+comes_by : (page : Page) (look : Look) (calls : List Call) (d d' : Driver)
+    → ((longer : List Call) → StoreMoves (by_reclaimer (Age page look)) longer d d')
+    → Tells (told_look page look (Some calls)) (λ longer. Comes (by_reclaimer (Age page look)) calls longer d d')
+comes_by page looks.Taken calls d d' moves = record { comes = (refl, refl); earlier = refl; moves = moves (Room page false ∷ calls) }
+comes_by page looks.NoRoom calls d d' moves = record { comes = (refl, refl); earlier = refl; moves = moves (Room page true ∷ calls) }
+comes_by page looks.Held calls d d' moves = record { comes = tt; earlier = refl; moves = moves calls }
+comes_by page looks.Young calls d d' moves = record { comes = tt; earlier = refl; moves = moves calls }
+
 look_comes : (page : Page) (look : Look) (calls : List Call) (d d' : Driver) → length d.states.states ≡ total d.states.counts
     → IsPlaced d.states.counts page → IsLooked d page look d'
     → Tells (told_look page look (Some calls)) (λ longer. Comes (by_reclaimer (Age page look)) calls longer d d')
-look_comes page looks.Taken calls d d' sized placed is = record {
-  comes = (refl, refl);
-  earlier = refl;
-  moves = looked_moves d d' page looks.Taken (Room page false ∷ calls) sized placed is;
-}
-look_comes page looks.NoRoom calls d d' sized placed is = record {
-  comes = (refl, refl);
-  earlier = refl;
-  moves = looked_moves d d' page looks.NoRoom (Room page true ∷ calls) sized placed is;
-}
-look_comes page looks.Held calls d d' sized placed is =
-    record { comes = tt; earlier = refl; moves = looked_moves d d' page looks.Held calls sized placed is }
-look_comes page looks.Young calls d d' sized placed is =
-    record { comes = tt; earlier = refl; moves = looked_moves d d' page looks.Young calls sized placed is }
+look_comes page look calls d d' sized placed is =
+    comes_by page look calls d d' (λ longer. looked_moves d d' page look longer sized placed is)
 
 scan_tells : (v v' : PassView) (calls : List Call) (d d' : Driver) (turn : PassTurn) → d.states.counts ≡ d.active.counts
     → length d.states.states ≡ total d.states.counts → IsScanned v d turn v' d' → (IsWait turn → d' ≡ d)
@@ -246,20 +243,8 @@ aside_moves d d' page looks.NoRoom calls sized placed is = still_moves d d' page
 aside_comes : (page : Page) (look : Look) (calls : List Call) (d d' : Driver) → length d.states.states ≡ total d.states.counts
     → IsPlaced d.states.counts page → IsLookedAside d page look d'
     → Tells (told_look page look (Some calls)) (λ longer. Comes (by_reclaimer (Age page look)) calls longer d d')
-aside_comes page looks.Taken calls d d' sized placed is = record {
-  comes = (refl, refl);
-  earlier = refl;
-  moves = aside_moves d d' page looks.Taken (Room page false ∷ calls) sized placed is;
-}
-aside_comes page looks.NoRoom calls d d' sized placed is = record {
-  comes = (refl, refl);
-  earlier = refl;
-  moves = aside_moves d d' page looks.NoRoom (Room page true ∷ calls) sized placed is;
-}
-aside_comes page looks.Held calls d d' sized placed is =
-    record { comes = tt; earlier = refl; moves = aside_moves d d' page looks.Held calls sized placed is }
-aside_comes page looks.Young calls d d' sized placed is =
-    record { comes = tt; earlier = refl; moves = aside_moves d d' page looks.Young calls sized placed is }
+aside_comes page look calls d d' sized placed is =
+    comes_by page look calls d d' (λ longer. aside_moves d d' page look longer sized placed is)
 
 -- ---- tries, tracks and blocks
 

@@ -52,7 +52,7 @@ use Rattle.sgx_machine.proofs.BlockBridge.{block_state, blocks, entries_with, en
 use Rattle.sgx_machine.proofs.BlockBridge.{track_state}
 use Rattle.sgx_machine.proofs.StartBridge.{IsWritable, beside_state, eldstart_state, ewbstart_state, found_at}
 use Rattle.sgx_machine.proofs.StartBridge.{held-outgoing, in_parts, named-outgoing, named-with_block, out_parts}
-use Rattle.sgx_machine.proofs.StartBridge.{owned_beside, table_beside, there}
+use Rattle.sgx_machine.proofs.StartBridge.{owned_beside, table_beside}
 
 -- ---- what the rows leave
 

@@ -52,7 +52,7 @@ pub const SECS_NUMBER: u32 = u32::MAX;
 /// A page that can leave the EPC. Of an enclave: the enclave's number from 1, and the page's offset from the enclave's base in
 /// pages of 4096 bytes, or `SECS_NUMBER` for its SECS. A version array page has enclave 0 and its number, from 0 in the order
 /// in which they were made.
-#[derive(Clone, Copy, Debug, PartialEq, Eq)]
+#[derive(Clone, Copy, Debug, PartialEq, Eq, Hash)]
 pub struct Page {
     pub enclave: u16,
     pub number: u32,

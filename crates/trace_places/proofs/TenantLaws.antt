@@ -5,7 +5,7 @@ use Rattle.sgx_types.proofs.Pages.{same_pages, same_page-refl}
 use Rattle.trace_places.specs.declared.change.Tenant.{Tenant}
 use Rattle.trace_places.specs.declared.change.Tenant.TheVariants.{Has, Awaits}
 use Rattle.trace_places.specs.Places.{same_tenant}
-use Rattle.trace_places.specs.inner.Frames.{same_key, tenant_key}
+use Rattle.trace_places.specs.inner.Frames.{same_tenant_key, tenant_key}
 
 -- tenants that the test finds the same are equal
 pub same_tenants : (s t : Tenant) → same_tenant s t ≡ true → s ≡ t
@@ -19,7 +19,7 @@ same_tenant-refl (Has a) = same_page-refl a
 same_tenant-refl (Awaits a) = same_page-refl a
 
 -- the keys of tenants are the same where the tenants are
-pub key_same : (s t : Tenant) → same_key (tenant_key s) (tenant_key t) ≡ same_tenant s t
+pub key_same : (s t : Tenant) → same_tenant_key (tenant_key s) (tenant_key t) ≡ same_tenant s t
 key_same (Has a) (Has b) = refl
 key_same (Has a) (Awaits b) = refl
 key_same (Awaits a) (Has b) = refl

@@ -5,7 +5,7 @@ use Rattle.std.specs.Global.{Vec}
 use Rattle.trace_places.specs.declared.change.Tenant.{Tenant}
 use Rattle.trace_places.specs.declared.frame_lists.TenantKey.{TenantKey}
 use Rattle.trace_places.specs.Places.{same_tenant}
-use Rattle.trace_places.specs.inner.Frames.{same_key, tenant_key, items_of}
+use Rattle.trace_places.specs.inner.Frames.{same_tenant_key, tenant_key, items_of}
 use Rattle.trace_places.proofs.TenantLaws.{same_tenants, key_same}
 
 written_if : (b : Bool) (f : List ℕ → List ℕ) (was : Option (Vec ℕ)) (v w : Vec ℕ) → (b ≡ true → was ≡ Some v) → w.items ≡ f v.items
@@ -16,11 +16,11 @@ written_if false f was v w here is = refl
 -- where the list of a tenant was written
 pub written : (key : TenantKey) (s t : Tenant) (f : List ℕ → List ℕ) (was is : TenantKey → Option (Vec ℕ)) (v w : Vec ℕ)
     → key ≡ tenant_key s → was key ≡ Some v → w.items ≡ f v.items
-    → ((q : TenantKey) → is q ≡ cond (same_key key q) (Some w) (was q))
+    → ((q : TenantKey) → is q ≡ cond (same_tenant_key key q) (Some w) (was q))
     → items_of (is (tenant_key t)) ≡ (if same_tenant s t then f (items_of (was (tenant_key t))) else items_of (was (tenant_key t)))
 written key s t f was is v w at here writes reads =
     let k = tenant_key t in
-    ap items_of (reads k ∙ ap (λ q. cond (same_key q k) (Some w) (was k)) at ∙ ap (λ b. cond b (Some w) (was k)) (key_same s t))
+    ap items_of (reads k ∙ ap (λ q. cond (same_tenant_key q k) (Some w) (was k)) at ∙ ap (λ b. cond b (Some w) (was k)) (key_same s t))
     ∙ written_if (same_tenant s t) f (was k) v w
     (λ same. ap was (ap tenant_key (sym (same_tenants s t same)) ∙ sym at) ∙ here) writes
 
@@ -31,7 +31,7 @@ same_if false xs = refl
 -- where the list of a tenant kept its items
 pub rewritten : (key : TenantKey) (s t : Tenant) (was is : TenantKey → Option (Vec ℕ)) (v w : Vec ℕ)
     → key ≡ tenant_key s → was key ≡ Some v → w.items ≡ v.items
-    → ((q : TenantKey) → is q ≡ cond (same_key key q) (Some w) (was q))
+    → ((q : TenantKey) → is q ≡ cond (same_tenant_key key q) (Some w) (was q))
     → items_of (is (tenant_key t)) ≡ items_of (was (tenant_key t))
 rewritten key s t was is v w at here writes reads =
     written key s t (λ xs. xs) was is v w at here writes reads ∙ same_if (same_tenant s t) (items_of (was (tenant_key t)))
@@ -48,10 +48,10 @@ begun_if false was v none empty = refl
 -- where a tenant without a list was given an empty one
 pub begun : (key : TenantKey) (s t : Tenant) (was is : TenantKey → Option (Vec ℕ)) (v : Vec ℕ)
     → key ≡ tenant_key s → is_some (was key) ≡ false → v.items ≡ []
-    → ((q : TenantKey) → is q ≡ cond (same_key key q) (Some v) (was q))
+    → ((q : TenantKey) → is q ≡ cond (same_tenant_key key q) (Some v) (was q))
     → items_of (is (tenant_key t)) ≡ items_of (was (tenant_key t))
 begun key s t was is v at none empty reads =
     let k = tenant_key t in
-    ap items_of (reads k ∙ ap (λ q. cond (same_key q k) (Some v) (was k)) at ∙ ap (λ b. cond b (Some v) (was k)) (key_same s t))
+    ap items_of (reads k ∙ ap (λ q. cond (same_tenant_key q k) (Some v) (was k)) at ∙ ap (λ b. cond b (Some v) (was k)) (key_same s t))
     ∙ begun_if (same_tenant s t) (was k) v
     (λ same. ap (λ q. is_some (was q)) (ap tenant_key (sym (same_tenants s t same)) ∙ sym at) ∙ none) empty

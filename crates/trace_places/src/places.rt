@@ -5,7 +5,7 @@ ghost use Rattle.sgx_rules.specs.declared.entries.Entry.{Entry};
 ghost use Rattle.sgx_types.specs.declared.names.Page.{Page};
 ghost use Rattle.trace_places.specs.Places.{page_at_frame, place_of, moved, moved_by, tenant, version_by};
 ghost use Rattle.trace_places.specs.Moves.{moves_of, AreMovesOf};
-ghost use Rattle.trace_places.specs.inner.Tables.{page_key, place_in, seen_in, move_in, Stands, HasRoom, HasRoomToMake, Makes};
+ghost use Rattle.trace_places.specs.inner.Tables.{place_in, seen_in, move_in, Stands, HasRoom, HasRoomToMake, Makes};
 ghost use Rattle.trace_places.specs.inner.Tables.{pages_in, may_move, tenant_in, gone_in};
 ghost use Rattle.std.specs.HashMap.{spare};
 ghost use Rattle.trace_places.specs.declared.change.Change.TheVariants as changes;
@@ -18,22 +18,6 @@ use sgx_types::names::{Frame, Memory, Page};
 use std::alloc::Global;
 use std::collections::HashMap;
 
-// A page, as the key of a map.
-#[derive(Clone, Copy, PartialEq, Eq, Hash)]
-struct PageKey {
-    enclave: u16,
-    number: u32,
-}
-
-fn page_key(page: Page) -> PageKey
-    ensures { result ≡ page_key page }
-{
-    PageKey {
-        enclave: page.enclave,
-        number: page.number,
-    }
-}
-
 /// Where each page is behind entries that were pushed one by one, any entries at all. A push and a question take a time that grows
 /// with the number of frames that have or await one page, and with nothing else: in a trace that keeps the rules that is one frame
 /// at most.
@@ -41,7 +25,7 @@ fn page_key(page: Page) -> PageKey
 pub struct Places {
     tenants: HashMap<u32, Tenant>,
     frames: FrameLists,
-    gone: HashMap<PageKey, u64>,
+    gone: HashMap<Page, u64>,
     next_va: Option<u32>,
 }
 
@@ -70,7 +54,7 @@ impl Places {
         if let Some(frame) = self.frames.least(Tenant::Awaits(page)) {
             return Where::Loading(Frame(frame));
         }
-        match self.gone.get(&page_key(page)) {
+        match self.gone.get(&page) {
             Some(version) => Where::Sealed { version: *version },
             None => Where::Nowhere,
         }
@@ -194,7 +178,7 @@ impl Places {
         ensures next_va { self.new.next_va ≡ self.old.next_va }
     {
         if let Some(gone) = gone {
-            let kept: Result<_, _> = self.gone.insert(page_key(gone.page), gone.version);
+            let kept: Result<_, _> = self.gone.insert(gone.page, gone.version);
             kept.unwrap();
         }
     }

@@ -7,11 +7,6 @@ use Rattle.trace_query.specs.declared.page_moves.Move.{Move}
 use Rattle.trace_query.specs.declared.move_lists.PageKey.{PageKey}
 use Rattle.trace_query.specs.inner.Lists.{same_key, HasSpare}
 
-pub same_keys : (a b : PageKey) → same_key a b ≡ true → a ≡ b
-same_keys a b h =
-    let k = both_true (a.enclave == b.enclave) (a.number == b.number) h in
-    λ i. record { enclave = eqb-true a.enclave b.enclave k.0 i; number = eqb-true a.number b.number k.1 i }
-
 -- room for one more is room
 pub spare_less : (list : Option (Vec Move)) (k : ℕ) → HasSpare list (k + 1) → HasSpare list k
 spare_less None k h = h

@@ -8,7 +8,7 @@ use Rattle.sgx_rules.specs.Flat.{flat, event_after}
 use Rattle.sgx_types.specs.declared.names.Page.{Page}
 use Rattle.trace_query.specs.declared.page_words.PageWords.{PageWords}
 use Rattle.trace_query.specs.declared.page_words.Taken.{Taken}
-use Rattle.trace_query.specs.inner.Lists.{same_key, page_key}
+use Rattle.sgx_types.specs.Pages.{same_page}
 use Rattle.trace_query.specs.inner.WordLists.{changes_in}
 use Rattle.trace_query.specs.inner.Written.{Follows, Takes, Notes, Keeps, noted, added_with, added_in}
 
@@ -53,9 +53,9 @@ follows_more old took counted paged one two e past taken f takes counts page fir
     record {
       memory = ap memory_of second.memory ∙ one_memory;
       added = λ g.
-          ap (λ known. get same_key known (page_key g)) (second.added ∙ first.added)
+          ap (λ known. get same_page known g) (second.added ∙ first.added)
           ∙ page.added g
-          ∙ ap (λ known. added_with taken.page counted.len g (get same_key known (page_key g))) counts.added
+          ∙ ap (λ known. added_with taken.page counted.len g (get same_page known g)) counts.added
           ∙ (λ i. added_with (new_page i) (place i) g ((takes.added g ∙ f.added g) i));
       lists = λ w.
           second.lists w

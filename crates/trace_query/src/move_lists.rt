@@ -3,7 +3,7 @@
 ghost use Rattle.std.specs.Prelude.{◌≡◌, ◌+◌, ◌≤◌, ◌++◌, ◌∷◌, [], ℕ, if◌then◌else◌, OnOk, IfOk, vec_len, vec_capacity};
 ghost use Rattle.sgx_types.specs.declared.names.Page.{Page};
 ghost use Rattle.sgx_types.specs.Pages.{same_page};
-ghost use Rattle.trace_query.specs.inner.Lists.{at_place, page_key, moves_in, HasList, HasRoomFor, Rises};
+ghost use Rattle.trace_query.specs.inner.Lists.{at_place, moves_in, HasList, HasRoomFor, Rises};
 
 use crate::page_moves::Move;
 use sgx_types::names::{Memory, Page};
@@ -11,26 +11,10 @@ use std::alloc::Global;
 use std::collections::HashMap;
 use trace_places::moves::Where;
 
-/// A page, as the key of a map.
-#[derive(Clone, Copy, PartialEq, Eq, Hash)]
-pub(crate) struct PageKey {
-    pub enclave: u16,
-    pub number: u32,
-}
-
-pub(crate) fn page_key(page: Page) -> PageKey
-    ensures { result ≡ page_key page }
-{
-    PageKey {
-        enclave: page.enclave,
-        number: page.number,
-    }
-}
-
 /// For each page its moves, oldest first.
 #[derive(Drop)]
 pub(crate) struct MoveLists {
-    lists: HashMap<PageKey, Vec<Move>>,
+    lists: HashMap<Page, Vec<Move>>,
 }
 
 impl MoveLists {
@@ -50,7 +34,7 @@ impl MoveLists {
         ensures room { OnOk result (HasRoomFor self.new page 2) }
     {
         self.begin(alloc, page)?;
-        if let Some(list) = self.lists.get_mut(&page_key(page)) {
+        if let Some(list) = self.lists.get_mut(&page) {
             list.reserve(2)?;
         }
         Ok(())
@@ -62,9 +46,8 @@ impl MoveLists {
         ensures kept { (g : Page) (k : ℕ) → HasRoomFor self.old g k → HasRoomFor self.new g k }
         ensures begun { OnOk result (HasList self.new page) }
     {
-        let key = page_key(page);
-        if !self.lists.contains_key(&key) {
-            self.lists.insert(key, Vec::new(alloc))?;
+        if !self.lists.contains_key(&page) {
+            self.lists.insert(page, Vec::new(alloc))?;
         }
         Ok(())
     }
@@ -76,7 +59,7 @@ impl MoveLists {
             ≡ (if same_page page g then moves_in self.old g ++ step ∷ [] else moves_in self.old g) }
         ensures room { (g : Page) (k : ℕ) → HasRoomFor self.old g (k + 1) → HasRoomFor self.new g k }
     {
-        if let Some(list) = self.lists.get_mut(&page_key(page)) {
+        if let Some(list) = self.lists.get_mut(&page) {
             add(list, step);
         }
     }
@@ -85,7 +68,7 @@ impl MoveLists {
     pub(crate) fn at(&self, n: u64, page: Page) -> Where
         ensures { Rises (moves_in self.now page) → result ≡ at_place (moves_in self.now page) n }
     {
-        match self.lists.get(&page_key(page)) {
+        match self.lists.get(&page) {
             Some(list) => last_to(list, n),
             None => Where::Nowhere,
         }
@@ -95,7 +78,7 @@ impl MoveLists {
     pub(crate) fn copy(&self, alloc: Global, page: Page) -> Result<Vec<Move>, Memory>
         ensures { IfOk result (λ moves. moves.items ≡ moves_in self.now page) }
     {
-        match self.lists.get(&page_key(page)) {
+        match self.lists.get(&page) {
             Some(list) => Ok(Vec::from_slice(alloc, list)?),
             None => Ok(Vec::new(alloc)),
         }

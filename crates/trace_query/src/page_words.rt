@@ -14,7 +14,6 @@ ghost use Rattle.trace_query.specs.inner.WordLists.{word_at, changes_in, Rises};
 ghost use Rattle.trace_query.specs.inner.Written.{Follows, HasRoomToNote, HasRoomIf, HasRoomForPage, Keeps, Takes, Notes};
 ghost use Rattle.trace_query.specs.inner.Written.{AreIndices, IsIndexIf, added_in, added_with, is_asked, is_processor, word_by};
 
-use crate::move_lists::{PageKey, page_key};
 use crate::word_lists::{Change, WordLists};
 use flat_machine::flat::Flat;
 use flat_machine::reply::FlatReply;
@@ -53,7 +52,7 @@ impl Taken {
 #[derive(Drop)]
 pub struct PageWords {
     flat: Flat,
-    added: HashMap<PageKey, Added>,
+    added: HashMap<Page, Added>,
     lists: WordLists,
     len: u64,
 }
@@ -85,7 +84,7 @@ impl PageWords {
         requires { index < 512 }
         ensures { (past : List Entry) → Follows self.now past → result ≡ word (first_entries n past) page index }
     {
-        let added = self.added.get(&page_key(page)).copied();
+        let added = self.added.get(&page).copied();
         self.word_by(n, added, page, index)
     }
 
@@ -210,7 +209,7 @@ impl PageWords {
         ensures len { self.new.len ≡ self.old.len }
     {
         if let Some(page) = page {
-            let key = PageKey {
+            let key = Page {
                 enclave: page.enclave,
                 number: page.number,
             };

@@ -5,30 +5,22 @@ use Rattle.std.specs.HashMap.{get, spare}
 use Rattle.sgx_types.specs.declared.names.Page.{Page}
 use Rattle.sgx_types.specs.Pages.{same_page}
 use Rattle.backing_store.specs.declared.page_places.PageCounts.{PageCounts}
-use Rattle.backing_store.specs.declared.page_places.PageKey.{PageKey}
 use Rattle.backing_store.specs.declared.page_places.PutKey.{PutKey}
 use Rattle.backing_store.specs.declared.page_places.PagePlaces.{PagePlaces}
 
--- the keys are those of the same page
-abbrev pub same_key : PageKey → PageKey → Bool
-same_key a b = (a.enclave == b.enclave) && (a.number == b.number)
-
--- .. and of the same put
+-- the keys are those of the same put
 abbrev pub same_put : PutKey → PutKey → Bool
-same_put a b = same_key a.page b.page && (a.nth == b.nth)
-
-abbrev pub key_of : Page → PageKey
-key_of page = record { enclave = page.enclave; number = page.number }
+same_put a b = same_page a.page b.page && (a.nth == b.nth)
 
 abbrev pub put_key : Page → ℕ → PutKey
-put_key page nth = record { page = key_of page; nth = nth }
+put_key page nth = record { page = page; nth = nth }
 
 abbrev pub no_counts : PageCounts
 no_counts = record { gets = 0; puts = 0 }
 
 -- how many gets of a page there were, and puts of it that did not fail
 abbrev pub counts_of : PagePlaces → Page → PageCounts
-counts_of known page = unwrap_or (get same_key known.counts (key_of page)) no_counts
+counts_of known page = unwrap_or (get same_page known.counts page) no_counts
 
 -- the place of the nth of these puts, counted from 1
 abbrev pub place_of : PagePlaces → Page → ℕ → Option ℕ

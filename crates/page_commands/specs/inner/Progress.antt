@@ -1,5 +1,5 @@
 -- What a walk over the entries keeps of each processor.
-use Rattle.std.specs.Prelude.{ℕ, ◌≡◌, ◌+◌, ◌-◌, ◌^◌, ◌<◌, if◌then◌else◌, Bool, List, length, slice_index_or}
+use Rattle.std.specs.Prelude.{ℕ, ◌≡◌, ◌-◌, ◌^◌, ◌<◌, List, length, slice_index_or}
 use Rattle.sgx_rules.specs.declared.entries.Entry.{Entry}
 use Rattle.job_grammar.specs.Jobs.{JobView}
 use Rattle.script_rules.specs.Script.{is_interrupted, replied}
@@ -17,10 +17,6 @@ AreProgress past all = (p : ℕ) (d : Progress) → p < length all → IsProgres
 -- each can count one reply more
 abbrev pub HaveRoom : List Progress → Type 0
 HaveRoom all = (p : ℕ) (d : Progress) → p < length all → (slice_index_or all p d).replied < 2 ^ 64 - 1
-
--- a count is one more where this is so, and else as before
-abbrev pub more_if : Bool → ℕ → ℕ
-more_if is count = if is then count + 1 else count
 
 -- what a walk over the entries so far has
 pub record Counts (j : JobView) (past : List Entry) (all : List Progress) (counted : ℕ) : Type 0 where

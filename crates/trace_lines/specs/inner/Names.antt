@@ -15,6 +15,7 @@ use Rattle.sgx_rules.specs.declared.refusals.Refusal.TheVariants as why
 use Rattle.sgx_types.specs.declared.names.Kind.{Kind}
 use Rattle.sgx_types.specs.declared.names.Kind.TheVariants as kinds
 use Rattle.sgx_types.specs.declared.names.Perm.{Perm}
+use Rattle.sgx_types.specs.Pages.{no_perm}
 use Rattle.text_words.specs.Words.{Words}
 use Rattle.trace_text.specs.declared.edition.Edition.TheVariants as editions
 use Rattle.trace_text.specs.Fields.{refusal_fields, words_of_fields}
@@ -61,9 +62,6 @@ row_of word = named row_word
 
 unfoldable pub kind_in : List ℕ → Kind
 kind_in word = unwrap_or (named kind_word (kinds.Secs ∷ kinds.Tcs ∷ kinds.Reg ∷ kinds.Va ∷ []) word) kinds.Reg
-
-abbrev no_perm : Perm
-no_perm = record { r = false; w = false; x = false }
 
 abbrev perms : List Perm
 perms = perm false false false ∷ perm false false true ∷ perm false true false ∷ perm false true true

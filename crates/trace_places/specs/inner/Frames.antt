@@ -11,15 +11,15 @@ use Rattle.trace_places.specs.declared.frame_lists.TenantKey.{TenantKey}
 use Rattle.trace_places.specs.declared.frame_lists.FrameLists.{FrameLists}
 
 -- the keys are those of the same tenant
-abbrev pub same_key : TenantKey → TenantKey → Bool
-same_key a b = beq a.awaited b.awaited && ((a.enclave == b.enclave) && (a.number == b.number))
+abbrev pub same_tenant_key : TenantKey → TenantKey → Bool
+same_tenant_key a b = beq a.awaited b.awaited && ((a.enclave == b.enclave) && (a.number == b.number))
 
-abbrev pub key_of : Page → Bool → TenantKey
-key_of page awaited = record { awaited = awaited; enclave = page.enclave; number = page.number }
+abbrev pub tenant_key_of : Page → Bool → TenantKey
+tenant_key_of page awaited = record { awaited = awaited; enclave = page.enclave; number = page.number }
 
 abbrev pub tenant_key : Tenant → TenantKey
-tenant_key (Has page) = key_of page false
-tenant_key (Awaits page) = key_of page true
+tenant_key (Has page) = tenant_key_of page false
+tenant_key (Awaits page) = tenant_key_of page true
 
 abbrev pub items_of : Option (Vec ℕ) → List ℕ
 items_of None = []
@@ -27,15 +27,15 @@ items_of (Some list) = list.items
 
 -- the frames of a tenant: none where there is no list
 abbrev pub frames_in : FrameLists → Tenant → List ℕ
-frames_in known t = items_of (get same_key known.lists (tenant_key t))
+frames_in known t = items_of (get same_tenant_key known.lists (tenant_key t))
 
 -- a tenant has a list, be it an empty one
 abbrev pub HasList : FrameLists → Tenant → Type 0
-HasList known t = IsSome (get same_key known.lists (tenant_key t))
+HasList known t = IsSome (get same_tenant_key known.lists (tenant_key t))
 
 -- a frame more of a tenant needs no memory
 abbrev pub HasRoomFor : FrameLists → Tenant → Type 0
-HasRoomFor known t = IsSomeAnd (get same_key known.lists (tenant_key t)) (λ list. vec_len list < vec_capacity list)
+HasRoomFor known t = IsSomeAnd (get same_tenant_key known.lists (tenant_key t)) (λ list. vec_len list < vec_capacity list)
 
 -- the place of the first number from this one on, the length where there is none
 pub record IsFirstFrom (list : List ℕ) (n place : ℕ) : Type 0 where

@@ -4,6 +4,7 @@ use Rattle.std.specs.HashMap.{get, spare}
 use Rattle.sgx_rules.specs.declared.entries.Entry.{Entry}
 use Rattle.sgx_rules.specs.Frames.{vas_made}
 use Rattle.sgx_types.specs.declared.names.Page.{Page}
+use Rattle.sgx_types.specs.Pages.{same_page}
 use Rattle.trace_places.specs.declared.change.Tenant.{Tenant}
 use Rattle.trace_places.specs.declared.change.Tenant.TheVariants.{Has, Awaits}
 use Rattle.trace_places.specs.declared.change.Change.{Change}
@@ -11,7 +12,6 @@ use Rattle.trace_places.specs.declared.change.Change.TheVariants.{Puts, Empties}
 use Rattle.trace_places.specs.declared.moves.MayMove.{MayMove}
 use Rattle.trace_places.specs.declared.moves.PageMove.{PageMove}
 use Rattle.trace_places.specs.declared.moves.Where.{Where}
-use Rattle.trace_places.specs.declared.places.PageKey.{PageKey}
 use Rattle.trace_places.specs.declared.places.Places.{Places}
 use Rattle.trace_places.specs.Places.{change_by, frame_changed, tenant_of, tenant_after, tenant, is_tenant, put_in, take_out, frames_having}
 use Rattle.trace_places.specs.Places.{least, gone_after, gone_last, where_by, moved, va_number, page_at_frame, page_named, other_than}
@@ -19,18 +19,11 @@ use Rattle.trace_places.specs.inner.Frames.{frames_in, HasRoomFor}
 
 -- ---- what is read from the tables
 
--- the keys are those of the same page
-abbrev pub same_key : PageKey → PageKey → Bool
-same_key a b = (a.enclave == b.enclave) && (a.number == b.number)
-
-abbrev pub page_key : Page → PageKey
-page_key page = record { enclave = page.enclave; number = page.number }
-
 abbrev pub tenant_in : Places → ℕ → Option Tenant
 tenant_in known n = get nat_eq known.tenants n
 
 abbrev pub gone_in : Places → Page → Option ℕ
-gone_in known g = get same_key known.gone (page_key g)
+gone_in known g = get same_page known.gone g
 
 abbrev pub place_in : Places → Page → Where
 place_in known g = where_by (least (frames_in known.frames (Has g))) (least (frames_in known.frames (Awaits g))) (gone_in known g)

@@ -5,19 +5,12 @@ use Rattle.std.specs.Global.{Vec}
 use Rattle.std.specs.HashMap.{get}
 use Rattle.std.specs.List.Sorted.{IsNonDecreasingBy}
 use Rattle.sgx_types.specs.declared.names.Page.{Page}
+use Rattle.sgx_types.specs.Pages.{same_page}
 use Rattle.trace_places.specs.declared.moves.Where.{Where}
 use Rattle.trace_places.specs.declared.moves.Where.TheVariants.{Nowhere}
 use Rattle.trace_query.specs.declared.page_moves.Move.{Move}
-use Rattle.trace_query.specs.declared.move_lists.PageKey.{PageKey}
 use Rattle.trace_query.specs.declared.move_lists.MoveLists.{MoveLists}
 use Rattle.trace_spans.specs.inner.Last.{last_from}
-
--- the keys are those of the same page
-abbrev pub same_key : PageKey → PageKey → Bool
-same_key a b = (a.enclave == b.enclave) && (a.number == b.number)
-
-abbrev pub page_key : Page → PageKey
-page_key page = record { enclave = page.enclave; number = page.number }
 
 abbrev pub items_of : Option (Vec Move) → List Move
 items_of None = []
@@ -25,18 +18,18 @@ items_of (Some list) = list.items
 
 -- the moves of a page: none where there is no list
 abbrev pub moves_in : MoveLists → Page → List Move
-moves_in known g = items_of (get same_key known.lists (page_key g))
+moves_in known g = items_of (get same_page known.lists g)
 
 -- a page has a list, be it an empty one
 abbrev pub HasList : MoveLists → Page → Type 0
-HasList known g = IsSome (get same_key known.lists (page_key g))
+HasList known g = IsSome (get same_page known.lists g)
 
 abbrev pub HasSpare : Option (Vec Move) → ℕ → Type 0
 HasSpare list k = IsSomeAnd list (λ steps. vec_len steps + k ≤ vec_capacity steps)
 
 -- so many moves more of a page need no memory
 abbrev pub HasRoomFor : MoveLists → Page → ℕ → Type 0
-HasRoomFor known g k = HasSpare (get same_key known.lists (page_key g)) k
+HasRoomFor known g k = HasSpare (get same_page known.lists g) k
 
 -- moves stand by the places at which they were made
 abbrev pub Rises : List Move → Type 0

@@ -20,7 +20,7 @@ use Rattle.trace_query.specs.declared.word_lists.Change.{Change}
 use Rattle.trace_query.specs.declared.page_words.Added.{Added}
 use Rattle.trace_query.specs.declared.page_words.Taken.{Taken}
 use Rattle.trace_query.specs.declared.page_words.PageWords.{PageWords}
-use Rattle.trace_query.specs.inner.Lists.{same_key, page_key}
+use Rattle.sgx_types.specs.Pages.{same_page}
 use Rattle.trace_query.specs.inner.WordLists.{same_word, changes_in, value_at, HasRoomFor}
 
 -- ---- which instructions flat memory is asked for
@@ -67,7 +67,7 @@ added (e ∷ past) g = added_with (page_added (flat past) e.actor e.event) (leng
 -- ---- what is kept
 
 abbrev pub added_in : PageWords → Page → Option Added
-added_in known g = get same_key known.added (page_key g)
+added_in known g = get same_page known.added g
 
 -- a word behind n entries: None where its page was added later, else by the last change up to there
 abbrev pub word_by : Option Added → List Change → ℕ → ℕ → Option ℕ

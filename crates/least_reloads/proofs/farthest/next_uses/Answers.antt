@@ -1,7 +1,7 @@
-use Rattle.std.proofs.Common.{◌+◌, ◌-◌, ℕ, ap, ◌∙◌, length, cond, Some, unwrap_or, arith}
+use Rattle.std.proofs.Common.{◌+◌, ◌-◌, ℕ, ap, ◌∙◌, length, unwrap_or, arith}
 use Rattle.std.proofs.lemmas.List.{length-set}
 use Rattle.std.specs.HashMap.{get}
-use Rattle.least_reloads.specs.inner.Keys.{same_key, key_of}
+use Rattle.sgx_types.specs.Pages.{same_page}
 use Rattle.least_reloads.proofs.UseLaws.{UsesFrom, uses_step}
 use Rattle.least_reloads.proofs.farthest.next_uses.Goals as goal
 
@@ -10,18 +10,16 @@ loop-i-preserved c =
     let accesses = c.args.accesses.now in
     let uses = c.loop-i.uses.items in
     let i : ℕ = c.loop-i.i in
-    let was : UsesFrom accesses uses (λ p. get same_key c.loop-i.later (key_of p)) i = record {
+    let was : UsesFrom accesses uses (get same_page c.loop-i.later) i = record {
       later = c.loop-i.invariant.later;
       found = c.loop-i.invariant.uses;
     } in
     let step =
-    uses_step accesses uses (λ p. get same_key c.loop-i.later (key_of p)) (λ p. get same_key c.insert.new.self (key_of p)) i
+    uses_step accesses uses (get same_page c.loop-i.later) (get same_page c.insert.new.self) i
     (i - 1) c.unwrap_or.result (record { enclave = 0; number = 0 }) (omega (arith, c.loop-i-test.true))
     (omega (arith, c.loop-i-test.true, c.loop-i.auto.i)) c.loop-i.invariant.size was
-    (λ p. c.in_ok-next.ensures.updates.0 (key_of p)
-    ∙ ap (λ key. cond (same_key key (key_of p)) (Some (i - 1)) (get same_key c.loop-i.later (key_of p))) c.of.ensures)
-    (c.unwrap_or.ensures
-    ∙ ap (λ o. unwrap_or o (length accesses + (i - 1))) (c.in_ok-next.ensures.old ∙ ap (get same_key c.loop-i.later) c.of.ensures)) in
+    c.in_ok-next.ensures.updates.0
+    (c.unwrap_or.ensures ∙ ap (λ o. unwrap_or o (length accesses + (i - 1))) c.in_ok-next.ensures.old) in
     record {
       size = length-set uses (i - 1) c.unwrap_or.result ∙ c.loop-i.invariant.size;
       later = step.later;

@@ -1,9 +1,10 @@
 use Rattle.std.proofs.Common.{◌≡◌, ◌∷◌, ap, arith, get_or, refl, subst, sym, ◌∙◌, ◌<◌, length}
 use Rattle.script_rules.specs.Script.{replied, script_of}
 use Rattle.page_commands.specs.Summary.{xadds_in}
-use Rattle.page_commands.specs.inner.Progress.{IsProgress, more_if}
+use Rattle.page_commands.specs.inner.Progress.{IsProgress}
 use Rattle.page_commands.proofs.XaddLaws.{by_itself, xadds_more, xadds_still}
 use Rattle.page_commands.proofs.exchanges.note.Goals as goal
+use Rattle.trace_tally.specs.Tally.{more_if}
 
 pub returns-then-from-len-clause-counts : goal.returns-then-from-len-clause-counts
 returns-then-from-len-clause-counts c = λ past were.

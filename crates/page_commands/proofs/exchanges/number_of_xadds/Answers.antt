@@ -5,10 +5,11 @@ use Rattle.sgx_rules.specs.declared.entries.Entry.{Entry}
 use Rattle.run_replies.proofs.EntryLaws.{one_more}
 use Rattle.page_commands.specs.declared.exchanges.Progress.{Progress}
 use Rattle.page_commands.specs.Summary.{xadds}
-use Rattle.page_commands.specs.inner.Progress.{Counts, more_if}
+use Rattle.page_commands.specs.inner.Progress.{Counts}
 use Rattle.page_commands.proofs.XaddLaws.{have_room, none_yet, one_entry}
 use Rattle.page_commands.proofs.exchanges.number_of_xadds.Goals as goal
 use Rattle.page_commands.proofs.exchanges.number_of_xadds.Goals.{then-note, else-note}
+use Rattle.trace_tally.specs.Tally.{more_if}
 
 pub note-requires-clause-few : goal.note-requires-clause-few
 note-requires-clause-few c =

@@ -16,8 +16,8 @@ returns-clause-put c =
           c.counts-counts.ensures;
       place = λ g nth.
           let at = put_key g nth in
-          place_read c.key_of.result c.args.page g (c.counts-counts.result.puts + 1) ((counts_of old c.args.page).puts + 1) nth c.args.place
-          (get same_put c.set_counts.new.self.places at) (get same_put old.places at) _ c.key_of.ensures
+          place_read c.args.page g (c.counts-counts.result.puts + 1) ((counts_of old c.args.page).puts + 1) nth c.args.place
+          (get same_put c.set_counts.new.self.places at) (get same_put old.places at) _
           (ap (λ (k : PageCounts). k.puts + 1) c.counts-counts.ensures)
           (ap (λ m. get same_put m at) c.set_counts.ensures.places) (updates.0 at);
     }

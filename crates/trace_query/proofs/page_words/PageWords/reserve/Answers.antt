@@ -1,5 +1,4 @@
 use Rattle.std.proofs.Common.{◌∙◌}
-use Rattle.trace_query.specs.inner.Lists.{page_key}
 use Rattle.trace_query.proofs.page_words.PageWords.reserve.Goals as goal
 
 pub returns-in_ok-reserve-clause-same : goal.returns-in_ok-reserve-clause-same
@@ -8,7 +7,7 @@ returns-in_ok-reserve-clause-same c =
     let two = c.reserve_word-2.ensures.same in
     record {
       memory = two.memory ∙ one.memory;
-      added = λ g. c.reserve.ensures.entries.2 (page_key g) ∙ two.added g ∙ one.added g;
+      added = λ g. c.reserve.ensures.entries.2 g ∙ two.added g ∙ one.added g;
       lists = λ w. two.lists w ∙ one.lists w;
       room = λ w k h. two.room w k (one.room w k h);
       len = two.len ∙ one.len;
