@@ -25,11 +25,11 @@ lane_key lanes.Builder = key 4 0 0
 lane_key lanes.Reclaimer = key 4 0 1
 lane_key lanes.Counters = key 4 0 2
 
-abbrev pub same_key : LaneKey → LaneKey → Bool
-same_key a b = (a.group == b.group) && ((a.enclave == b.enclave) && (a.number == b.number))
+abbrev pub same_lane_key : LaneKey → LaneKey → Bool
+same_lane_key a b = (a.group == b.group) && ((a.enclave == b.enclave) && (a.number == b.number))
 
 abbrev pub same_lane : Lane → Lane → Bool
-same_lane a b = same_key (lane_key a) (lane_key b)
+same_lane a b = same_lane_key (lane_key a) (lane_key b)
 
 -- the number of a lane among lanes that stand newest first: how many stand behind it, and itself
 abbrev pub number_in : List Lane → Lane → Option ℕ

@@ -5,8 +5,9 @@ use Rattle.std.specs.Global.{Vec}
 use Rattle.trace_places.specs.declared.change.Tenant.{Tenant}
 use Rattle.trace_places.specs.declared.frame_lists.TenantKey.{TenantKey}
 use Rattle.trace_places.specs.Places.{same_tenant}
-use Rattle.trace_places.specs.inner.Frames.{same_tenant_key, tenant_key, items_of}
+use Rattle.trace_places.specs.inner.Frames.{same_tenant_key, tenant_key}
 use Rattle.trace_places.proofs.TenantLaws.{same_tenants, key_same}
+use Rattle.trace_spans.specs.inner.Listed.{items_of}
 
 written_if : (b : Bool) (f : List ℕ → List ℕ) (was : Option (Vec ℕ)) (v w : Vec ℕ) → (b ≡ true → was ≡ Some v) → w.items ≡ f v.items
     → items_of (cond b (Some w) was) ≡ (if b then f (items_of was) else items_of was)

@@ -3,7 +3,7 @@
 ghost use Rattle.std.specs.Prelude.{◌≡◌, ◌<◌, [], if◌then◌else◌, OnOk, vec_len, vec_capacity};
 ghost use Rattle.trace_places.specs.declared.change.Tenant.{Tenant};
 ghost use Rattle.trace_places.specs.Places.{same_tenant, put_in, take_out, least};
-ghost use Rattle.trace_places.specs.inner.Frames.{tenant_key, frames_in, HasList, HasRoomFor, IsFirstFrom};
+ghost use Rattle.trace_places.specs.inner.Frames.{tenant_key, frames_in, HasFrameList, HasFrameRoom, IsFirstFrom};
 
 use crate::change::Tenant;
 use sgx_types::names::Memory;
@@ -59,7 +59,7 @@ impl FrameLists {
     /// Makes room for one frame more of a tenant.
     pub(crate) fn reserve(&mut self, alloc: Global, tenant: Tenant) -> Result<(), Memory>
         ensures same { (t : Tenant) → frames_in self.new t ≡ frames_in self.old t }
-        ensures room { OnOk result (HasRoomFor self.new tenant) }
+        ensures room { OnOk result (HasFrameRoom self.new tenant) }
     {
         self.begin(alloc, tenant)?;
         if let Some(list) = self.lists.get_mut(&tenant_key(tenant)) {
@@ -71,7 +71,7 @@ impl FrameLists {
     // Sees to it that a tenant has a list, be it an empty one.
     fn begin(&mut self, alloc: Global, tenant: Tenant) -> Result<(), Memory>
         ensures same { (t : Tenant) → frames_in self.new t ≡ frames_in self.old t }
-        ensures begun { OnOk result (HasList self.new tenant) }
+        ensures begun { OnOk result (HasFrameList self.new tenant) }
     {
         let key = tenant_key(tenant);
         if !self.lists.contains_key(&key) {
@@ -82,7 +82,7 @@ impl FrameLists {
 
     /// A frame has this tenant.
     pub(crate) fn put_in(&mut self, tenant: Tenant, frame: u32)
-        requires room { HasRoomFor self.old tenant }
+        requires room { HasFrameRoom self.old tenant }
         ensures { (t : Tenant) → frames_in self.new t
             ≡ (if same_tenant tenant t then put_in frame (frames_in self.old t) else frames_in self.old t) }
     {

@@ -1,4 +1,3 @@
-pub mod PageKeys
 pub mod PlaceLaws
 pub mod SpanLaws
 pub mod SpanPlaces

@@ -11,7 +11,7 @@ use Rattle.trace_places.specs.declared.moves.Where.TheVariants.{Nowhere, At, Loa
 use Rattle.trace_places.specs.Places.{same_where, moved, moved_by, place_of}
 use Rattle.trace_query.specs.declared.page_moves.Move.{Move}
 use Rattle.trace_query.specs.Moves.{first_entries, moves_at, moves}
-use Rattle.trace_query.specs.inner.Lists.{at_place_from, at_place, Rises}
+use Rattle.trace_query.specs.inner.Lists.{at_place_from, at_place, MovesRise}
 use Rattle.trace_spans.proofs.LastLaws.{last_append}
 
 -- ---- places
@@ -53,16 +53,16 @@ moves_up_to (e ∷ past) g =
     let more : length past + 1 ≡ length (e ∷ past) = omega arith in
     subst Up more all
 
-rises_by : (b : ℕ) (steps : List Move) (to : Option Where) → Rises steps → UpTo b steps
-    → Rises (steps ++ moves_at (b + 1) (option_to_list to))
+rises_by : (b : ℕ) (steps : List Move) (to : Option Where) → MovesRise steps → UpTo b steps
+    → MovesRise (steps ++ moves_at (b + 1) (option_to_list to))
 rises_by b steps None rises up =
-    let AreRising : List Move → Type 0 = Rises in
+    let AreRising : List Move → Type 0 = MovesRise in
     subst AreRising (sym (append-nil steps)) rises
 rises_by b steps (Some to) rises up =
     IsNonDecreasingBy-push (λ step. step.place) steps (record { place = b + 1; to = to }) rises
     (λ d some. omega (arith, up_to_at b steps (length steps - 1) d up (omega (arith, some))))
 
-pub moves_rise : (past : List Entry) (g : Page) → Rises (moves past g)
+pub moves_rise : (past : List Entry) (g : Page) → MovesRise (moves past g)
 moves_rise [] g = λ i j d le within. absurd (omega (arith, within))
 moves_rise (e ∷ past) g = rises_by (length past) (moves past g) (moved_by past e g) (moves_rise past g) (moves_up_to past g)
 

@@ -21,7 +21,7 @@ use Rattle.trace_query.specs.declared.steps.Step.{Step}
 use Rattle.trace_query.specs.declared.steps.Step.TheVariants.{Turns, Fills}
 use Rattle.trace_query.specs.Spans.{is_inside, caches}
 use Rattle.trace_query.specs.inner.Insides.{is_in, sees}
-use Rattle.trace_spans.specs.inner.SpanLists.{same_key, key_of, lasts, end_by, ended, begun, all_ended, ended_of}
+use Rattle.trace_spans.specs.inner.SpanLists.{same_span_key, span_key, lasts, end_by, ended, begun, all_ended, ended_of}
 use Rattle.trace_query.specs.inner.Sights.{Sight, sight_by, sight, step_of, step_by, is_among, newest, dropped, first_of, filled_in}
 use Rattle.trace_query.specs.inner.Sights.{sight_filled, sight_after}
 use Rattle.trace_query.specs.inner.Seen.{settled, spans, spans_filled, ended_if, spans_after}
@@ -348,19 +348,19 @@ enclave_ended (Some k) place p enclave q l own other = rw (own, other) refl
 
 opened : (x : Bool) (place p enclave n : ℕ) (ns : List ℕ) (q : SpanKey) (l : List Span) → (p == q.cpu) ≡ true
     → (enclave == q.enclave) ≡ x → is_among ns n ≡ false → IsOnce ns → lasts l ≡ ((enclave == q.enclave) && is_among ns q.number)
-    → ended_if (dropped (ns ++ n ∷ [])) place p enclave q (if same_key (key_of p enclave n) q then begun place l else l)
+    → ended_if (dropped (ns ++ n ∷ [])) place p enclave q (if same_span_key (span_key p enclave n) q then begun place l else l)
     ≡ settled ((enclave == q.enclave) && is_among (newest (ns ++ n ∷ [])) q.number) place l
 opened true place p enclave n ns q l own here new once h =
     let last : lasts l ≡ is_among ns q.number = h ∙ rw here refl in
     let m = if n == q.number then begun place l else l in
-    let key : (if same_key (key_of p enclave n) q then begun place l else l) ≡ m = rw (own, here) refl in
+    let key : (if same_span_key (span_key p enclave n) q then begun place l else l) ≡ m = rw (own, here) refl in
     ap (ended_if (dropped (ns ++ n ∷ [])) place p enclave q) key
     ∙ own_ended (dropped (ns ++ n ∷ [])) place p enclave q m own here
     ∙ fill_by (nat_lt 64 (length (ns ++ n ∷ []))) place n q.number ns l refl new once last
     ∙ ap (λ b. settled (b && is_among (newest (ns ++ n ∷ [])) q.number) place l) (sym here)
 opened false place p enclave n ns q l own here new once h =
     let last : lasts l ≡ false = h ∙ rw here refl in
-    let key : (if same_key (key_of p enclave n) q then begun place l else l) ≡ l = rw (own, here) refl in
+    let key : (if same_span_key (span_key p enclave n) q then begun place l else l) ≡ l = rw (own, here) refl in
     ap (ended_if (dropped (ns ++ n ∷ [])) place p enclave q) key
     ∙ enclave_ended (dropped (ns ++ n ∷ [])) place p enclave q l own here
     ∙ sym (ended_closed place l last)
@@ -386,7 +386,7 @@ filled_else : (o : Option Filled) (place p n : ℕ) (q : SpanKey) (l : List Span
     → spans_filled o place p n q l ≡ l
 filled_else None place p n q l other = refl
 filled_else (Some change) place p n q l other =
-    let key : (if same_key (key_of p change.enclave n) q then begun place l else l) ≡ l = rw other refl in
+    let key : (if same_span_key (span_key p change.enclave n) q then begun place l else l) ≡ l = rw other refl in
     ap (ended_if change.dropped place p change.enclave q) key ∙ cpu_ended change.dropped place p change.enclave q l other
 
 -- ---- all steps

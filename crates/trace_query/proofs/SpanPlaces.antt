@@ -13,8 +13,8 @@ use Rattle.trace_query.specs.Moves.{first_entries}
 use Rattle.sgx_types.specs.declared.names.Page.{Page}
 use Rattle.trace_query.specs.declared.page_spans.PageSpans.{PageSpans}
 use Rattle.trace_query.specs.Spans.{caches, cachers_before, cachers}
-use Rattle.trace_spans.specs.inner.SpanLists.{lasts, end_by, ended, begun, Rises, is_before, cached_from, cached_at}
-use Rattle.trace_spans.specs.inner.SpanLists.{key_of, up_to}
+use Rattle.trace_spans.specs.inner.SpanLists.{lasts, end_by, ended, begun, SpansRise, is_before, cached_from, cached_at}
+use Rattle.trace_spans.specs.inner.SpanLists.{span_key, up_to}
 use Rattle.trace_query.specs.inner.Seen.{settled, spans, Follows}
 use Rattle.trace_query.proofs.PlaceLaws.{before_more, before_all}
 use Rattle.trace_query.proofs.SpanLaws.{spans_last}
@@ -93,21 +93,21 @@ ended_count place [] = refl
 ended_count place (x ∷ []) = refl
 ended_count place (x ∷ y ∷ s) = ap suc (ended_count place (y ∷ s))
 
-ended_rises : (place : ℕ) (s : List Span) → Rises s → Rises (ended place s)
+ended_rises : (place : ℕ) (s : List Span) → SpansRise s → SpansRise (ended place s)
 ended_rises place s rises = λ i j d le within.
     omega (arith, ended_from place s i d, ended_from place s j d, rises i j d le (omega (arith, within, ended_count place s)))
 
-rises_if : (t : Bool) (b : ℕ) (s : List Span) → Rises s → UpTo b s → Rises (if t then s else begun (b + 1) s)
+rises_if : (t : Bool) (b : ℕ) (s : List Span) → SpansRise s → UpTo b s → SpansRise (if t then s else begun (b + 1) s)
 rises_if true b s rises up = rises
 rises_if false b s rises up =
     IsNonDecreasingBy-push (λ span. span.from) s (record { from = b + 1; to = None }) rises
     (λ d some. omega (arith, up_to_at b s (length s - 1) d up (omega (arith, some))))
 
-settled_rises : (t : Bool) (b : ℕ) (s : List Span) → Rises s → UpTo b s → Rises (settled t (b + 1) s)
+settled_rises : (t : Bool) (b : ℕ) (s : List Span) → SpansRise s → UpTo b s → SpansRise (settled t (b + 1) s)
 settled_rises true b s rises up = rises_if (lasts s) b s rises up
 settled_rises false b s rises up = ended_rises (b + 1) s rises
 
-pub spans_rise : (past : List Entry) (q : SpanKey) → Rises (spans past q)
+pub spans_rise : (past : List Entry) (q : SpanKey) → SpansRise (spans past q)
 spans_rise [] q = λ i j d le within. absurd (omega (arith, within))
 spans_rise (e ∷ past) q =
     settled_rises (caches (e ∷ past) q.cpu (page_at q.enclave q.number)) (length past) (spans past q) (spans_rise past q)
@@ -192,6 +192,6 @@ pub none_beyond : (known : PageSpans) (past : List Entry) (n : ℕ) (g : Page) (
 none_beyond known past n g k f is most =
     no_cachers k 256 (first_entries n past) g most
     (λ p le.
-    sym (cached_before past (key_of p g.enclave g.number) n)
+    sym (cached_before past (span_key p g.enclave g.number) n)
     ∙ ap (λ spans. cached_at spans n)
-    (sym (f.lists (key_of p g.enclave g.number)) ∙ f.covers (key_of p g.enclave g.number) (omega (arith, le, is))))
+    (sym (f.lists (span_key p g.enclave g.number)) ∙ f.covers (span_key p g.enclave g.number) (omega (arith, le, is))))

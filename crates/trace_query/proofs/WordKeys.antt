@@ -1,6 +1,5 @@
--- The words of pages as keys of a map, and the room of the lists there.
-use Rattle.std.proofs.Common.{◌≡◌, ℕ, ◌+◌, ◌==◌, ◌&&◌, Bool, true, false, Option, Some, None, refl, ap, ◌∙◌, arith}
-use Rattle.std.specs.Global.{Vec}
+-- The words of pages as keys of a map.
+use Rattle.std.proofs.Common.{◌≡◌, ℕ, ◌==◌, ◌&&◌, Bool, true, false, Some, refl, ap, ◌∙◌}
 use Rattle.std.proofs.lemmas.Bool.{eqb-true}
 use Rattle.sgx_types.specs.declared.names.Page.{Page}
 use Rattle.sgx_types.specs.Pages.{page_at}
@@ -8,8 +7,7 @@ use Rattle.sgx_types.proofs.Pages.{same_page-swap}
 use Rattle.sgx_types.proofs.Truths.{both_true}
 use Rattle.flat_words.specs.declared.writes.WordAt.{WordAt}
 use Rattle.flat_words.specs.Writes.{is_word}
-use Rattle.trace_query.specs.declared.word_lists.Change.{Change}
-use Rattle.trace_query.specs.inner.WordLists.{same_word, word_at, HasSpare}
+use Rattle.trace_query.specs.inner.WordLists.{same_word, word_at}
 
 pub same_words : (a b : WordAt) → same_word a b ≡ true → a ≡ b
 same_words a b h =
@@ -30,8 +28,3 @@ pub one_test : (at : WordAt) (g : Page) (k : ℕ) → is_word (Some at) g k ≡ 
 one_test at g k =
     ap (λ b. b && (at.index == k)) (same_page-swap g (page_at at.enclave at.number))
     ∙ and_assoc (at.enclave == g.enclave) (at.number == g.number) (at.index == k)
-
--- room for one more is room
-pub spare_less : (list : Option (Vec Change)) (k : ℕ) → HasSpare list (k + 1) → HasSpare list k
-spare_less None k h = h
-spare_less (Some v) k h = omega (arith, h)

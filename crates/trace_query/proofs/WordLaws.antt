@@ -20,7 +20,7 @@ use Rattle.flat_words.proofs.WriteLaws.{words_after, added_or_kept, none_before}
 use Rattle.trace_query.specs.declared.page_words.Added.{Added}
 use Rattle.trace_query.specs.declared.word_lists.Change.{Change}
 use Rattle.trace_query.specs.Moves.{first_entries}
-use Rattle.trace_query.specs.inner.WordLists.{same_word, word_at, value_at, Rises}
+use Rattle.trace_query.specs.inner.WordLists.{same_word, word_at, value_at, ChangesRise}
 use Rattle.trace_query.specs.inner.Written.{change_to, noted, changes_with, changes, added_with, added, word_by}
 use Rattle.trace_spans.proofs.LastLaws.{last_append}
 use Rattle.trace_query.proofs.WordKeys.{same_words, one_test}
@@ -117,16 +117,16 @@ unfolding UpTo
 change_up_to place None = tt
 change_up_to place (Some v) = (omega arith, tt)
 
-rises_change : (place : ℕ) (xs : List Change) (o : Option ℕ) → Rises xs → UpTo place xs → Rises (xs ++ change_to place o)
+rises_change : (place : ℕ) (xs : List Change) (o : Option ℕ) → ChangesRise xs → UpTo place xs → ChangesRise (xs ++ change_to place o)
 rises_change place xs None rises up =
-    let AreRising : List Change → Type 0 = Rises in
+    let AreRising : List Change → Type 0 = ChangesRise in
     subst AreRising (sym (append-nil xs)) rises
 rises_change place xs (Some v) rises up =
     IsNonDecreasingBy-push (λ change. change.place) xs (record { place = place; value = v }) rises
     (λ d some. up_to_at place xs (length xs - 1) d up (omega (arith, some)))
 
 Ordered : ℕ → List Change → Type 0
-Ordered b xs = Rises xs × UpTo b xs
+Ordered b xs = ChangesRise xs × UpTo b xs
 
 ordered_noted_if : (b : Bool) (place : ℕ) (m : FlatMemory) (at w : WordAt) (xs : List Change) → same_word at w ≡ b → Ordered place xs
     → Ordered place (xs ++ noted place m (Some at) w)
@@ -157,7 +157,7 @@ changes_ordered (e ∷ past) w =
     (ordered_noted place (flat (e ∷ past)) writes.first w (changes past w)
     (h.0, up_to_more (length past) place (changes past w) (omega arith) h.1)))
 
-pub changes_rise : (past : List Entry) (w : WordAt) → Rises (changes past w)
+pub changes_rise : (past : List Entry) (w : WordAt) → ChangesRise (changes past w)
 unfolding Ordered
 changes_rise past w = (changes_ordered past w).0
 

@@ -3,7 +3,7 @@
 ghost use Rattle.std.specs.Prelude.{◌≡◌, ◌+◌, ◌≤◌, ◌++◌, ◌∷◌, [], ℕ, if◌then◌else◌, OnOk, IfOk, vec_len, vec_capacity};
 ghost use Rattle.sgx_types.specs.declared.names.Page.{Page};
 ghost use Rattle.sgx_types.specs.Pages.{same_page};
-ghost use Rattle.trace_query.specs.inner.Lists.{at_place, moves_in, HasList, HasRoomFor, Rises};
+ghost use Rattle.trace_query.specs.inner.Lists.{at_place, moves_in, HasMoveList, HasMoveRoom, MovesRise};
 
 use crate::page_moves::Move;
 use sgx_types::names::{Memory, Page};
@@ -30,8 +30,8 @@ impl MoveLists {
     /// Makes room for two moves more of a page.
     pub(crate) fn reserve(&mut self, alloc: Global, page: Page) -> Result<(), Memory>
         ensures same { (g : Page) → moves_in self.new g ≡ moves_in self.old g }
-        ensures kept { (g : Page) (k : ℕ) → HasRoomFor self.old g k → HasRoomFor self.new g k }
-        ensures room { OnOk result (HasRoomFor self.new page 2) }
+        ensures kept { (g : Page) (k : ℕ) → HasMoveRoom self.old g k → HasMoveRoom self.new g k }
+        ensures room { OnOk result (HasMoveRoom self.new page 2) }
     {
         self.begin(alloc, page)?;
         if let Some(list) = self.lists.get_mut(&page) {
@@ -43,8 +43,8 @@ impl MoveLists {
     // Sees to it that a page has a list, be it an empty one.
     fn begin(&mut self, alloc: Global, page: Page) -> Result<(), Memory>
         ensures same { (g : Page) → moves_in self.new g ≡ moves_in self.old g }
-        ensures kept { (g : Page) (k : ℕ) → HasRoomFor self.old g k → HasRoomFor self.new g k }
-        ensures begun { OnOk result (HasList self.new page) }
+        ensures kept { (g : Page) (k : ℕ) → HasMoveRoom self.old g k → HasMoveRoom self.new g k }
+        ensures begun { OnOk result (HasMoveList self.new page) }
     {
         if !self.lists.contains_key(&page) {
             self.lists.insert(page, Vec::new(alloc))?;
@@ -54,10 +54,10 @@ impl MoveLists {
 
     /// A page made a move more.
     pub(crate) fn push(&mut self, page: Page, step: Move)
-        requires room { HasRoomFor self.old page 1 }
+        requires room { HasMoveRoom self.old page 1 }
         ensures moves { (g : Page) → moves_in self.new g
             ≡ (if same_page page g then moves_in self.old g ++ step ∷ [] else moves_in self.old g) }
-        ensures room { (g : Page) (k : ℕ) → HasRoomFor self.old g (k + 1) → HasRoomFor self.new g k }
+        ensures room { (g : Page) (k : ℕ) → HasMoveRoom self.old g (k + 1) → HasMoveRoom self.new g k }
     {
         if let Some(list) = self.lists.get_mut(&page) {
             add(list, step);
@@ -66,7 +66,7 @@ impl MoveLists {
 
     /// Where the last move of a page up to a place led.
     pub(crate) fn at(&self, n: u64, page: Page) -> Where
-        ensures { Rises (moves_in self.now page) → result ≡ at_place (moves_in self.now page) n }
+        ensures { MovesRise (moves_in self.now page) → result ≡ at_place (moves_in self.now page) n }
     {
         match self.lists.get(&page) {
             Some(list) => last_to(list, n),
@@ -97,7 +97,7 @@ fn add(list: &mut Vec<Move>, step: Move)
 
 // The moves rise by place, so those up to a place stand first.
 fn last_to(list: &[Move], n: u64) -> Where
-    ensures { Rises list.now → result ≡ at_place list.now n }
+    ensures { MovesRise list.now → result ≡ at_place list.now n }
 {
     let count = list.partition_point(|step| step.place <= n);
     if count == 0 {

@@ -10,7 +10,7 @@ ghost use Rattle.flat_machine.specs.inner.Step.{IsItsActor, step_of};
 ghost use Rattle.flat_words.specs.Words.{word};
 ghost use Rattle.flat_words.specs.Writes.{touched, writes_of, nothing, new_page, page_added};
 ghost use Rattle.trace_query.specs.Moves.{first_entries};
-ghost use Rattle.trace_query.specs.inner.WordLists.{word_at, changes_in, Rises};
+ghost use Rattle.trace_query.specs.inner.WordLists.{word_at, changes_in, ChangesRise};
 ghost use Rattle.trace_query.specs.inner.Written.{Follows, HasRoomToNote, HasRoomIf, HasRoomForPage, Keeps, Takes, Notes};
 ghost use Rattle.trace_query.specs.inner.Written.{AreIndices, IsIndexIf, added_in, added_with, is_asked, is_processor, word_by};
 
@@ -91,7 +91,7 @@ impl PageWords {
     // A word of a page that was added so.
     fn word_by(&self, n: u64, added: Option<Added>, page: Page, index: u16) -> Option<u64>
         requires { index < 512 }
-        ensures { Rises (changes_in self.now.lists (word_at page index))
+        ensures { ChangesRise (changes_in self.now.lists (word_at page index))
             → result ≡ word_by added (changes_in self.now.lists (word_at page index)) n index }
     {
         let added = added?;

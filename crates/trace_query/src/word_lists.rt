@@ -2,7 +2,7 @@
 
 ghost use Rattle.std.specs.Prelude.{◌≡◌, ◌+◌, ◌≤◌, ◌++◌, ◌∷◌, [], ℕ, if◌then◌else◌, OnOk, vec_len, vec_capacity};
 ghost use Rattle.flat_words.specs.declared.writes.WordAt.{WordAt};
-ghost use Rattle.trace_query.specs.inner.WordLists.{same_word, changes_in, value_at, HasList, HasRoomFor, Rises};
+ghost use Rattle.trace_query.specs.inner.WordLists.{same_word, changes_in, value_at, HasWordList, HasWordRoom, ChangesRise};
 
 use flat_words::writes::WordAt;
 use sgx_types::names::Memory;
@@ -35,8 +35,8 @@ impl WordLists {
     /// Makes room for two changes more of a word.
     pub(crate) fn reserve(&mut self, alloc: Global, at: WordAt) -> Result<(), Memory>
         ensures same { (w : WordAt) → changes_in self.new w ≡ changes_in self.old w }
-        ensures kept { (w : WordAt) (k : ℕ) → HasRoomFor self.old w k → HasRoomFor self.new w k }
-        ensures room { OnOk result (HasRoomFor self.new at 2) }
+        ensures kept { (w : WordAt) (k : ℕ) → HasWordRoom self.old w k → HasWordRoom self.new w k }
+        ensures room { OnOk result (HasWordRoom self.new at 2) }
     {
         self.begin(alloc, at)?;
         if let Some(list) = self.lists.get_mut(&at) {
@@ -48,8 +48,8 @@ impl WordLists {
     // Sees to it that a word has a list, be it an empty one.
     fn begin(&mut self, alloc: Global, at: WordAt) -> Result<(), Memory>
         ensures same { (w : WordAt) → changes_in self.new w ≡ changes_in self.old w }
-        ensures kept { (w : WordAt) (k : ℕ) → HasRoomFor self.old w k → HasRoomFor self.new w k }
-        ensures begun { OnOk result (HasList self.new at) }
+        ensures kept { (w : WordAt) (k : ℕ) → HasWordRoom self.old w k → HasWordRoom self.new w k }
+        ensures begun { OnOk result (HasWordList self.new at) }
     {
         if !self.lists.contains_key(&at) {
             self.lists.insert(at, Vec::new(alloc))?;
@@ -59,10 +59,10 @@ impl WordLists {
 
     /// A word changed once more.
     pub(crate) fn push(&mut self, at: WordAt, change: Change)
-        requires room { HasRoomFor self.old at 1 }
+        requires room { HasWordRoom self.old at 1 }
         ensures changes { (w : WordAt) → changes_in self.new w
             ≡ (if same_word at w then changes_in self.old w ++ change ∷ [] else changes_in self.old w) }
-        ensures room { (w : WordAt) (k : ℕ) → HasRoomFor self.old w (k + 1) → HasRoomFor self.new w k }
+        ensures room { (w : WordAt) (k : ℕ) → HasWordRoom self.old w (k + 1) → HasWordRoom self.new w k }
     {
         if let Some(list) = self.lists.get_mut(&at) {
             add(list, change);
@@ -71,7 +71,7 @@ impl WordLists {
 
     /// What a word, which had this value first, is behind its last change up to a place.
     pub(crate) fn at(&self, n: u64, at: WordAt, first: u64) -> u64
-        ensures { Rises (changes_in self.now at) → result ≡ value_at first (changes_in self.now at) n }
+        ensures { ChangesRise (changes_in self.now at) → result ≡ value_at first (changes_in self.now at) n }
     {
         match self.lists.get(&at) {
             Some(list) => last_to(list, n, first),
@@ -92,7 +92,7 @@ fn add(list: &mut Vec<Change>, change: Change)
 
 // The changes rise by place, so those up to a place stand first.
 fn last_to(list: &[Change], n: u64, first: u64) -> u64
-    ensures { Rises list.now → result ≡ value_at first list.now n }
+    ensures { ChangesRise list.now → result ≡ value_at first list.now n }
 {
     let count = list.partition_point(|change| change.place <= n);
     if count == 0 {

@@ -1,6 +1,9 @@
 -- What a map has at a key after one of its places was written, seen by a view of its places.
 use Rattle.std.proofs.Common.{◌≡◌, Bool, true, false, cond, if◌then◌else◌, Option, Some, None, is_some, refl, sym, ap, ◌∙◌, subst}
+use Rattle.std.proofs.Common.{ℕ, ◌+◌, arith}
 use Rattle.std.proofs.lemmas.Bool.{false≢true}
+use Rattle.std.specs.Global.{Vec}
+use Rattle.trace_spans.specs.inner.Listed.{HasSpare}
 
 -- ---- what is seen
 
@@ -70,3 +73,10 @@ pub holds_begun : {K V : Type 0} (same : K → K → Bool) (P : Option V → Typ
 holds_begun same P key k was is w tells none never reads h =
     subst P (sym (reads k))
     (begun_holds_if (same key k) P (was k) w (λ e. ap (λ q. is_some (was q)) (sym (tells key k e)) ∙ none) never h)
+
+-- ---- room
+
+-- room for one more is room
+pub spare_less : {T : Type 0} (list : Option (Vec T)) (k : ℕ) → HasSpare list (k + 1) → HasSpare list k
+spare_less None k h = h
+spare_less (Some v) k h = omega (arith, h)

@@ -6,11 +6,11 @@ use Rattle.std.proofs.lemmas.Bool.{false≢true, eqb-true, leb-true, leb-false}
 use Rattle.sgx_types.proofs.Truths.{both_true, apart}
 use Rattle.trace_spans.specs.declared.span_lists.Span.{Span}
 use Rattle.trace_spans.specs.declared.span_lists.SpanKey.{SpanKey}
-use Rattle.trace_spans.specs.inner.SpanLists.{same_key, end_by, begun, ended, greatest, up_to}
+use Rattle.trace_spans.specs.inner.SpanLists.{same_span_key, end_by, begun, ended, greatest, up_to}
 
 -- ---- maps
 
-pub same_keys : (a b : SpanKey) → same_key a b ≡ true → a ≡ b
+pub same_keys : (a b : SpanKey) → same_span_key a b ≡ true → a ≡ b
 same_keys a b h =
     let k = both_true (a.cpu == b.cpu) ((a.enclave == b.enclave) && (a.number == b.number)) h in
     let l = both_true (a.enclave == b.enclave) (a.number == b.number) k.1 in
@@ -74,13 +74,13 @@ begun_not false place spans other none = none
 -- where a span of a processor begins, no later one has any
 pub covers_begun : (key : SpanKey) (place : ℕ) (last is_last : Option ℕ) (was is : SpanKey → List Span)
     → is_last ≡ greatest last key.cpu
-    → ((q : SpanKey) → is q ≡ (if same_key key q then begun place (was q) else was q))
+    → ((q : SpanKey) → is q ≡ (if same_span_key key q then begun place (was q) else was q))
     → ((q : SpanKey) → up_to last ≤ q.cpu → was q ≡ []) → (q : SpanKey) → up_to is_last ≤ q.cpu → is q ≡ []
 covers_begun key place last is_last was is new reads covers q le =
     let beyond : up_to (greatest last key.cpu) ≤ q.cpu = subst (λ o. up_to o ≤ q.cpu) new le in
     let most = greatest_covers last key.cpu in
     reads q
-    ∙ begun_not (same_key key q) place (was q)
+    ∙ begun_not (same_span_key key q) place (was q)
     (ap (λ b. b && ((key.enclave == q.enclave) && (key.number == q.number)))
     (apart key.cpu q.cpu (λ same. absurd (omega (arith, most.1, beyond, same)))))
     (covers q (omega (arith, most.0, beyond)))
@@ -91,7 +91,7 @@ ended_not false place spans none = none
 
 -- where spans end, no later processor has any
 pub covers_ended : (key : SpanKey) (place : ℕ) (last is_last : Option ℕ) (was is : SpanKey → List Span) → is_last ≡ last
-    → ((q : SpanKey) → is q ≡ (if same_key key q then ended place (was q) else was q))
+    → ((q : SpanKey) → is q ≡ (if same_span_key key q then ended place (was q) else was q))
     → ((q : SpanKey) → up_to last ≤ q.cpu → was q ≡ []) → (q : SpanKey) → up_to is_last ≤ q.cpu → is q ≡ []
 covers_ended key place last is_last was is same reads covers q le =
-    reads q ∙ ended_not (same_key key q) place (was q) (covers q (subst (λ o. up_to o ≤ q.cpu) same le))
+    reads q ∙ ended_not (same_span_key key q) place (was q) (covers q (subst (λ o. up_to o ≤ q.cpu) same le))

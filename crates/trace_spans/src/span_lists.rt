@@ -1,8 +1,8 @@
 //! The spans in which processors cached pages, by the places at which they began and ended.
 
 ghost use Rattle.std.specs.Prelude.{◌≡◌, ◌+◌, ◌≤◌, ◌∷◌, [], ℕ, if◌then◌else◌, OnOk, vec_len, vec_capacity};
-ghost use Rattle.trace_spans.specs.inner.SpanLists.{same_key, spans_in, HasList, HasRoomFor};
-ghost use Rattle.trace_spans.specs.inner.SpanLists.{begun, ended, all_ended, Rises, cached_at, is_before, greatest, up_to, Covers};
+ghost use Rattle.trace_spans.specs.inner.SpanLists.{same_span_key, spans_in, HasSpanList, HasSpanRoom};
+ghost use Rattle.trace_spans.specs.inner.SpanLists.{begun, ended, all_ended, SpansRise, cached_at, is_before, greatest, up_to, Covers};
 
 use sgx_types::names::Memory;
 use std::alloc::Global;
@@ -59,7 +59,7 @@ impl SpanLists {
     pub fn reserve(&mut self, alloc: Global, key: SpanKey) -> Result<(), Memory>
         ensures same { (q : SpanKey) → spans_in self.new q ≡ spans_in self.old q }
         ensures covers { Covers self.old → Covers self.new }
-        ensures room { OnOk result (HasRoomFor self.new key) }
+        ensures room { OnOk result (HasSpanRoom self.new key) }
     {
         self.begin(alloc, key)?;
         if let Some(list) = self.lists.get_mut(&key) {
@@ -72,7 +72,7 @@ impl SpanLists {
     fn begin(&mut self, alloc: Global, key: SpanKey) -> Result<(), Memory>
         ensures same { (q : SpanKey) → spans_in self.new q ≡ spans_in self.old q }
         ensures last { self.new.last ≡ self.old.last }
-        ensures begun { OnOk result (HasList self.new key) }
+        ensures begun { OnOk result (HasSpanList self.new key) }
     {
         if !self.lists.contains_key(&key) {
             self.lists.insert(key, Vec::new(alloc))?;
@@ -82,9 +82,9 @@ impl SpanLists {
 
     /// A span begins.
     pub fn open_span(&mut self, key: SpanKey, place: u64)
-        requires room { HasRoomFor self.old key }
+        requires room { HasSpanRoom self.old key }
         ensures spans { (q : SpanKey) → spans_in self.new q
-            ≡ (if same_key key q then begun place (spans_in self.old q) else spans_in self.old q) }
+            ≡ (if same_span_key key q then begun place (spans_in self.old q) else spans_in self.old q) }
         ensures covers { Covers self.old → Covers self.new }
     {
         self.last = greatest(self.last, key.cpu);
@@ -96,7 +96,7 @@ impl SpanLists {
     /// The last span ends, if it lasts.
     pub fn close_span(&mut self, key: SpanKey, place: u64)
         ensures spans { (q : SpanKey) → spans_in self.new q
-            ≡ (if same_key key q then ended place (spans_in self.old q) else spans_in self.old q) }
+            ≡ (if same_span_key key q then ended place (spans_in self.old q) else spans_in self.old q) }
         ensures covers { Covers self.old → Covers self.new }
     {
         if let Some(list) = self.lists.get_mut(&key) {
@@ -123,7 +123,7 @@ impl SpanLists {
 
     /// Whether the processor cached the page behind so many entries.
     pub fn at(&self, n: u64, key: SpanKey) -> bool
-        ensures { Rises (spans_in self.now key) → result ≡ cached_at (spans_in self.now key) n }
+        ensures { SpansRise (spans_in self.now key) → result ≡ cached_at (spans_in self.now key) n }
     {
         match self.lists.get(&key) {
             Some(list) => is_cached(list, n),
@@ -163,7 +163,7 @@ fn end(list: &mut Vec<Span>, place: u64)
 
 // The spans rise by the places at which they began, so those that began up to a place stand first.
 fn is_cached(list: &[Span], n: u64) -> bool
-    ensures { Rises list.now → result ≡ cached_at list.now n }
+    ensures { SpansRise list.now → result ≡ cached_at list.now n }
 {
     let count = list.partition_point(|span| span.from <= n);
     if count == 0 {

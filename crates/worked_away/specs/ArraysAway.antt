@@ -7,9 +7,10 @@ use Rattle.sgx_rules.specs.declared.entries.Cause.TheVariants as causes
 use Rattle.sgx_rules.specs.declared.entries.Entry.{Entry}
 use Rattle.sgx_rules.specs.declared.refusals.Refusal.TheVariants as why
 use Rattle.sgx_types.specs.Pages.{page_at, va_page}
-use Rattle.worked_away.specs.Machine.{block, cpu, did, epa, comes_in, is_out, keeps_in, keeps_out, ready, refused, slot_at}
+use Rattle.worked_away.specs.Machine.{block, cpu, epa, comes_in, is_out, keeps_in, keeps_out, ready, refused, slot_at}
 use Rattle.sgx_types.specs.Pages.{frame_at}
 use Rattle.worked_away.specs.Machine.{starts_in, starts_out, some_tag, track}
+use Rattle.worked_traces.specs.inner.Traces.{did}
 
 -- a second version array page is made, and the page of sevens goes out into its first slot
 abbrev pub page_out : List Entry

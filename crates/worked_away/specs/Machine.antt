@@ -1,23 +1,22 @@
 -- A machine of eight frames with an enclave of three pages, by whose entries the definitions are evaluated. Entries stand newest first.
-use Rattle.std.specs.Prelude.{ℕ, List, [], ◌∷◌, None, true, false, replicate}
+use Rattle.std.specs.Prelude.{ℕ, List, [], ◌∷◌, None, replicate}
 use Rattle.sgx_rules.specs.declared.entries.Action.{Action}
 use Rattle.sgx_rules.specs.declared.entries.Action.TheVariants as actions
 use Rattle.sgx_types.specs.declared.names.Actor.{Actor}
 use Rattle.sgx_types.specs.declared.names.Actor.TheVariants.{Builder, Cpu, Reclaimer}
-use Rattle.sgx_rules.specs.declared.entries.Answer.{Answer}
 use Rattle.sgx_rules.specs.declared.entries.Answer.TheVariants as answers
 use Rattle.sgx_rules.specs.declared.entries.Entry.{Entry}
-use Rattle.sgx_rules.specs.declared.entries.Event.TheVariants.{Did, Refused}
+use Rattle.sgx_rules.specs.declared.entries.Event.TheVariants.{Refused}
 use Rattle.sgx_types.specs.declared.lawful.PageInit.TheVariants as inits
 use Rattle.sgx_types.specs.declared.names.Frame.{Frame}
 use Rattle.sgx_types.specs.declared.names.Kind.TheVariants as kinds
 use Rattle.sgx_types.specs.declared.names.Page.{Page}
-use Rattle.sgx_types.specs.declared.names.Perm.{Perm}
 use Rattle.sgx_types.specs.declared.names.SlotAt.{SlotAt}
 use Rattle.sgx_rules.specs.declared.refusals.Refusal.{Refusal}
 use Rattle.sgx_types.specs.Pages.{no_perm}
 use Rattle.sgx_types.specs.Making.{Making}
 use Rattle.sgx_types.specs.Pages.{frame_at}
+use Rattle.worked_traces.specs.inner.Traces.{did, rw_perm}
 
 abbrev pub making : Making
 making = record { frames = 8; cpus = 1; key = replicate 32 0; first_epoch = 1; first_version = 1 }
@@ -26,17 +25,11 @@ making = record { frames = 8; cpus = 1; key = replicate 32 0; first_epoch = 1; f
 abbrev pub slot_at : ℕ → ℕ → SlotAt
 slot_at n index = record { frame = frame_at n; index = index }
 
-abbrev pub did : Actor → Action → Answer → Entry
-did actor action answer = record { actor = actor; event = Did action answer }
-
 abbrev pub refused : Actor → Action → Refusal → Entry
 refused actor action why = record { actor = actor; event = Refused action why }
 
 abbrev pub cpu : Actor
 cpu = Cpu (record { 0 = 0 })
-
-abbrev pub rw_perm : Perm
-rw_perm = record { r = true; w = true; x = false }
 
 -- a tag, by one byte of it: no rule of this crate looks into tags
 abbrev pub some_tag : ℕ → List ℕ

@@ -6,9 +6,10 @@ use Rattle.sgx_rules.specs.declared.entries.Answer.TheVariants as answers
 use Rattle.sgx_rules.specs.declared.entries.Entry.{Entry}
 use Rattle.sgx_rules.specs.declared.refusals.Refusal.TheVariants as why
 use Rattle.sgx_types.specs.Pages.{page_at, secs_page}
-use Rattle.worked_away.specs.Machine.{block, cpu, did, comes_in, is_out, keeps_in, keeps_out, ready, refused, slot_at}
+use Rattle.worked_away.specs.Machine.{block, cpu, comes_in, is_out, keeps_in, keeps_out, ready, refused, slot_at}
 use Rattle.worked_away.specs.Machine.{starts_in}
 use Rattle.worked_away.specs.Machine.{starts_out, track}
+use Rattle.worked_traces.specs.inner.Traces.{did}
 
 -- the SECS cannot go while pages of its enclave are there
 abbrev pub with_children : List Entry

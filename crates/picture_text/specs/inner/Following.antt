@@ -14,7 +14,7 @@ use Rattle.picture_text.specs.declared.leaving.Leaving.{Leaving}
 use Rattle.picture_text.specs.declared.leaving.Leavings.{Leavings}
 use Rattle.picture_text.specs.declared.open_spans.OpenSpans.{OpenSpans}
 use Rattle.picture_text.specs.declared.seats.Seats.{Seats}
-use Rattle.picture_text.specs.Lanes.{lane_key, same_key, number_in}
+use Rattle.picture_text.specs.Lanes.{lane_key, same_lane_key, number_in}
 use Rattle.picture_text.specs.Open.{inside}
 
 -- ---- frames
@@ -64,4 +64,4 @@ pub record Follows (known : OpenSpans) (past : List Entry) : Type 0 where
 -- these are the lanes, the newest first, and each one's number
 pub record AreNumbered (known : Lanes) (order : List Lane) : Type 0 where
   pub lanes : known.lanes.items ≡ reverse order
-  pub numbers : (lane : Lane) → get same_key known.numbers (lane_key lane) ≡ number_in order lane
+  pub numbers : (lane : Lane) → get same_lane_key known.numbers (lane_key lane) ≡ number_in order lane

@@ -15,7 +15,7 @@ use Rattle.trace_places.specs.declared.moves.Where.{Where}
 use Rattle.trace_places.specs.declared.places.Places.{Places}
 use Rattle.trace_places.specs.Places.{change_by, frame_changed, tenant_of, tenant_after, tenant, is_tenant, put_in, take_out, frames_having}
 use Rattle.trace_places.specs.Places.{least, gone_after, gone_last, where_by, moved, va_number, page_at_frame, page_named, other_than}
-use Rattle.trace_places.specs.inner.Frames.{frames_in, HasRoomFor}
+use Rattle.trace_places.specs.inner.Frames.{frames_in, HasFrameRoom}
 
 -- ---- what is read from the tables
 
@@ -38,7 +38,7 @@ pub record Stands (known : Places) (past : List Entry) : Type 0 where
 -- ---- room
 
 abbrev pub HasListRoom : Places → Option Change → Type 0
-HasListRoom known (Some (Puts f t)) = HasRoomFor known.frames t
+HasListRoom known (Some (Puts f t)) = HasFrameRoom known.frames t
 HasListRoom known (Some (Empties f went)) = Unit {0}
 HasListRoom known None = Unit {0}
 

@@ -8,7 +8,7 @@ use Rattle.trace_places.specs.inner.Tables.{Stands, may_move}
 use Rattle.trace_places.specs.inner.Tables as places
 use Rattle.trace_query.specs.declared.page_moves.PageMoves.{PageMoves}
 use Rattle.trace_query.specs.Moves.{moves, moves_at}
-use Rattle.trace_query.specs.inner.Lists.{moves_in, HasRoomFor}
+use Rattle.trace_query.specs.inner.Lists.{moves_in, HasMoveRoom}
 
 -- the moves are those of these entries
 pub record Follows (known : PageMoves) (past : List Entry) : Type 0 where
@@ -21,7 +21,7 @@ pub record Follows (known : PageMoves) (past : List Entry) : Type 0 where
 -- so many moves more of a page need no memory, if it is one
 abbrev pub HasRoomIf : PageMoves → Option Page → ℕ → Type 0
 HasRoomIf known None k = Unit {0}
-HasRoomIf known (Some g) k = HasRoomFor known.lists g k
+HasRoomIf known (Some g) k = HasMoveRoom known.lists g k
 
 -- the next entry needs no memory
 pub record HasRoom (known : PageMoves) (e : Entry) : Type 0 where
@@ -33,7 +33,7 @@ pub record HasRoom (known : PageMoves) (e : Entry) : Type 0 where
 -- a move needs no memory, if it is one
 abbrev pub HasRoomToNote : PageMoves → Option PageMove → Type 0
 HasRoomToNote known None = Unit {0}
-HasRoomToNote known (Some move) = HasRoomFor known.lists move.page 1
+HasRoomToNote known (Some move) = HasMoveRoom known.lists move.page 1
 
 -- ---- what changes
 
@@ -41,12 +41,12 @@ HasRoomToNote known (Some move) = HasRoomFor known.lists move.page 1
 pub record Keeps (old new : PageMoves) : Type 0 where
   pub places : new.places ≡ old.places
   pub lists : (g : Page) → moves_in new.lists g ≡ moves_in old.lists g
-  pub room : (g : Page) (k : ℕ) → HasRoomFor old.lists g k → HasRoomFor new.lists g k
+  pub room : (g : Page) (k : ℕ) → HasMoveRoom old.lists g k → HasMoveRoom new.lists g k
   pub len : new.len ≡ old.len
 
 -- a move is noted behind all entries, if it is one
 pub record Notes (old : PageMoves) (move : Option PageMove) (new : PageMoves) : Type 0 where
   pub places : new.places ≡ old.places
   pub lists : (g : Page) → moves_in new.lists g ≡ moves_in old.lists g ++ moves_at old.len (move_of move g)
-  pub room : (g : Page) (k : ℕ) → HasRoomFor old.lists g (k + 1) → HasRoomFor new.lists g k
+  pub room : (g : Page) (k : ℕ) → HasMoveRoom old.lists g (k + 1) → HasMoveRoom new.lists g k
   pub len : new.len ≡ old.len

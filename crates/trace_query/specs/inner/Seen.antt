@@ -10,7 +10,7 @@ use Rattle.trace_query.specs.declared.steps.Step.TheVariants.{Turns, Fills}
 use Rattle.trace_query.specs.declared.processors.Filled.{Filled}
 use Rattle.trace_query.specs.declared.page_spans.PageSpans.{PageSpans}
 use Rattle.trace_query.specs.Spans.{caches}
-use Rattle.trace_spans.specs.inner.SpanLists.{same_key, key_of, spans_in, lasts, begun, ended, ended_of, Covers}
+use Rattle.trace_spans.specs.inner.SpanLists.{same_span_key, span_key, spans_in, lasts, begun, ended, ended_of, Covers}
 use Rattle.trace_spans.specs.inner.SpanLists as lists
 use Rattle.trace_query.specs.inner.Sights.{Sight, sight, sight_in, sight_after, step_by, filled, HasPlace}
 use Rattle.trace_query.specs.inner.Sights as sights
@@ -36,7 +36,7 @@ pub record Follows (known : PageSpans) (past : List Entry) : Type 0 where
 
 abbrev pub HasRoomInside : PageSpans → ℕ → Option ℕ → ℕ → Type 0
 HasRoomInside known p None n = Unit {0}
-HasRoomInside known p (Some enclave) n = sights.HasRoomFor known.processors p × lists.HasRoomFor known.lists (key_of p enclave n)
+HasRoomInside known p (Some enclave) n = sights.HasRoomFor known.processors p × lists.HasSpanRoom known.lists (span_key p enclave n)
 
 abbrev pub HasRoomToStep : PageSpans → Option Step → Type 0
 HasRoomToStep known None = Unit {0}
@@ -60,13 +60,13 @@ pub record Keeps (old new : PageSpans) : Type 0 where
 
 abbrev pub ended_if : Option ℕ → ℕ → ℕ → ℕ → SpanKey → List Span → List Span
 ended_if None place p enclave q before = before
-ended_if (Some n) place p enclave q before = if same_key (key_of p enclave n) q then ended place before else before
+ended_if (Some n) place p enclave q before = if same_span_key (span_key p enclave n) q then ended place before else before
 
 abbrev pub spans_filled : Option Filled → ℕ → ℕ → ℕ → SpanKey → List Span → List Span
 spans_filled None place p n q before = before
 spans_filled (Some change) place p n q before =
     ended_if change.dropped place p change.enclave q
-    (if same_key (key_of p change.enclave n) q then begun place before else before)
+    (if same_span_key (span_key p change.enclave n) q then begun place before else before)
 
 -- the spans behind a step, which knows the sight of its processor
 abbrev pub spans_after : Option Step → ℕ → (ℕ → Sight) → SpanKey → List Span → List Span

@@ -21,7 +21,7 @@ use Rattle.trace_query.specs.declared.page_words.Added.{Added}
 use Rattle.trace_query.specs.declared.page_words.Taken.{Taken}
 use Rattle.trace_query.specs.declared.page_words.PageWords.{PageWords}
 use Rattle.sgx_types.specs.Pages.{same_page}
-use Rattle.trace_query.specs.inner.WordLists.{same_word, changes_in, value_at, HasRoomFor}
+use Rattle.trace_query.specs.inner.WordLists.{same_word, changes_in, value_at, HasWordRoom}
 
 -- ---- which instructions flat memory is asked for
 
@@ -85,7 +85,7 @@ pub record Follows (known : PageWords) (past : List Entry) : Type 0 where
 
 abbrev pub HasRoomIf : PageWords → Option WordAt → ℕ → Type 0
 HasRoomIf known None k = Unit {0}
-HasRoomIf known (Some at) k = HasRoomFor known.lists at k
+HasRoomIf known (Some at) k = HasWordRoom known.lists at k
 
 abbrev pub HasRoomForPage : PageWords → Option NewPage → Type 0
 HasRoomForPage known None = Unit {0}
@@ -113,7 +113,7 @@ pub record Keeps (old new : PageWords) : Type 0 where
   pub memory : memory_of new.flat ≡ memory_of old.flat
   pub added : (g : Page) → added_in new g ≡ added_in old g
   pub lists : (w : WordAt) → changes_in new.lists w ≡ changes_in old.lists w
-  pub room : (w : WordAt) (k : ℕ) → HasRoomFor old.lists w k → HasRoomFor new.lists w k
+  pub room : (w : WordAt) (k : ℕ) → HasWordRoom old.lists w k → HasWordRoom new.lists w k
   pub len : new.len ≡ old.len
 
 -- flat memory is this one, these words may have been written and this page was added, and nothing of it is noted yet
@@ -131,5 +131,5 @@ pub record Notes (old : PageWords) (at : Option WordAt) (new : PageWords) : Type
   pub memory : new.flat ≡ old.flat
   pub added : new.added ≡ old.added
   pub lists : (w : WordAt) → changes_in new.lists w ≡ changes_in old.lists w ++ noted old.len (memory_of old.flat) at w
-  pub room : (w : WordAt) (k : ℕ) → HasRoomFor old.lists w (k + 1) → HasRoomFor new.lists w k
+  pub room : (w : WordAt) (k : ℕ) → HasWordRoom old.lists w (k + 1) → HasWordRoom new.lists w k
   pub len : new.len ≡ old.len

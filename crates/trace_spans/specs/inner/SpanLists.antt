@@ -1,36 +1,32 @@
 -- The lists of spans, by processor and page.
 use Rattle.std.specs.Prelude.{◌≡◌, ℕ, ◌+◌, ◌≤◌, ◌==◌, ◌&&◌, Bool, true, false, nat_le, nat_lt, if◌then◌else◌, List, [], ◌∷◌, ◌++◌}
-use Rattle.std.specs.Prelude.{IsSome, IsSomeAnd, is_none, Option, Some, None, vec_len, vec_capacity}
-use Rattle.std.specs.Global.{Vec}
+use Rattle.std.specs.Prelude.{IsSome, is_none, Option, Some, None}
 use Rattle.std.specs.HashMap.{get}
 use Rattle.std.specs.List.Sorted.{IsNonDecreasingBy}
 use Rattle.trace_spans.specs.declared.span_lists.Span.{Span}
 use Rattle.trace_spans.specs.declared.span_lists.SpanKey.{SpanKey}
 use Rattle.trace_spans.specs.declared.span_lists.SpanLists.{SpanLists}
 use Rattle.trace_spans.specs.inner.Last.{last_from}
+use Rattle.trace_spans.specs.inner.Listed.{items_of, HasSpare}
 
 -- the keys are those of the same processor and page
-abbrev pub same_key : SpanKey → SpanKey → Bool
-same_key a b = (a.cpu == b.cpu) && ((a.enclave == b.enclave) && (a.number == b.number))
+abbrev pub same_span_key : SpanKey → SpanKey → Bool
+same_span_key a b = (a.cpu == b.cpu) && ((a.enclave == b.enclave) && (a.number == b.number))
 
-abbrev pub key_of : ℕ → ℕ → ℕ → SpanKey
-key_of cpu enclave number = record { cpu = cpu; enclave = enclave; number = number }
-
-abbrev pub items_of : Option (Vec Span) → List Span
-items_of None = []
-items_of (Some list) = list.items
+abbrev pub span_key : ℕ → ℕ → ℕ → SpanKey
+span_key cpu enclave number = record { cpu = cpu; enclave = enclave; number = number }
 
 -- the spans of a processor and a page: none where there is no list
 abbrev pub spans_in : SpanLists → SpanKey → List Span
-spans_in known q = items_of (get same_key known.lists q)
+spans_in known q = items_of (get same_span_key known.lists q)
 
 -- there is a list, be it an empty one
-abbrev pub HasList : SpanLists → SpanKey → Type 0
-HasList known q = IsSome (get same_key known.lists q)
+abbrev pub HasSpanList : SpanLists → SpanKey → Type 0
+HasSpanList known q = IsSome (get same_span_key known.lists q)
 
 -- a span more needs no memory
-abbrev pub HasRoomFor : SpanLists → SpanKey → Type 0
-HasRoomFor known q = IsSomeAnd (get same_key known.lists q) (λ spans. vec_len spans + 1 ≤ vec_capacity spans)
+abbrev pub HasSpanRoom : SpanLists → SpanKey → Type 0
+HasSpanRoom known q = HasSpare (get same_span_key known.lists q) 1
 
 -- ---- processors
 
@@ -76,7 +72,7 @@ begun place spans = spans ++ record { from = place; to = None } ∷ []
 abbrev pub all_ended : ℕ → ℕ → ℕ → List ℕ → SpanKey → List Span → List Span
 all_ended place cpu enclave [] q spans = spans
 all_ended place cpu enclave (n ∷ ns) q spans =
-    all_ended place cpu enclave ns q (if same_key (key_of cpu enclave n) q then ended place spans else spans)
+    all_ended place cpu enclave ns q (if same_span_key (span_key cpu enclave n) q then ended place spans else spans)
 
 -- .. of an enclave, if it is one
 abbrev pub ended_of : Option ℕ → ℕ → ℕ → List ℕ → SpanKey → List Span → List Span
@@ -86,8 +82,8 @@ ended_of (Some enclave) place p ns q before = all_ended place p enclave ns q bef
 -- ---- places
 
 -- spans stand by the places at which they began
-abbrev pub Rises : List Span → Type 0
-Rises spans = IsNonDecreasingBy (λ span. span.from) spans
+abbrev pub SpansRise : List Span → Type 0
+SpansRise spans = IsNonDecreasingBy (λ span. span.from) spans
 
 -- a span that began is not over
 abbrev pub is_before : ℕ → Option ℕ → Bool

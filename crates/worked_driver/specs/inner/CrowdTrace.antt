@@ -8,9 +8,10 @@ use Rattle.sgx_rules.specs.declared.entries.Look.TheVariants as looks
 use Rattle.job_grammar.specs.declared.jobs.PageLine.TheVariants as lines
 use Rattle.job_grammar.specs.declared.jobs.Op.TheVariants as ops
 use Rattle.job_grammar.specs.Jobs.{JobView}
-use Rattle.worked_driver.specs.inner.Words.{add_reg, add_tcs, aex, age, block, cpu, create, enter, epa, init, kick, out, rw_perm}
+use Rattle.worked_driver.specs.inner.Words.{add_reg, add_tcs, aex, age, block, create, enter, init, kick, out}
 use Rattle.worked_driver.specs.inner.Words.{start_out}
 use Rattle.worked_driver.specs.inner.Words.{track, try_refused}
+use Rattle.worked_traces.specs.inner.Traces.{cpu, epa, rw_perm}
 
 -- eight frames, of which one is left when all is built
 abbrev pub crowd_job : JobView

@@ -6,9 +6,10 @@ use Rattle.sgx_rules.specs.declared.entries.Look.TheVariants as looks
 use Rattle.job_grammar.specs.declared.jobs.PageLine.TheVariants as lines
 use Rattle.job_grammar.specs.declared.jobs.Op.TheVariants as ops
 use Rattle.job_grammar.specs.Jobs.{JobView}
-use Rattle.worked_driver.specs.inner.Words.{add_read_only, add_reg, add_tcs, age, back, block, cpu, create, enter, epa, exit}
+use Rattle.worked_driver.specs.inner.Words.{add_read_only, add_reg, add_tcs, age, back, block, create, enter, exit}
 use Rattle.worked_driver.specs.inner.Words.{extend, fill, init}
-use Rattle.worked_driver.specs.inner.Words.{load, out, r_perm, rw_perm, start_back, start_out, track, try_refused}
+use Rattle.worked_driver.specs.inner.Words.{load, out, r_perm, start_back, start_out, track, try_refused}
+use Rattle.worked_traces.specs.inner.Traces.{cpu, epa, rw_perm}
 
 -- six frames for five pages, the version array and the SECS; page 2 is measured
 abbrev pub measured_job : JobView

@@ -7,9 +7,10 @@ use Rattle.sgx_rules.specs.declared.entries.Look.TheVariants as looks
 use Rattle.job_grammar.specs.declared.jobs.PageLine.TheVariants as lines
 use Rattle.job_grammar.specs.declared.jobs.Op.TheVariants as ops
 use Rattle.job_grammar.specs.Jobs.{JobView, default_marks}
-use Rattle.worked_driver.specs.inner.Words.{add_reg, add_tcs, aex, age, back, block, cpu, create, enter, epa, exit, fill, init}
+use Rattle.worked_driver.specs.inner.Words.{add_reg, add_tcs, aex, age, back, block, create, enter, exit, fill, init}
 use Rattle.worked_driver.specs.inner.Words.{kick, load, out}
-use Rattle.worked_driver.specs.inner.Words.{resume, rw_perm, start_back, start_out, track, try_refused, xadd}
+use Rattle.worked_driver.specs.inner.Words.{resume, start_back, start_out, track, try_refused, xadd}
+use Rattle.worked_traces.specs.inner.Traces.{cpu, epa, rw_perm}
 
 -- nine frames for nine pages, the version array and the SECS
 abbrev pub pair_job : JobView

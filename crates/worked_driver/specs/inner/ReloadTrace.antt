@@ -7,8 +7,9 @@ use Rattle.sgx_rules.specs.declared.entries.Look.TheVariants as looks
 use Rattle.job_grammar.specs.declared.jobs.Op.TheVariants as ops
 use Rattle.job_grammar.specs.Jobs.{JobView}
 use Rattle.worked_driver.specs.inner.TightJob.{loads_page, tight_job}
-use Rattle.worked_driver.specs.inner.Words.{aex, age, back, block, cpu, exit, fill, kick, load, out, resume, start_out}
+use Rattle.worked_driver.specs.inner.Words.{aex, age, back, block, exit, fill, kick, load, out, resume, start_out}
 use Rattle.worked_driver.specs.inner.Words.{store, track, try_refused}
+use Rattle.worked_traces.specs.inner.Traces.{cpu}
 
 -- seven frames for eight pages, the version array and the SECS
 abbrev pub reload_job : JobView

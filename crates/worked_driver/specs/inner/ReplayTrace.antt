@@ -9,8 +9,9 @@ use Rattle.job_grammar.specs.declared.jobs.Op.TheVariants as ops
 use Rattle.job_grammar.specs.Jobs.{JobView}
 use Rattle.worked_driver.specs.inner.ReloadTrace.{stores_page}
 use Rattle.worked_driver.specs.inner.TightJob.{tight_job}
-use Rattle.worked_driver.specs.inner.Words.{aex, age, back, back_refused, block, bus, cpu, fill, load, out, resume}
+use Rattle.worked_driver.specs.inner.Words.{aex, age, back, back_refused, block, bus, fill, load, out, resume}
 use Rattle.worked_driver.specs.inner.Words.{start_back, start_out, track, try_refused}
+use Rattle.worked_traces.specs.inner.Traces.{cpu}
 
 -- the second get of page 2 gives its first record, which no rule here looks at
 abbrev pub replay_job : JobView

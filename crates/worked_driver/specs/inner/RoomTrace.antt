@@ -6,8 +6,9 @@ use Rattle.sgx_rules.specs.declared.entries.Entry.{Entry}
 use Rattle.sgx_rules.specs.declared.entries.Look.TheVariants as looks
 use Rattle.job_grammar.specs.Jobs.{JobView}
 use Rattle.worked_driver.specs.inner.TightJob.{fills_up, reads_page, tight_job}
-use Rattle.worked_driver.specs.inner.Words.{add_reg, aex, age, back, block, cpu, enter, exit, fill, init, load, out}
+use Rattle.worked_driver.specs.inner.Words.{add_reg, aex, age, back, block, enter, exit, fill, init, load, out}
 use Rattle.worked_driver.specs.inner.Words.{resume, start_back, start_out, track, try_refused}
+use Rattle.worked_traces.specs.inner.Traces.{cpu}
 
 -- the first room and the third get fail, which no rule here looks at
 abbrev pub room_job : JobView

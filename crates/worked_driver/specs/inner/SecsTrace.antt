@@ -17,8 +17,9 @@ use Rattle.job_grammar.specs.declared.jobs.PageLine.TheVariants as lines
 use Rattle.job_grammar.specs.declared.jobs.Op.TheVariants as ops
 use Rattle.job_grammar.specs.Jobs.{JobView}
 use Rattle.sgx_types.specs.Pages.{frame_at}
-use Rattle.worked_driver.specs.inner.Words.{add_reg, add_tcs, block, cpu, did, enter, epa, exit, init, rw_perm, slot_at, start_out}
+use Rattle.worked_driver.specs.inner.Words.{add_reg, add_tcs, block, enter, exit, init, slot_at, start_out}
 use Rattle.worked_driver.specs.inner.Words.{track, try_refused}
+use Rattle.worked_traces.specs.inner.Traces.{cpu, epa, rw_perm, did}
 
 abbrev pub secs_job : JobView
 secs_job = record {

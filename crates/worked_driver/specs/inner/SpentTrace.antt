@@ -5,7 +5,8 @@ use Rattle.sgx_rules.specs.declared.entries.Entry.{Entry}
 use Rattle.sgx_rules.specs.declared.entries.Look.TheVariants as looks
 use Rattle.job_grammar.specs.Jobs.{JobView}
 use Rattle.worked_driver.specs.inner.TightJob.{reads_page, tight_job}
-use Rattle.worked_driver.specs.inner.Words.{add_reg, add_tcs, age, block, create, epa, track_refused, try_refused}
+use Rattle.worked_driver.specs.inner.Words.{add_reg, add_tcs, age, block, create, track_refused, try_refused}
+use Rattle.worked_traces.specs.inner.Traces.{epa}
 
 -- seven frames, and the last epoch but none to come
 abbrev pub spent_job : JobView

@@ -9,9 +9,10 @@ use Rattle.sgx_rules.specs.declared.entries.PfWhy.TheVariants as pfs
 use Rattle.job_grammar.specs.declared.jobs.Op.TheVariants as ops
 use Rattle.job_grammar.specs.Jobs.{JobView}
 use Rattle.worked_driver.specs.inner.TightJob.{first_out, tight_job}
-use Rattle.worked_driver.specs.inner.Words.{add_reg, aex, age, back, block, cpu, enter, exit, fill, init, kick, load}
+use Rattle.worked_driver.specs.inner.Words.{add_reg, aex, age, back, block, enter, exit, fill, init, kick, load}
 use Rattle.worked_driver.specs.inner.Words.{out, outload, pf, plus, resume, set, start_back, start_out, track}
 use Rattle.worked_driver.specs.inner.Words.{try_refused}
+use Rattle.worked_traces.specs.inner.Traces.{cpu}
 
 -- seven frames
 abbrev pub timer_job : JobView

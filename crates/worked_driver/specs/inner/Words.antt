@@ -5,8 +5,7 @@ use Rattle.sgx_rules.specs.declared.entries.AccessOp.{AccessOp}
 use Rattle.sgx_rules.specs.declared.entries.Action.{Action}
 use Rattle.sgx_rules.specs.declared.entries.Action.TheVariants as actions
 use Rattle.sgx_types.specs.declared.names.Actor.{Actor}
-use Rattle.sgx_types.specs.declared.names.Actor.TheVariants.{Cpu, Reclaimer}
-use Rattle.sgx_rules.specs.declared.entries.Answer.{Answer}
+use Rattle.sgx_types.specs.declared.names.Actor.TheVariants.{Reclaimer}
 use Rattle.sgx_rules.specs.declared.entries.Answer.TheVariants as answers
 use Rattle.sgx_rules.specs.declared.entries.BusWhy.{BusWhy}
 use Rattle.sgx_rules.specs.declared.entries.Cause.{Cause}
@@ -23,9 +22,7 @@ use Rattle.sgx_rules.specs.declared.refusals.Refusal.TheVariants as why
 use Rattle.sgx_types.specs.Pages.{no_perm, page_at}
 use Rattle.measure_log.specs.Rule.{measurement}
 use Rattle.sgx_types.specs.Pages.{frame_at}
-
-abbrev pub rw_perm : Perm
-rw_perm = record { r = true; w = true; x = false }
+use Rattle.worked_traces.specs.inner.Traces.{cpu, rw_perm, did}
 
 abbrev pub r_perm : Perm
 r_perm = record { r = true; w = false; x = false }
@@ -34,19 +31,10 @@ r_perm = record { r = true; w = false; x = false }
 abbrev pub slot_at : ℕ → SlotAt
 slot_at i = record { frame = frame_at 0; index = i }
 
-abbrev pub cpu : ℕ → Actor
-cpu p = Cpu (record { 0 = p })
-
-abbrev pub did : Actor → Action → Answer → Entry
-did actor action answer = record { actor = actor; event = events.Did action answer }
-
 abbrev pub refused : Actor → Action → Refusal → Entry
 refused actor action refusal = record { actor = actor; event = events.Refused action refusal }
 
 -- ---- the build
-
-abbrev pub epa : Actor → ℕ → Entry
-epa actor f = did actor (actions.Epa (frame_at f)) (answers.Va 0)
 
 abbrev pub create : Actor → ℕ → Entry
 create actor f = did actor (actions.Create 1 (frame_at f) 0x10000 0x10000) answers.Plain

@@ -1,7 +1,7 @@
 use Rattle.std.proofs.Common.{sym, ◌∙◌}
 use Rattle.std.specs.HashMap.{get}
-use Rattle.trace_query.specs.inner.Lists.{items_of, HasSpare}
 use Rattle.trace_spans.proofs.MapLaws.{begun, holds_begun}
+use Rattle.trace_spans.specs.inner.Listed.{items_of, HasSpare}
 use Rattle.sgx_types.specs.Pages.{same_page}
 use Rattle.sgx_types.proofs.Pages.{same_pages}
 use Rattle.trace_query.proofs.move_lists.MoveLists.begin.Goals as goal

@@ -2,11 +2,11 @@ use Rattle.std.proofs.Common.{◌≡◌, ◌+◌, ◌++◌, ◌∷◌, [], if◌
 use Rattle.std.specs.Global.{Vec}
 use Rattle.std.specs.HashMap.{get}
 use Rattle.trace_query.specs.declared.page_moves.Move.{Move}
-use Rattle.trace_query.specs.inner.Lists.{items_of, moves_in, HasSpare}
-use Rattle.trace_spans.proofs.MapLaws.{written, holds_written}
+use Rattle.trace_query.specs.inner.Lists.{moves_in}
+use Rattle.trace_spans.proofs.MapLaws.{written, holds_written, spare_less}
+use Rattle.trace_spans.specs.inner.Listed.{items_of, HasSpare}
 use Rattle.sgx_types.specs.Pages.{same_page}
 use Rattle.sgx_types.proofs.Pages.{same_pages}
-use Rattle.trace_query.proofs.PageKeys.{spare_less}
 use Rattle.trace_query.proofs.move_lists.MoveLists.push.Goals as goal
 
 pub add-requires : goal.add-requires

@@ -1,8 +1,9 @@
 use Rattle.std.proofs.Common.{◌≡◌, ◌+◌, ◌++◌, ◌∷◌, [], Some, sym, arith}
 use Rattle.std.specs.HashMap.{get}
-use Rattle.trace_query.specs.inner.WordLists.{same_word, items_of, HasSpare}
-use Rattle.trace_spans.proofs.MapLaws.{written, holds_written}
-use Rattle.trace_query.proofs.WordKeys.{same_words, spare_less}
+use Rattle.trace_query.specs.inner.WordLists.{same_word}
+use Rattle.trace_spans.proofs.MapLaws.{written, holds_written, spare_less}
+use Rattle.trace_spans.specs.inner.Listed.{items_of, HasSpare}
+use Rattle.trace_query.proofs.WordKeys.{same_words}
 use Rattle.trace_query.proofs.word_lists.WordLists.push.Goals as goal
 
 pub returns-in-Some-clause-changes : goal.returns-in-Some-clause-changes

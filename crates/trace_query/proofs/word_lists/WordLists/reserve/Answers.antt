@@ -1,7 +1,8 @@
 use Rattle.std.proofs.Common.{◌≡◌, Some, sym, ◌∙◌, arith}
 use Rattle.std.specs.HashMap.{get}
-use Rattle.trace_query.specs.inner.WordLists.{same_word, items_of, HasSpare}
+use Rattle.trace_query.specs.inner.WordLists.{same_word}
 use Rattle.trace_spans.proofs.MapLaws.{rewritten, holds_written}
+use Rattle.trace_spans.specs.inner.Listed.{items_of, HasSpare}
 use Rattle.trace_query.proofs.WordKeys.{same_words}
 use Rattle.trace_query.proofs.word_lists.WordLists.reserve.Goals as goal
 
