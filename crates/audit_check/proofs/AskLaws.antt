@@ -34,7 +34,7 @@ use Rattle.history_machine.specs.Histories.{FailsAmong}
 use Rattle.audit_machine.specs.inner.Asked.{Breaks, GoesOnWith, HasLeft, Takes, is_processor, made_for}
 use Rattle.audit_machine.specs.inner.Kept.{KeepsRecords, Records, is_ewb, kept_of, with_record}
 use Rattle.audit_machine.proofs.StayLaws.{goes_on, no_action, not_ewb, own_records, record_left, records_stay}
-use Rattle.audit_check.specs.inner.Asks.{CanCheck, Checked, IsAnswered, IsTaken}
+use Rattle.audit_check.specs.inner.Asks.{CanCheck, Checked, IsAnswered, IsTakenWith}
 use Rattle.audit_check.specs.inner.Tests.{IsActor, is_commit, is_epa, is_one_too_many, is_outsiders, page_moved}
 
 -- two names of one instruction
@@ -167,7 +167,7 @@ module _ (m : Parts) (kept : Records) (e : Entry) (can : CanCheck m kept) where
   pub breaks : (rule : Rule) → Breaks (state_of m) e rule → FailsAmong is_machines j past (Some e) rule
   breaks rule told = told j can.cpus past (made_by j.key past) can.checked.stands
 
-  pub noted : IsNote e.event → StandsWithAllRules k (state_of m) (e ∷ past) (made_by j.key past) → IsTaken j can.cpus past m e m kept
+  pub noted : IsNote e.event → StandsWithAllRules k (state_of m) (e ∷ past) (made_by j.key past) → IsTakenWith j can.cpus past m e m kept
   noted note stands = record {
     checked = record {
       stands = own_records k (state_of m) (e ∷ past) (made_by j.key past) stands;
@@ -213,7 +213,7 @@ module _ (m : Parts) (kept : Records) (e : Entry) (can : CanCheck m kept) where
   -- all stands for the longer list behind a commit
   pub committed : (action : Action) (t : Parts) (after : Records) → action_of e.event ≡ Some action → is_commit action ≡ true
       → StandsWithAllRules k (state_of t) (e ∷ past) (made_by j.key (e ∷ past)) → KeepsRecords j.key (e ∷ past) after
-      → IsTaken j can.cpus past m e t after
+      → IsTakenWith j can.cpus past m e t after
   committed action t after own is stands keeps = record {
     checked = record { stands = stands; records = keeps };
     step = λ x named row. absurd (commit-no-row action is
@@ -226,7 +226,7 @@ module _ (m : Parts) (kept : Records) (e : Entry) (can : CanCheck m kept) where
     page-told = ap page_moved left.told
 
     pub gone : (after : Records) (page : Page) → Some page ≡ page_moved e.event → after ≡ with_record kept page (kept_of work)
-        → IsTaken j can.cpus past m e t after
+        → IsTakenWith j can.cpus past m e t after
     gone after page moved is =
         committed (Ewb f) t after own refl (goes_on k (state_of m) (state_of t) past e _ left.goes_on can.checked.stands)
         (subst (KeepsRecords j.key (e ∷ past)) (sym is)

@@ -49,7 +49,7 @@ use Rattle.audit_machine.proofs.KeptLaws.{own_rules}
 use Rattle.audit_machine.specs.inner.Kept.{IsKeptUnder, KeepsRecords, Records, kept_of, without_record}
 use Rattle.audit_machine.proofs.OwnLaws.{comes_fresh, own_is_kept}
 use Rattle.audit_machine.proofs.StayLaws.{goes_on, not_ewb, own_records, record_back, records_stay}
-use Rattle.audit_check.specs.inner.Asks.{CanCheck, IsAnswered, IsTaken, Loads}
+use Rattle.audit_check.specs.inner.Asks.{CanCheck, IsAnswered, IsTakenWith, Loads}
 use Rattle.audit_check.specs.inner.Tests.{load_of, tells_page}
 use Rattle.audit_check.proofs.AskLaws.{breaks, committed}
 

@@ -27,7 +27,7 @@ use Rattle.audit_machine.specs.inner.Asked.{made_for}
 use Rattle.audit_machine.proofs.KeptLaws.{own_rules, refusal_any}
 use Rattle.audit_machine.specs.inner.Kept.{Records, no_records}
 use Rattle.audit_machine.proofs.StayLaws.{none_out}
-use Rattle.audit_check.specs.inner.Asks.{CanCheck, Checked, IsAnswered, IsTaken}
+use Rattle.audit_check.specs.inner.Asks.{CanCheck, Checked, IsAnswered, IsTakenWith}
 use Rattle.audit_check.specs.inner.Named.{is_named}
 use Rattle.audit_check.specs.inner.Tests.{IsActor}
 use Rattle.audit_check.proofs.FollowLaws.{never_first}
@@ -141,7 +141,7 @@ module _ (j : JobView) (cpus : ℕ) (m : Parts) (kept : Records) (entries : List
     -- it keeps the processor's rules
     pub taken_at : broken ≡ None → Checked j cpus (before_place entries (i + 1)) t after
     taken_at none =
-        let taken : IsTaken j cpus (before_place entries i) m (get_or entries i d) t after =
+        let taken : IsTakenWith j cpus (before_place entries i) m (get_or entries i d) t after =
         subst (IsAnswered j cpus (before_place entries i) m (get_or entries i d) t after) none answered in
         subst (λ past. Checked j cpus past t after) (sym (newest-more entries i d within)) taken.checked
 

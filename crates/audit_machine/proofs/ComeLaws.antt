@@ -44,7 +44,7 @@ use Rattle.machine_copies.proofs.StartLaws.{starts_apart}
 use Rattle.script_rules.specs.Machines.{machine_of}
 use Rattle.script_rules.specs.Script.{action_of}
 use Rattle.machine_laws.specs.inner.Histories.{BringsBack, BringsIn, StandsWithAllRules}
-use Rattle.machine_laws.specs.inner.Notes.{IsDone}
+use Rattle.machine_laws.specs.inner.Notes.{IsDidEvent}
 use Rattle.machine_laws.specs.inner.State.{State}
 use Rattle.machine_laws.specs.inner.Steps.{CanBring, CanEnd, IsComing, IsComingHeader, IsReloaded, commit_row, did_by, header_in}
 use Rattle.machine_laws.specs.inner.Steps.{refused_by}
@@ -187,7 +187,7 @@ done-event event f done = absurd done
 
 module _ (s t : State) (e made : Entry) (f : Frame) (rec : Sealed) (done : IsDoneBack e.event f) (step : IsReloaded s e.actor f rec made t)
     (back : (k : Making) (past : List Entry) (records : List Made) → StandsWithAllRules k s past records
-    → (IsDone made.event → BringsIn k.key past s f.0 rec) → StandsWithAllRules k t (made ∷ past) records) where
+    → (IsDidEvent made.event → BringsIn k.key past s f.0 rec) → StandsWithAllRules k t (made ∷ past) records) where
   is : IsMadeOf e.actor (Eld f) made
   is = made-of s t e.actor f rec made step
 
@@ -280,7 +280,7 @@ module _ (s : State) (f : Frame) (own : Header) (other : Sealed) (waits : IsComi
 
   module _ (t : State) (actor : Actor) (made : Entry) (step : IsReloaded s actor f other made t)
       (back : (k : Making) (past : List Entry) (records : List Made) → StandsWithAllRules k s past records
-      → (IsDone made.event → BringsIn k.key past s f.0 other) → StandsWithAllRules k t (made ∷ past) records) where
+      → (IsDidEvent made.event → BringsIn k.key past s f.0 other) → StandsWithAllRules k t (made ∷ past) records) where
     -- the refusal that the machine made stands for each other one that can be so
     pub turned_away : (reason : Refusal) → is_unfit own reason ≡ true → GoesOnWith s (refused_by actor (Eld f) reason) [] t
     turned_away reason unfit =
@@ -303,5 +303,5 @@ module _ (s : State) (f : Frame) (own : Header) (other : Sealed) (waits : IsComi
             ap (header_at past) page ∙ coming_header s past f.0 h.standing.stands step.coming ∙ ap Some (sym (own-header-is step.coming)) in
             other_refusal past actor f found reason k t records
             (subst (λ x. StandsWithAllRules k t (x ∷ past) records) row.0
-            (back k past records h (λ was_done. absurd (subst (λ (x : Entry). IsDone x.event) row.0 was_done))))
+            (back k past records h (λ was_done. absurd (subst (λ (x : Entry). IsDidEvent x.event) row.0 was_done))))
             (record { page = ended.page; ends = ended.ends; unfit = does-not-fit past ended.page own reason headed unfit })

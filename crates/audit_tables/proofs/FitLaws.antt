@@ -40,7 +40,7 @@ use Rattle.driver_tables.proofs.ListLaws.{heads, not_listed}
 use Rattle.driver_tables.specs.inner.Tells.{Tells}
 use Rattle.due_tables.specs.declared.turns.Turns.{Turns}
 use Rattle.audit_tables.proofs.AgreeLaws.{tells_by_rules}
-use Rattle.audit_tables.specs.inner.Followed.{CanFollow}
+use Rattle.audit_tables.specs.inner.Followed.{TablesCanFollow}
 use Rattle.audit_tables.specs.inner.Following.{FitsAway, FitsEnd, FitsEnded, FitsEvent, FitsGone, FitsLoad, FitsLook, FitsMove}
 use Rattle.audit_tables.specs.inner.Following.{FitsRefused, FitsStarted, IsLeft}
 use Rattle.audit_tables.proofs.LawfulLaws.{IsLawful, lawful, not_builders, not_cpus}
@@ -165,7 +165,7 @@ module _ (j : JobView) (past : List Entry) (d : Driver) (m : Parts) (tells : Tel
     event_fits a (Refused (actions.Eld f) refusal) law = refused_fits a f refusal law
     event_fits a ev law = tt
 
-pub entry_fits : (t : Turns) (d : Driver) (before : Mode) (start : Option starts.Start) (e : Entry) → CanFollow t d before start e
+pub entry_fits : (t : Turns) (d : Driver) (before : Mode) (start : Option starts.Start) (e : Entry) → TablesCanFollow t d before start e
     → FitsEvent start e.actor e.event d
 entry_fits t d before start e can =
     event_fits can.j can.past d can.m (tells_by_rules can.j can.past d can.m t can.trace) start e.actor e.event

@@ -54,11 +54,11 @@ use Rattle.driver_tables.proofs.ShowLaws.{is_slotless, same_out, shows_gone, sho
 use Rattle.driver_tables.proofs.ShowLaws.{shows_occupied, shows_quiet_entry, shows_started}
 use Rattle.driver_tables.specs.inner.Tells.{Tells}
 use Rattle.due_tables.specs.declared.turns.Turns.{Turns}
-use Rattle.due_notes.specs.inner.Arrays.{HasAsMany, KeepsArrays}
+use Rattle.due_notes.specs.inner.Arrays.{HasAsMany, KeepsKeeper}
 use Rattle.due_notes.proofs.ArrayLaws.{arrays_in_pass, arrays_stay}
 use Rattle.due_notes.proofs.NotedLaws.{idle_by}
 use Rattle.audit_tables.proofs.AgreeLaws.{tells_by_rules}
-use Rattle.audit_tables.specs.inner.Followed.{CanFollow, IsFollowed}
+use Rattle.audit_tables.specs.inner.Followed.{TablesCanFollow, IsFollowed}
 use Rattle.audit_tables.specs.inner.Following.{ComesBack, DoesEvent, HasEnded, HasLooked, HasStarted, IsStarted, away_again, forgetting}
 use Rattle.audit_tables.specs.inner.Following.{is_plain_event, with_begun, with_gone, with_refused}
 use Rattle.audit_tables.proofs.FitLaws.{has_place, has_room, head_is, looked_there}
@@ -113,7 +113,7 @@ away_in (states.Away t) f slot h = absurd cc
 away_in (states.Lost t) f slot h = absurd cc
 
 module _ (j : JobView) (past : List Entry) (d : Driver) (m : Parts) (tells : Tells auditors (machine_of j) j past d m)
-    (arrays : KeepsArrays j d.slots past)
+    (arrays : KeepsKeeper j d.slots past)
     (start : Option starts.Start)
     (rec : Sealed)
     (new : Driver) where
@@ -123,7 +123,7 @@ module _ (j : JobView) (past : List Entry) (d : Driver) (m : Parts) (tells : Tel
   -- ---- the reclaimer
 
   in_pass : (ev : Event) → IsLawful j past start (entry_of actors.Reclaimer ev) → HasAsMany d.slots new.slots
-      → KeepsArrays j new.slots (entry_of actors.Reclaimer ev ∷ past)
+      → KeepsKeeper j new.slots (entry_of actors.Reclaimer ev ∷ past)
   in_pass ev law many = arrays_in_pass j (outs j past) d.slots new.slots past ev tells.sound tells.pages law.age (λ aside. many) arrays
 
   quiet : (ev : Event) → is_quiet ev ≡ true → is_slotless ev ≡ true → is_markless ev ≡ true
@@ -249,7 +249,7 @@ module _ (j : JobView) (past : List Entry) (d : Driver) (m : Parts) (tells : Tel
 
     -- where the slots stay
     slots_stay : (ev : Event) → is_epa ev ≡ false → HasAsMany d.slots new.slots
-        → KeepsArrays j new.slots (entry_of (actors.Cpu c) ev ∷ past)
+        → KeepsKeeper j new.slots (entry_of (actors.Cpu c) ev ∷ past)
     slots_stay ev other many = arrays_stay j d.slots new.slots past (entry_of (actors.Cpu c) ev) refl other many.pages many.room arrays
 
     begun : (f : Frame) (page : Page) (to : SlotAt) (answer : Answer)
@@ -399,7 +399,7 @@ module _ (j : JobView) (past : List Entry) (d : Driver) (m : Parts) (tells : Tel
 -- ---- any entry
 
 pub entry_followed : (t : Turns) (d new : Driver) (before : Mode) (start : Option starts.Start) (rec : Sealed) (e : Entry)
-    (can : CanFollow t d before start e)
+    (can : TablesCanFollow t d before start e)
     → is_plain_event e.event ≡ false → DoesEvent start rec e.actor e.event d new → IsFollowed can.j can.past d e new
 entry_followed t d new before start rec e can plain does =
     by_actor can.j can.past d can.m (tells_by_rules can.j can.past d can.m t can.trace) can.arrays start rec new e.actor e.event plain

@@ -35,7 +35,7 @@ use Rattle.due_notes.specs.inner.Noted.{AreNoted, CanNoteTables, HasSecsHere}
 use Rattle.due_notes.proofs.FromLaws.{auditors_keep}
 use Rattle.due_notes.specs.inner.Plain.{is_plain, is_reclaimer}
 use Rattle.audit_tables.proofs.AgreeLaws.{lawful_can, lawful_starts, tells_by_rules, tells_shown}
-use Rattle.audit_tables.specs.inner.Followed.{CanFollow, IsFollowed, frame_begun, frame_ended}
+use Rattle.audit_tables.specs.inner.Followed.{TablesCanFollow, IsFollowed, frame_begun, frame_ended}
 use Rattle.audit_tables.specs.inner.Following.{is_plain_event}
 
 -- ---- what the rules say of it
@@ -49,7 +49,7 @@ pub record IsLawful (j : JobView) (past : List Entry) (start : Option starts.Sta
   pub ended : (f : Frame) → frame_ended e.event ≡ Some f → start_of start ≡ bare_start (open_start past f.0)
   pub begun : (f : Frame) → frame_begun e.event ≡ Some f → start_of start ≡ bare_start (open_start (e ∷ past) f.0)
 
-pub lawful : (t : Turns) (d : Driver) (before : Mode) (start : Option starts.Start) (e : Entry) (can : CanFollow t d before start e)
+pub lawful : (t : Turns) (d : Driver) (before : Mode) (start : Option starts.Start) (e : Entry) (can : TablesCanFollow t d before start e)
     → IsLawful can.j can.past start e
 lawful t d before start e can = record {
   script = can.goes_on.script.0;
@@ -138,7 +138,7 @@ plain_of (Age page look) plain = absurd (false≢true plain)
 plain_of (Kick cpu) plain = absurd (false≢true plain)
 plain_of (Bus page why) plain = absurd (false≢true plain)
 
-pub can_note : (t : Turns) (d : Driver) (before : Mode) (start : Option starts.Start) (e : Entry) (can : CanFollow t d before start e)
+pub can_note : (t : Turns) (d : Driver) (before : Mode) (start : Option starts.Start) (e : Entry) (can : TablesCanFollow t d before start e)
     → is_plain_event e.event ≡ true → CanNoteTables t d 0 before e
 can_note t d before start e can is =
     let x = plain_of e.event is in
@@ -168,7 +168,7 @@ can_note t d before start e can is =
 
 -- .. and the tables have followed it then
 pub noted_followed : (t : Turns) (d new : Driver) (before : Mode) (start : Option starts.Start) (e : Entry)
-    (can : CanFollow t d before start e) (plain : is_plain_event e.event ≡ true)
+    (can : TablesCanFollow t d before start e) (plain : is_plain_event e.event ≡ true)
     → ((note : CanNoteTables t d 0 before e) → AreNoted note.keeping note.j note.past d e new) → IsFollowed can.j can.past d e new
 unfolding can_note
 noted_followed t d new before start e can plain notes =

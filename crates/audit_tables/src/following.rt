@@ -1,7 +1,7 @@
 //! Tells an entry of a trace to the driver's tables.
 
 ghost use Rattle.std.specs.Prelude.{◌≡◌};
-ghost use Rattle.audit_tables.specs.inner.Followed.{CanFollow, IsFollowed};
+ghost use Rattle.audit_tables.specs.inner.Followed.{TablesCanFollow, IsFollowed};
 ghost use Rattle.audit_tables.specs.inner.Following.{DoesEvent, DoesMove, FitsBegun, FitsEnded, FitsEvent, FitsGone, FitsMove};
 ghost use Rattle.audit_tables.specs.inner.Following.{FitsRefused};
 ghost use Rattle.audit_tables.specs.inner.Following.{FitsLook, FitsStarted, HasEnded, HasLooked, HasStarted, is_plain_event, with_begun};
@@ -28,8 +28,8 @@ pub fn follow(
     rec: &Record,
     entry: &Entry,
 )
-    requires { CanFollow turns.now driver.old before start entry.now }
-    ensures { (can : CanFollow turns.now driver.old before start entry.now)
+    requires { TablesCanFollow turns.now driver.old before start entry.now }
+    ensures { (can : TablesCanFollow turns.now driver.old before start entry.now)
         → IsFollowed can.j can.past driver.old entry.now driver.new }
 {
     if is_plain(&entry.event) {

@@ -169,7 +169,7 @@ and-false false = refl
 
 module _ (j : JobView) (past : List Entry) (e : Entry) (script : ScriptRule j past e) (age : AgeRule j past e) (m t : Parts)
     (kept : Records)
-    (among : IsAmong (length m.cpus) e.actor) (asked : asks.IsTaken j (length j.scripts) past m e t kept)
+    (among : IsAmong (length m.cpus) e.actor) (asked : asks.IsTakenWith j (length j.scripts) past m e t kept)
     (cpus : length t.cpus ≡ length m.cpus) where
   -- who made it is a processor of the machine where only those may
   not-outsider : (action : Action) → action_of e.event ≡ Some action → is_outsiders (length m.cpus) e.actor action ≡ false

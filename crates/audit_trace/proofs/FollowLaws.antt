@@ -68,7 +68,7 @@ module _ (j : JobView) (a : Auditing) (before : Mode) (start : Option starts.Sta
 
   -- ---- the tables
 
-  pub can_follow : followed.CanFollow a.turns a.driver before start e
+  pub can_follow : followed.TablesCanFollow a.turns a.driver before start e
   can_follow = record {
     j = j;
     past = past;
@@ -98,7 +98,7 @@ module _ (j : JobView) (a : Auditing) (before : Mode) (start : Option starts.Sta
   }
 
   -- what the tables were told is so of them
-  pub followed_by : (d : Driver) → ((c : followed.CanFollow a.turns a.driver before start e) → IsFollowed c.j c.past a.driver e d)
+  pub followed_by : (d : Driver) → ((c : followed.TablesCanFollow a.turns a.driver before start e) → IsFollowed c.j c.past a.driver e d)
       → IsFollowed j past a.driver e d
   unfolding can_follow
   followed_by d told = told can_follow

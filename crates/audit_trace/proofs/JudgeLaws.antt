@@ -142,11 +142,11 @@ module _ (j : JobView) (a : Auditing) (e : Entry) (at : IsAuditing j a) where
           by_answer None some said = absurd (false≢true some)
           by_answer (Some rule) some said = first_of_all j past e rule script said
 
-      pub asked_by : is_some broken ≡ false → asks.IsTaken j (length j.scripts) past a.machine e t kept
+      pub asked_by : is_some broken ≡ false → asks.IsTakenWith j (length j.scripts) past a.machine e t kept
       asked_by none = by_answer broken none answered
         where
           by_answer : (o : Option Rule) → is_some o ≡ false → IsAnswered j (length j.scripts) past a.machine e t kept o
-              → asks.IsTaken j (length j.scripts) past a.machine e t kept
+              → asks.IsTakenWith j (length j.scripts) past a.machine e t kept
           by_answer None none said = said
           by_answer (Some rule) none said = absurd (false≢true (sym none))
 
@@ -187,7 +187,7 @@ module _ (j : JobView) (a : Auditing) (e : Entry) (at : IsAuditing j a) where
         by_entry actors.Builder ev age = tt
         by_entry (actors.Cpu c) ev age = tt
 
-    module _ (t : Parts) (kept : Records) (asked : asks.IsTaken j (length j.scripts) past a.machine e t kept) where
+    module _ (t : Parts) (kept : Records) (asked : asks.IsTakenWith j (length j.scripts) past a.machine e t kept) where
       machines : KeepsMachines j past e
       machines = last_kept j (length j.scripts) (state_of t) past e (made_by j.key (e ∷ past)) asked.checked.stands
 

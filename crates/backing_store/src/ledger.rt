@@ -32,7 +32,7 @@ pub struct Ledger {
 }
 
 impl Ledger {
-    ghost use Rattle.backing_store.specs.inner.Kept.{state_of, IsKept, HasRoom};
+    ghost use Rattle.backing_store.specs.inner.Kept.{state_of, IsKept, LedgerHasRoom};
     ghost use Rattle.backing_store.specs.inner.Store.{new_store, spare_of, next_get_of, place_given, get_answer, after_room};
     ghost use Rattle.backing_store.specs.inner.Store.{after_put};
     ghost use Rattle.backing_store.specs.inner.Store.{after_get};
@@ -71,7 +71,7 @@ impl Ledger {
 
     fn note_room(&mut self, page: Page, blank: Blank) -> Result<(), StoreFault>
         requires kept { IsKept self.old }
-        requires room { HasRoom 2 self.old }
+        requires room { LedgerHasRoom 2 self.old }
         requires place { vec_len self.old.blanks < vec_capacity self.old.blanks }
         ensures kept { IsKept self.new }
         ensures answer { result ≡ room_answer (state_of self.old) }
@@ -121,7 +121,7 @@ impl Ledger {
 
     fn get_with_room(&mut self, alloc: Global, page: Page) -> Result<Option<Record>, StoreFault>
         requires kept { IsKept self.old }
-        requires room { HasRoom 1 self.old }
+        requires room { LedgerHasRoom 1 self.old }
         ensures kept { IsKept self.new }
         ensures answer { WhereMade result (result ≡ get_answer_of (state_of self.old) page) }
         ensures made { WhereMade result (state_of self.new ≡ after_get (state_of self.old) page) }
@@ -147,7 +147,7 @@ impl Ledger {
 
     fn note_get(&mut self, page: Page, answer: GetAnswer)
         requires kept { IsKept self.old }
-        requires room { HasRoom 1 self.old }
+        requires room { LedgerHasRoom 1 self.old }
         requires rule { answer ≡ get_answer (state_of self.old).plans (state_of self.old).calls page }
         ensures kept { IsKept self.new }
         ensures made { state_of self.new ≡ after_get (state_of self.old) page }
@@ -160,7 +160,7 @@ impl Ledger {
     // What a get of a page gives now.
     fn answer(&self, page: Page) -> GetAnswer
         requires kept { IsKept self.now }
-        requires room { HasRoom 1 self.now }
+        requires room { LedgerHasRoom 1 self.now }
         ensures { result ≡ get_answer (state_of self.now).plans (state_of self.now).calls page }
     {
         if get_fails(&self.plans, self.gets + 1) {
@@ -197,7 +197,7 @@ impl Ledger {
     // The number that the next get of a page has among its gets.
     fn next_get_of(&self, page: Page) -> u64
         requires kept { IsKept self.now }
-        requires room { HasRoom 1 self.now }
+        requires room { LedgerHasRoom 1 self.now }
         ensures { result ≡ next_get_of page (state_of self.now).calls }
     {
         self.known.counts(page).gets + 1
@@ -225,7 +225,7 @@ impl Ledger {
         requires kept { IsKept self.old }
         requires few { more ≤ 2 }
         ensures kept { IsKept self.new }
-        ensures room { OnOk result (HasRoom more self.new) }
+        ensures room { OnOk result (LedgerHasRoom more self.new) }
         ensures state { state_of self.new ≡ state_of self.old }
     {
         let calls = self.blanks.len() + more;

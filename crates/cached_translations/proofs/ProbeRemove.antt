@@ -8,13 +8,13 @@ use Rattle.std.proofs.lemmas.List.Sums.{sum_by-set}
 use Rattle.std.proofs.lemmas.List.Sorted.{IsPermutation-sym, Contains-permutation, sum_by-IsPermutation}
 use Rattle.std.proofs.lemmas.List.Edits.{length-swap, swapped_from_swap}
 use Rattle.cached_translations.specs.declared.probe_table.Slot.{Slot}
-use Rattle.cached_translations.specs.inner.Probe.{Leads, IsProbed, IsGapped, IsOfPage, Drops, AreOnce, used, slot_at}
+use Rattle.cached_translations.specs.inner.Probe.{Leads, IsProbed, IsGapped, IsSlotOf, Drops, AreOnce, used, slot_at}
 use Rattle.cached_translations.proofs.ProbeLaws.{steps_to, same_steps, ReadAfterSet, written, kept, read_after_set, leads_at}
 use Rattle.cached_translations.proofs.ProbeLaws.{leads_from}
 use Rattle.cached_translations.proofs.ProbeLaws.{some_free, number_of}
 
 -- a probed table without one of its pages
-module _ (slots : List (Option Slot)) (is : IsProbed slots) (at n : ℕ) (page : IsOfPage slots at n) where
+module _ (slots : List (Option Slot)) (is : IsProbed slots) (at n : ℕ) (page : IsSlotOf slots at n) where
   low : at < length slots
   low = omega (arith, is.whole, page.within)
 

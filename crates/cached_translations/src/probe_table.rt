@@ -1,7 +1,7 @@
 //! A table that leads from page numbers to places, with linear probing.
 
 ghost use Rattle.std.specs.Prelude.{◌≡◌, ◌<◌, ◌+◌, ◌%◌, ℕ, IfSome, IsNone, IsPermutation, length};
-ghost use Rattle.cached_translations.specs.inner.Probe.{Leads, IsProbed, IsGapped, IsOfPage, IsFree, Adds, Drops, used};
+ghost use Rattle.cached_translations.specs.inner.Probe.{Leads, IsProbed, IsGapped, IsSlotOf, IsFree, Adds, Drops, used};
 
 /// How many places a table has: twice as many as the pages that it leads from, so that runs stay short (this project's
 /// own).
@@ -86,7 +86,7 @@ fn steps_to(number: u32, at: usize) -> usize
 // The place where a page stands.
 fn slot_of(slots: &[Option<Slot>], number: u32) -> Option<usize>
     requires { IsProbed slots.now }
-    ensures found { IfSome result (λ at. IsOfPage slots.now at number) }
+    ensures found { IfSome result (λ at. IsSlotOf slots.now at number) }
     ensures none { IsNone result → (place : ℕ) → ¬ Leads slots.now number place }
 {
     for step in 0..SLOTS {

@@ -4,14 +4,14 @@ use Rattle.std.proofs.lemmas.List.{take_all}
 use Rattle.sgx_rules.specs.declared.entries.Entry.{Entry}
 use Rattle.trace_text.proofs.EntryLaws.{newest_more}
 use Rattle.trace_query.specs.declared.index.Index.{Index}
-use Rattle.trace_query.specs.Index.{Stands}
+use Rattle.trace_query.specs.Index.{IndexStands}
 
 pub stands_more : (index : Index) (entries : List Entry) (i : ℕ) (d : Entry) → i < length entries
-    → Stands index (get_or entries i d ∷ reverse (take i entries)) → Stands index (reverse (take (i + 1) entries))
+    → IndexStands index (get_or entries i d ∷ reverse (take i entries)) → IndexStands index (reverse (take (i + 1) entries))
 stands_more index entries i d within stands =
-    let Is : List Entry → Type 0 = λ past. Stands index past in subst Is (sym (newest_more entries i d within)) stands
+    let Is : List Entry → Type 0 = λ past. IndexStands index past in subst Is (sym (newest_more entries i d within)) stands
 
-pub stands_all : (index : Index) (entries : List Entry) (i : ℕ) → length entries ≤ i → Stands index (reverse (take i entries))
-    → Stands index (reverse entries)
+pub stands_all : (index : Index) (entries : List Entry) (i : ℕ) → length entries ≤ i → IndexStands index (reverse (take i entries))
+    → IndexStands index (reverse entries)
 stands_all index entries i end stands =
-    let Is : List Entry → Type 0 = λ past. Stands index past in subst Is (ap reverse (take_all i entries end)) stands
+    let Is : List Entry → Type 0 = λ past. IndexStands index past in subst Is (ap reverse (take_all i entries end)) stands

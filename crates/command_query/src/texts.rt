@@ -4,7 +4,7 @@ ghost use Rattle.std.specs.Prelude.{◌≡◌, ◌++◌, List, IfOk, OnOk, rever
 ghost use Rattle.command_query.specs.AnswerText.{answer_text, cached_words, first_word, move_words, moves_text, page_text, where_words};
 ghost use Rattle.sgx_rules.specs.declared.entries.Entry.{Entry};
 ghost use Rattle.text_words.specs.Words.{line_text};
-ghost use Rattle.trace_query.specs.Index.{Stands};
+ghost use Rattle.trace_query.specs.Index.{IndexStands};
 
 use crate::indexing::index_of;
 use command_words::question::Question;
@@ -34,7 +34,7 @@ pub fn print_answer(
 }
 
 fn answer(alloc: Global, index: &Index, question: Question) -> Result<Vec<u8>, Memory>
-    ensures { IfOk result (λ text. (past : List Entry) → Stands index.now past → text.items ≡ answer_text question past) }
+    ensures { IfOk result (λ text. (past : List Entry) → IndexStands index.now past → text.items ≡ answer_text question past) }
 {
     match question {
         Question::Behind { place, page } => {

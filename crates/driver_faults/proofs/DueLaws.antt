@@ -62,7 +62,7 @@ use Rattle.driver_faults.specs.declared.answers.FaultAnswer.{FaultAnswer}
 use Rattle.driver_faults.specs.declared.answers.FaultAnswer.TheVariants as answers
 use Rattle.driver_faults.specs.inner.Due.{IsRight, WaitsBy, fetch_of}
 use Rattle.driver_tables.specs.inner.Agrees.{Agrees}
-use Rattle.driver_faults.specs.inner.Resolving.{HasStarted, IsFetch, IsGot, IsResolved, IsSaid, IsStarted, asked_by, asked_in}
+use Rattle.driver_faults.specs.inner.Resolving.{HasStarted, FetchesPage, IsGot, IsResolved, IsSaid, IsStarted, asked_by, asked_in}
 use Rattle.driver_faults.proofs.AskLaws.{target_placed}
 use Rattle.driver_faults.proofs.LoadRows.{IsFoundAt, frames_are, load_row, slot_stands}
 
@@ -282,7 +282,7 @@ module _ (made : Making) (j : JobView) (past : List Entry) (d d' : Driver) (m m'
 
   fetched : (slot : VaSlot) (told told' : Option (List Call)) (answer : FaultAnswer) → place past asked ≡ Away slot → (to : Option SlotAt)
       → slot_here past slot ≡ to → (free : Option ℕ) → least_free j.epc (content past) ≡ free
-      → IsFetch cpu asked slot to free d m told answer d' m' told' → IsRight j past cpu page asked answer d'
+      → FetchesPage cpu asked slot to free d m told answer d' m' told' → IsRight j past cpu page asked answer d'
   fetched slot told told' answer at None found free least is = absurd is
   fetched slot told told' answer at (Some to) found None least is =
       said made j past d d' m m' r cpu page asked (answers.Again waits.NoFrame) answer is.does
@@ -317,8 +317,8 @@ module _ (made : Making) (j : JobView) (past : List Entry) (d d' : Driver) (m m'
       (lost_target page asked (slot_here past slot) (least_free j.epc (content past))))
   by_asked told told' answer (states.Away slot) is gone k =
       fetched slot told told' answer at (slot_here past slot) refl (least_free j.epc (content past)) refl
-      (subst (λ o. IsFetch cpu asked slot (slot_here past slot) o d m told answer d' m' told') free_is
-      (subst (λ to. IsFetch cpu asked slot to (least_free (state_of m).frames (state_of m).content) d m told answer d' m' told')
+      (subst (λ o. FetchesPage cpu asked slot (slot_here past slot) o d m told answer d' m' told') free_is
+      (subst (λ to. FetchesPage cpu asked slot to (least_free (state_of m).frames (state_of m).content) d m told answer d' m' told')
       (slot_here_is (drivers j) j d past r.shows slot (array_of (drivers j) j d past r.shows asked slot r.sound at)) k))
     where
       at : place past asked ≡ Away slot

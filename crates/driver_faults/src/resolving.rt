@@ -5,7 +5,7 @@ ghost use Rattle.driver_list.specs.inner.Places.{IsPlaced};
 ghost use Rattle.driver_list.specs.inner.States.{state_of as page_state};
 ghost use Rattle.std.specs.Result.{IsOkAnd};
 ghost use Rattle.io_edges.specs.inner.Faults.{HasCause};
-ghost use Rattle.driver_faults.specs.inner.Resolving.{CanAsk, CanResolve, TellsFault, IsFetch, IsResolved, IsStarted, asked_in};
+ghost use Rattle.driver_faults.specs.inner.Resolving.{CanAsk, CanResolve, TellsFault, FetchesPage, IsResolved, IsStarted, asked_in};
 ghost use Rattle.sgx_machine.specs.inner.Parts.{state_of};
 ghost use Rattle.sgx_rules.specs.Frames.{least_free};
 ghost use Rattle.sgx_types.specs.Pages.{va_page};
@@ -93,7 +93,7 @@ fn fetch<B: Backing>(
     requires placed { IsPlaced driver.old.states.counts page }
     requires array { IsPlaced driver.old.states.counts (va_page slot.va) }
     requires found { slot_here_in driver.old slot ≡ None → ⊥ }
-    ensures does { IfOk result (λ answer. IsFetch cpu page slot (slot_here_in driver.old slot)
+    ensures does { IfOk result (λ answer. FetchesPage cpu page slot (slot_here_in driver.old slot)
         (least_free (state_of machine.old).frames (state_of machine.old).content) driver.old machine.old (B.told store.old)
         answer driver.new machine.new (B.told store.new)) }
     ensures cpus { length machine.new.cpus ≡ length machine.old.cpus }

@@ -29,7 +29,7 @@ use Rattle.driver_rules.proofs.ReclaimLaws.{other_secs}
 use Rattle.sgx_rules.specs.Table.{is_own}
 use Rattle.driver_laws.specs.inner.Counted.{is_own_there}
 use Rattle.driver_laws.specs.inner.Sound.{IsSound}
-use Rattle.driver_laws.specs.inner.Tracks.{AllCalm, InForm, is_reclaimers, IsCalm, IsTracked, IsUntracked, KeepsTracks, moves_from}
+use Rattle.driver_laws.specs.inner.Tracks.{AllCalm, StandsInForm, is_reclaimers, IsCalm, IsTracked, IsUntracked, KeepsTracks, moves_from}
 use Rattle.driver_laws.specs.inner.Tracks.{OwnRule, TryTells}
 use Rattle.driver_laws.proofs.SoundLaws.{entry_of}
 use Rattle.driver_laws.proofs.TrackLaws.{behind_kept, block_low, blocked_place, calm_drained, calm_kept, last_kept, none_since}
@@ -78,7 +78,7 @@ tracked_kept past e g s can stays none t = record {
 }
 
 form_kept : (past : List Entry) (e : Entry) (g : Page) (form : Form) → IsSound past → CanMove past e.event → Stays past e.event g
-    → NoTrack e.event → InForm past g form → InForm (e ∷ past) g form
+    → NoTrack e.event → StandsInForm past g form → StandsInForm (e ∷ past) g form
 form_kept past e g First s can stays none k = calm_all past e none k
 form_kept past e g Sealing s can stays none k = calm_all past e none k
 form_kept past e g ToTrack s can stays none k = untracked_kept past e g s can stays none k
@@ -123,7 +123,7 @@ calm_block : (past : List Entry) (due taken : List Page) → AllCalm past → Ke
 calm_block past [] taken k = calm_tries past taken k
 calm_block past (g ∷ gs) taken k = k
 
-tracked_kicks : (past : List Entry) (g : Page) (ps : List ℕ) → IsTracked past g → InForm past g (kicks_on ps)
+tracked_kicks : (past : List Entry) (g : Page) (ps : List ℕ) → IsTracked past g → StandsInForm past g (kicks_on ps)
 tracked_kicks past g [] k = k
 tracked_kicks past g (p ∷ ps) k = k
 
@@ -234,7 +234,7 @@ to_kick j past g rest [] (Refused (EwbStart f slot) (why.SlotOccupied version)) 
 to_kick j past g rest [] _ s can tells at kick k = absurd kick
 
 in_tries : (j : JobView) (past : List Entry) (g : Page) (rest : List Page) (form : Form) (ev : Event) → IsSound past → CanMove past ev
-    → TryTells past ev → ages.IsInTries past g ev → ages.InForm past g form ev → InForm past g form
+    → TryTells past ev → ages.IsInTries past g ev → ages.InForm past g form ev → StandsInForm past g form
     → KeepsTracks (by_reclaimer past ev) (pass_by j past ev (Tries g rest form))
 in_tries j past g rest First (Did (EwbStart f slot) answer) s can tells at kick k =
     calm_all past (entry_of actors.Reclaimer (Did (EwbStart f slot) answer)) (λ n. refl) k

@@ -19,7 +19,7 @@ use Rattle.driver_list.specs.declared.ring.Node.{Node}
 use Rattle.driver_list.specs.inner.Places.{IsPlaced, PageCounts, place_of, total}
 use Rattle.driver_list.specs.inner.Ring.{is_listed, listed_at, IsRing, around, Appends, Detaches, marked, Marks}
 use Rattle.driver_list.specs.inner.Listing.{IsListing, is_young, turn, touched}
-use Rattle.driver_list.specs.inner.KeptList.{key_of, IsIndexed, IsTable, IsWhole}
+use Rattle.driver_list.specs.inner.KeptList.{key_of, IsIndexed, IsTable, IsWholeRing}
 use Rattle.driver_list.proofs.PlaceLaws.{same_place, place_within}
 use Rattle.driver_list.proofs.PageLaws.{listed_last, listed_before, listed_behind, head_apart, none_distinct}
 use Rattle.driver_list.proofs.PageLaws.{touched_pages}
@@ -30,13 +30,13 @@ use Rattle.driver_list.proofs.RingLaws.{each_listed}
 
 -- what is kept of a list is that list
 pub kept_list : (nodes : Slab Node) (last : Option ℕ) (keys : List (Option ℕ)) (counts : PageCounts) (pages : List Listed)
-    → IsWhole nodes last keys counts pages → around nodes last ≡ pages
+    → IsWholeRing nodes last keys counts pages → around nodes last ≡ pages
 kept_list nodes last keys counts pages is = around_is nodes last pages is.ring is.table.counted
 
 pub kept : (nodes : Slab Node) (last : Option ℕ) (keys : List (Option ℕ)) (counts : PageCounts) (pages : List Listed)
-    → IsWhole nodes last keys counts pages → IsWhole nodes last keys counts (around nodes last)
+    → IsWholeRing nodes last keys counts pages → IsWholeRing nodes last keys counts (around nodes last)
 kept nodes last keys counts pages is =
-    subst (λ (l : List Listed). IsWhole nodes last keys counts l) (sym (kept_list nodes last keys counts pages is)) is
+    subst (λ (l : List Listed). IsWholeRing nodes last keys counts l) (sym (kept_list nodes last keys counts pages is)) is
 
 -- a page that is not listed has no key
 pub no_key : (nodes : Slab Node) (keys : List (Option ℕ)) (counts : PageCounts) (pages : List Listed) (page : Page)
@@ -78,9 +78,9 @@ key_here keys counts page key sized placed =
 -- a page more
 pub pushed : (old new : Slab Node) (last : Option ℕ) (keys : List (Option ℕ)) (counts : PageCounts) (pages : List Listed) (page : Page)
     (key : ℕ)
-    → IsWhole old last keys counts pages → IsPlaced counts page → is_listed pages page ≡ false
+    → IsWholeRing old last keys counts pages → IsPlaced counts page → is_listed pages page ≡ false
     → Appends old last (record { page = page; young = false }) key new
-    → IsWhole new (Some key) (set keys (place_of counts page) (Some key)) counts (pages ++ record { page = page; young = false } ∷ [])
+    → IsWholeRing new (Some key) (set keys (place_of counts page) (Some key)) counts (pages ++ record { page = page; young = false } ∷ [])
 pushed old new last keys counts pages page key is placed absent adds =
     let y : Listed = record { page = page; young = false } in
     let low : place_of counts page < length keys = rw is.table.sized (place_within counts page placed) in
@@ -137,8 +137,8 @@ pushed old new last keys counts pages page key is placed absent adds =
 -- the head out
 pub removed : (old new : Slab Node) (last : ℕ) (rest : Option ℕ) (keys : List (Option ℕ)) (counts : PageCounts) (x : Listed)
     (xs : List Listed) (page : Page)
-    → IsWhole old (Some last) keys counts (x ∷ xs) → Detaches old last page rest new
-    → IsWhole new rest (set keys (place_of counts page) None) counts xs
+    → IsWholeRing old (Some last) keys counts (x ∷ xs) → Detaches old last page rest new
+    → IsWholeRing new rest (set keys (place_of counts page) None) counts xs
 removed old new last rest keys counts x xs page is out =
     let head : out.listed ≡ x = (out.ring x xs is.ring).0 in
     let is_x : page ≡ x.page = sym out.same ∙ ap (λ (l : Listed). l.page) head in
@@ -228,9 +228,9 @@ remarked old new key young node keys counts before after is here marks sized sam
 -- the head at the tail
 pub turned_whole : (old new : Slab Node) (last : ℕ) (node first : Node) (keys : List (Option ℕ)) (counts : PageCounts) (x : Listed)
     (xs : List Listed)
-    → IsWhole old (Some last) keys counts (x ∷ xs) → get old last ≡ Some node → get old node.next ≡ Some first
+    → IsWholeRing old (Some last) keys counts (x ∷ xs) → get old last ≡ Some node → get old node.next ≡ Some first
     → Marks old node.next false new
-    → IsWhole new (Some node.next) keys counts (turn (x ∷ xs))
+    → IsWholeRing new (Some node.next) keys counts (turn (x ∷ xs))
 turned_whole old new last node first keys counts x xs is here there marks = record {
   ring = turned_ring old new last node first x xs is.ring here there marks;
   table =
@@ -257,9 +257,9 @@ only_node nodes keys counts pages page key is placed at =
 -- a page young
 pub touched_whole : (old new : Slab Node) (last : Option ℕ) (node : Node) (keys : List (Option ℕ)) (counts : PageCounts)
     (pages : List Listed) (page : Page) (key : ℕ)
-    → IsWhole old last keys counts pages → IsPlaced counts page → key_of keys counts page ≡ Some key → get old key ≡ Some node
+    → IsWholeRing old last keys counts pages → IsPlaced counts page → key_of keys counts page ≡ Some key → get old key ≡ Some node
     → Marks old key true new
-    → IsWhole new last keys counts (map (touched page) pages)
+    → IsWholeRing new last keys counts (map (touched page) pages)
 touched_whole old new last node keys counts pages page key is placed at here marks = record {
   ring = touched_ring old new last pages key page is.ring (only_node old keys counts pages page key is.table placed at) marks;
   table =
@@ -276,7 +276,7 @@ has_place nodes (Some last) P pages is all page among =
     each_listed nodes P all is.ends.first pages is.ends.first (closed_path nodes last pages is.ends) page among
 
 pub not_listed : (nodes : Slab Node) (last : Option ℕ) (keys : List (Option ℕ)) (counts : PageCounts) (pages : List Listed) (page : Page)
-    → IsWhole nodes last keys counts pages → IsPlaced counts page → key_of keys counts page ≡ None → is_listed pages page ≡ false
+    → IsWholeRing nodes last keys counts pages → IsPlaced counts page → key_of keys counts page ≡ None → is_listed pages page ≡ false
 not_listed nodes last keys counts pages page is placed none = by_test (is_listed pages page) refl
   where
     by_test : (b : Bool) → is_listed pages page ≡ b → b ≡ false
@@ -288,13 +288,13 @@ not_listed nodes last keys counts pages page is placed none = by_test (is_listed
 -- and where it has none, a touch changes nothing
 pub untouched_whole : (nodes : Slab Node) (last : Option ℕ) (keys : List (Option ℕ)) (counts : PageCounts) (pages : List Listed)
     (page : Page)
-    → IsWhole nodes last keys counts pages → IsPlaced counts page → key_of keys counts page ≡ None → map (touched page) pages ≡ pages
+    → IsWholeRing nodes last keys counts pages → IsPlaced counts page → key_of keys counts page ≡ None → map (touched page) pages ≡ pages
 untouched_whole nodes last keys counts pages page is placed none =
     untouched page pages (not_listed nodes last keys counts pages page is placed none)
 
 -- a page is listed exactly where it has a key
 pub listed_is : (nodes : Slab Node) (last : Option ℕ) (keys : List (Option ℕ)) (counts : PageCounts) (pages : List Listed) (page : Page)
-    → IsWhole nodes last keys counts pages → IsPlaced counts page → is_some (key_of keys counts page) ≡ is_listed pages page
+    → IsWholeRing nodes last keys counts pages → IsPlaced counts page → is_some (key_of keys counts page) ≡ is_listed pages page
 listed_is nodes last keys counts pages page is placed = by_key (key_of keys counts page) refl
   where
     by_key : (key : Option ℕ) → key_of keys counts page ≡ key → is_some key ≡ is_listed pages page
@@ -304,7 +304,7 @@ listed_is nodes last keys counts pages page is placed = by_key (key_of keys coun
 -- its mark is that of its node
 pub young_is : (nodes : Slab Node) (last : Option ℕ) (keys : List (Option ℕ)) (counts : PageCounts) (pages : List Listed) (page : Page)
     (key : ℕ) (node : Node)
-    → IsWhole nodes last keys counts pages → IsPlaced counts page → key_of keys counts page ≡ Some key → get nodes key ≡ Some node
+    → IsWholeRing nodes last keys counts pages → IsPlaced counts page → key_of keys counts page ≡ Some key → get nodes key ≡ Some node
     → node.listed.young ≡ is_young pages page
 young_is nodes None keys counts pages page key node is placed at here =
     absurd (false≢true (ap (λ l. is_listed l page) (sym is.ring.ends) ∙ (is.table.keyed key page placed at).among))
@@ -359,15 +359,15 @@ pub record IsRemoved (new : Slab Node) (rest : Option ℕ) (keys : List (Option 
   pub young : Bool
   pub behind : List Listed
   pub splits : pages ≡ record { page = page; young = young } ∷ behind
-  pub whole : IsWhole new rest (set keys (place_of counts page) None) counts behind
+  pub whole : IsWholeRing new rest (set keys (place_of counts page) None) counts behind
 
 pub head_removed : (old new : Slab Node) (last : Option ℕ) (key : ℕ) (rest : Option ℕ) (keys : List (Option ℕ)) (counts : PageCounts)
     (pages : List Listed) (page : Page)
-    → IsWhole old last keys counts pages → pages ≢ [] → last ≡ Some key → Detaches old key page rest new
+    → IsWholeRing old last keys counts pages → pages ≢ [] → last ≡ Some key → Detaches old key page rest new
     → IsRemoved new rest keys counts page pages
 head_removed old new last key rest keys counts pages page is some at out =
     let parts = has_head pages some in
-    let is' : IsWhole old (Some key) keys counts (parts.head ∷ parts.rest) = rw (parts.splits, at) at is in
+    let is' : IsWholeRing old (Some key) keys counts (parts.head ∷ parts.rest) = rw (parts.splits, at) at is in
     let head : out.listed ≡ parts.head = (out.ring parts.head parts.rest is'.ring).0 in
     record {
       young = parts.head.young;
@@ -379,11 +379,11 @@ head_removed old new last key rest keys counts pages page is some at out =
 
 pub head_turned : (old new : Slab Node) (last : Option ℕ) (key : ℕ) (node : Node) (keys : List (Option ℕ)) (counts : PageCounts)
     (pages : List Listed)
-    → IsWhole old last keys counts pages → pages ≢ [] → last ≡ Some key → get old key ≡ Some node → Marks old node.next false new
-    → IsWhole new (Some node.next) keys counts (turn pages)
+    → IsWholeRing old last keys counts pages → pages ≢ [] → last ≡ Some key → get old key ≡ Some node → Marks old node.next false new
+    → IsWholeRing new (Some node.next) keys counts (turn pages)
 head_turned old new last key node keys counts pages is some at here marks =
     let parts = has_head pages some in
-    let is' : IsWhole old (Some key) keys counts (parts.head ∷ parts.rest) = rw (parts.splits, at) at is in
+    let is' : IsWholeRing old (Some key) keys counts (parts.head ∷ parts.rest) = rw (parts.splits, at) at is in
     let first = has_first old key node parts.head parts.rest is'.ring here in
     rw parts.splits (turned_whole old new key node first.node keys counts parts.head parts.rest is' here first.at marks)
 
@@ -404,7 +404,7 @@ few_listed nodes keys counts pages is = omega (arith, is.few, is.sized, is.fille
 
 -- what a kept list is
 pub sound : (nodes : Slab Node) (last : Option ℕ) (keys : List (Option ℕ)) (counts : PageCounts) (pages : List Listed)
-    → IsWhole nodes last keys counts pages → IsListing (record { pages = pages; counts = counts })
+    → IsWholeRing nodes last keys counts pages → IsListing (record { pages = pages; counts = counts })
 sound nodes last keys counts pages is = record {
   distinct = is.ring.distinct;
   placed = has_place nodes last (IsPlaced counts) pages is.ring (λ key x at. (is.table.indexed key x at).placed);
@@ -424,7 +424,7 @@ no_key_at n i = ⊎_elim (λ low. get_or-replicate n i None None low)
 
 -- an empty list
 pub empty_whole : (nodes : Slab Node) (counts : PageCounts) → nodes.slots ≡ [] → total counts < 2 ^ 32 → total counts ≤ nodes.capacity
-    → IsWhole nodes None (replicate (total counts) None) counts []
+    → IsWholeRing nodes None (replicate (total counts) None) counts []
 empty_whole nodes counts none few room = record {
   ring = record { ends = refl; distinct = none_distinct };
   table = record {

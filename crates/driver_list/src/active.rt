@@ -2,7 +2,7 @@
 
 ghost use Rattle.std.specs.Prelude.{◌≡◌, ◌≢◌, ◌+◌, ◌<◌, ◌≤◌, ◌^◌, [], false, length, sum, IfOk};
 ghost use Rattle.driver_list.specs.inner.Active.{IsActive, new_active, pushed, turned, with_touch, with_hold, without_holds};
-ghost use Rattle.driver_list.specs.inner.Active.{Removes, are_held};
+ghost use Rattle.driver_list.specs.inner.Active.{RemovesActive, are_held};
 ghost use Rattle.driver_list.specs.inner.Holds.{holder_of, most_of, own_of, joined, is_held};
 ghost use Rattle.driver_list.specs.inner.Listing.{head_of, is_young};
 ghost use Rattle.driver_list.specs.inner.Places.{IsPlaced};
@@ -34,11 +34,11 @@ impl Model for Active {
 
     ghost Value = { ActiveList };
 
-    ghost use Rattle.driver_list.specs.inner.KeptActive.{active_of, IsKept};
+    ghost use Rattle.driver_list.specs.inner.KeptActive.{active_of, IsActiveKept};
 
     ghost view = { active_of };
 
-    ghost invariant = { IsKept };
+    ghost invariant = { IsActiveKept };
 }
 
 impl Active {
@@ -88,7 +88,7 @@ impl Active {
     /// Takes the head off the list, and tells which page it was. There has to be a head. The page's holds stay.
     pub fn remove_head(&mut self) -> Page
         requires { self.old.pages ≢ [] }
-        ensures { Removes self.old result self.new }
+        ensures { RemovesActive self.old result self.new }
     {
         let page = self.list.remove_head();
         self.unheld -= u32::from(!self.holds.is_held(page));

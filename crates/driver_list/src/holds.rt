@@ -31,11 +31,11 @@ impl Model for Holds {
 
     ghost Value = { HoldTable };
 
-    ghost use Rattle.driver_list.specs.inner.KeptHolds.{holds_of, IsKept};
+    ghost use Rattle.driver_list.specs.inner.KeptHolds.{holds_of, AreHoldsKept};
 
     ghost view = { holds_of };
 
-    ghost invariant = { IsKept };
+    ghost invariant = { AreHoldsKept };
 }
 
 impl Holds {

@@ -30,11 +30,11 @@ impl Model for PageList {
 
     ghost Value = { Listing };
 
-    ghost use Rattle.driver_list.specs.inner.KeptList.{list_of, IsKept};
+    ghost use Rattle.driver_list.specs.inner.KeptList.{list_of, IsListKept};
 
     ghost view = { list_of };
 
-    ghost invariant = { IsKept };
+    ghost invariant = { IsListKept };
 }
 
 impl PageList {

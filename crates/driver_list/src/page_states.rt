@@ -40,11 +40,11 @@ impl Model for PageStates {
 
     ghost Value = { StateTable };
 
-    ghost use Rattle.driver_list.specs.inner.KeptStates.{table_of, IsKept};
+    ghost use Rattle.driver_list.specs.inner.KeptStates.{table_of, AreStatesKept};
 
     ghost view = { table_of };
 
-    ghost invariant = { IsKept };
+    ghost invariant = { AreStatesKept };
 }
 
 impl PageStates {

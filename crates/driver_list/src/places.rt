@@ -24,11 +24,11 @@ impl Model for Places {
 
     ghost Value = { PageCounts };
 
-    ghost use Rattle.driver_list.specs.inner.Ranges.{counts_of, IsKept};
+    ghost use Rattle.driver_list.specs.inner.Ranges.{counts_of, AreRangesKept};
 
     ghost view = { counts_of };
 
-    ghost invariant = { IsKept };
+    ghost invariant = { AreRangesKept };
 }
 
 impl Places {

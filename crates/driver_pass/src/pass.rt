@@ -47,11 +47,11 @@ impl Model for Pass {
 
     ghost Value = { PassView };
 
-    ghost use Rattle.driver_pass.specs.inner.Rooms.{HasRoom, view_of};
+    ghost use Rattle.driver_pass.specs.inner.Rooms.{PassHasRoom, view_of};
 
     ghost view = { view_of };
 
-    ghost invariant = { HasRoom };
+    ghost invariant = { PassHasRoom };
 }
 
 impl Pass {

@@ -49,7 +49,7 @@ use Rattle.driver_pass.specs.inner.Keeping.{keepers_by}
 use Rattle.driver_pass.specs.inner.Viewed.{aside_by, form_in, is_kicked, is_kicked_stage, pages_in, pass_by, PassView, taken_at}
 use Rattle.driver_reclaim.specs.declared.turns.PassTurn.{PassTurn}
 use Rattle.driver_reclaim.specs.declared.turns.PassTurn.TheVariants as turns
-use Rattle.driver_reclaim.specs.inner.Answers.{bits_of, IsStart, IsTry, IsTurn}
+use Rattle.driver_reclaim.specs.inner.Answers.{bits_of, IsStart, AnswersTry, IsTurn}
 use Rattle.driver_reclaim.specs.inner.Ready.{Ready}
 use Rattle.driver_reclaim.specs.inner.Turning.{AsideSays, DueSays, FormSays, IsAsideTurn, IsBegun, IsMadeTurn, IsScanned, IsThirdTurn}
 use Rattle.driver_reclaim.specs.inner.Turning.{IsTryTurn}
@@ -141,7 +141,7 @@ module _ (made : Making) (j : JobView) (past : List Entry) (v v' : PassView) (d 
   try_right one own at w k =
       subst Right (sym (due_there past one.page one.frame.0 (TriesOut one.page) at)) (rw own (by_slot k))
     where
-      by_slot : IsTryTurn one v d (state_of m) turn v' d' (state_of m') → IsTry made past d.slots one.frame.0 turn
+      by_slot : IsTryTurn one v d (state_of m) turn v' d' (state_of m') → AnswersTry made past d.slots one.frame.0 turn
           ⊎ (AllOut d.slots × (turn ≡ turns.Again waits.NoSlot))
       by_slot (inr none) = inr none
       by_slot (inl t) = inl (record {

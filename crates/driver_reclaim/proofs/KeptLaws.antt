@@ -63,8 +63,8 @@ use Rattle.driver_pass.specs.inner.Standing.{TellsEpoch}
 use Rattle.driver_pass.specs.inner.Viewed.{aside_by, is_kicked_stage, PassView}
 use Rattle.driver_reclaim.specs.declared.turns.PassTurn.{PassTurn}
 use Rattle.driver_reclaim.specs.declared.turns.PassTurn.TheVariants as turns
-use Rattle.driver_reclaim.specs.inner.Answers.{by_reclaimer, IsTry, IsTurn, track_turn}
-use Rattle.driver_reclaim.specs.inner.Kept.{Keeps, TurnKeeps}
+use Rattle.driver_reclaim.specs.inner.Answers.{by_reclaimer, AnswersTry, IsTurn, track_turn}
+use Rattle.driver_reclaim.specs.inner.Kept.{KeepsReclaim, TurnKeeps}
 use Rattle.driver_reclaim.specs.inner.Ready.{Ready}
 use Rattle.driver_reclaim.specs.inner.Turning.{AsideSays, DueSays, IsAsideTurn, IsDueLook, TurnSays}
 use Rattle.driver_reclaim.proofs.PassLaws.{due_aside, due_is, due_leaving, out_is}
@@ -114,7 +114,7 @@ PassTurnKeeps first j past p _ = Unit {0}
 
 -- which is due where the pass goes on
 pub pass_event : (first : ℕ) (j : JobView) (past : List Entry) (p : Pass) (event : Event) → pass j past ≡ p
-    → ages.ahead j past (outs_kept j past) ≡ ages.GoesOn → PassKeeps first j past p event → Keeps first j past event
+    → ages.ahead j past (outs_kept j past) ≡ ages.GoesOn → PassKeeps first j past p event → KeepsReclaim first j past event
 pass_event first j past p event same goes k = record {
   age =
       subst (λ x. IsAhead j past x event) (sym goes)
@@ -232,7 +232,7 @@ module _ (made : Making) (j : JobView) (past : List Entry) (v v' : PassView) (d 
       → Right (tries_out past g) → Keep (Tries g rest form) turn
   try_keeps g rest form own w allowed k = by_place (place past g) refl k
     where
-      tried : (f : ℕ) → place past g ≡ Leaving f → (t : IsTry made past d.slots f turn) → Keep (Tries g rest form) turn
+      tried : (f : ℕ) → place past g ≡ Leaving f → (t : AnswersTry made past d.slots f turn) → Keep (Tries g rest form) turn
       tried f at t =
           subst (Keep (Tries g rest form)) (sym t.told)
           (by_tests (is_drained past f) refl (t.version == 0) (next_version made.first_version past == 2 ^ 64))
@@ -299,7 +299,8 @@ module _ (made : Making) (j : JobView) (past : List Entry) (v v' : PassView) (d 
       by_place : (p : Place) → place past g ≡ p → Right (in_frame g (frame_leaving p) (TriesOut g)) → Keep (Tries g rest form) turn
       by_place (Leaving f) is l = by_slot (rw own at l)
         where
-          by_slot : IsTry made past d.slots f turn ⊎ (AllOut d.slots × (turn ≡ turns.Again waits.NoSlot)) → Keep (Tries g rest form) turn
+          by_slot : AnswersTry made past d.slots f turn ⊎ (AllOut d.slots × (turn ≡ turns.Again waits.NoSlot))
+              → Keep (Tries g rest form) turn
           by_slot (inl t) = tried f is t
           by_slot (inr none) = subst (Keep (Tries g rest form)) (sym none.1) tt
       by_place Absent is l = subst (Keep (Tries g rest form)) (sym l) tt
@@ -380,7 +381,7 @@ module _ (made : Making) (j : JobView) (past : List Entry) (v v' : PassView) (d 
       goes event h =
           subst (λ x. IsAhead j past x event) (sym (ap (λ x. ahead_by x (due_with j past (outs_kept j past))) none ∙ ap ahead_due is)) h
 
-      by_look : (look : Look) → is_look false false look ≡ true → Keeps made.first_epoch j past (Age page look)
+      by_look : (look : Look) → is_look false false look ≡ true → KeepsReclaim made.first_epoch j past (Age page look)
       by_look looks.Taken right = record {
         age = goes (Age page looks.Taken) refl;
         form = aside_kept past (pass j past) (Age page looks.Taken) (beside looks.Taken);

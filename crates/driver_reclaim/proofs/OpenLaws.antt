@@ -23,7 +23,7 @@ use Rattle.driver_pass.specs.declared.stages.Taken.{Taken}
 use Rattle.driver_pass.specs.inner.Standing.{IsAside}
 use Rattle.driver_pass.specs.inner.Viewed.{aside_by, is_sealing, PassView, sealing_at, sealing_in, sealing_with}
 use Rattle.driver_reclaim.specs.inner.Ready.{Ready}
-use Rattle.driver_reclaim.specs.inner.Stored.{IsOpen, IsStarted, StartsOut}
+use Rattle.driver_reclaim.specs.inner.Stored.{IsOpen, IsStartedPass, StartsOut}
 use Rattle.driver_reclaim.proofs.RowLaws.{same_frame}
 use Rattle.driver_reclaim.proofs.SeenLaws.{columns}
 use Rattle.driver_reclaim.proofs.StageLaws.{in_tries}
@@ -81,7 +81,7 @@ module _ (made : Making) (j : JobView) (past : List Entry) (v : PassView) (d : D
         placed = r.agrees.shows.placed one.page (ap is_absent out.at);
       }
 
-  pub can_store : is_sealing v ≡ true → IsOpen v (state_of m) × IsStarted v (state_of m) d.states.counts
+  pub can_store : is_sealing v ≡ true → IsOpen v (state_of m) × IsStartedPass v (state_of m) d.states.counts
   can_store h = by_one (sealing_in v) refl h
     where
       by_one : (o : Option Taken) → sealing_in v ≡ o → is_some o ≡ true

@@ -34,7 +34,7 @@ use Rattle.driver_pass.proofs.DueLaws.{can_be_due as able, dues_are}
 use Rattle.driver_pass.proofs.GoLaws.{entry_goes}
 use Rattle.driver_pass.proofs.KeptLaws.{told_keepers}
 use Rattle.driver_reclaim.specs.inner.Answers.{by_reclaimer}
-use Rattle.driver_reclaim.specs.inner.Kept.{Keeps}
+use Rattle.driver_reclaim.specs.inner.Kept.{KeepsReclaim}
 use Rattle.driver_reclaim.specs.inner.Ready.{Ready}
 use Rattle.driver_reclaim.proofs.SeenLaws.{starts_within, within}
 
@@ -86,7 +86,7 @@ module _ (made : Making) (j : JobView) (past : List Entry) (v : PassView) (d : D
   keepers_are next epoch form t is known found = told_keepers (drivers j) made j past d m tells v next epoch form t r.stands is known found
 
   -- behind an entry of the reclaimer by the rules the pass that went on with it stands for the longer list
-  pub goes : (event : Event) → Keeps made.first_epoch j past event
+  pub goes : (event : Event) → KeepsReclaim made.first_epoch j past event
       → StandsFor made.first_epoch (by_reclaimer event ∷ past) (gone_on d m event v) (pass_after j past actors.Reclaimer event
       (pass j past))
   goes event keeps =

@@ -74,7 +74,7 @@ use Rattle.driver_reclaim.specs.declared.turns.PassTurn.{PassTurn}
 use Rattle.driver_reclaim.specs.declared.turns.PassTurn.TheVariants as turns
 use Rattle.driver_reclaim.specs.inner.After.{cpu_of, kicked_past}
 use Rattle.driver_reclaim.specs.inner.Answers.{by_reclaimer}
-use Rattle.driver_reclaim.specs.inner.Kept.{Keeps, TurnKeeps}
+use Rattle.driver_reclaim.specs.inner.Kept.{KeepsReclaim, TurnKeeps}
 use Rattle.driver_reclaim.specs.inner.Ready.{Ready}
 use Rattle.driver_reclaim.specs.inner.Rests.{IsWait}
 use Rattle.driver_reclaim.specs.inner.Shown.{ShowsAfter, ShowsEntry}
@@ -292,7 +292,7 @@ module _ (made : Making) (j : JobView) (past : List Entry) (v v' : PassView) (d 
   -- ---- tries
 
   kept_event : (ev : Event) → TurnKeeps made.first_epoch j past turn → turn ≡ turn_of (by_reclaimer ev) ev
-      → Keeps made.first_epoch j past ev
+      → KeepsReclaim made.first_epoch j past ev
   kept_event ev kept told =
       keeps_of made.first_epoch j past (by_reclaimer ev) ev (subst (TurnKeeps made.first_epoch j past) told kept)
 
@@ -456,7 +456,7 @@ module _ (made : Making) (j : JobView) (past : List Entry) (v v' : PassView) (d 
       not_ours : is_ours d.slots (fixed_slot j one.page) ≡ false
       not_ours = fixed_aside j d past one.page r.agrees.shows (r.agrees.shows.placed one.page (ap is_absent t.at)) t.other
 
-      done : (answer : Answer) → Keeps made.first_epoch j past (Did (EwbStart one.frame at) answer)
+      done : (answer : Answer) → KeepsReclaim made.first_epoch j past (Did (EwbStart one.frame at) answer)
           → ShowsEntry j past (by_reclaimer (Did (EwbStart one.frame at) answer)) d d
       done answer keeps = record {
         shows = with_held j past d d (Did (EwbStart one.frame at) answer) refl r.held

@@ -36,7 +36,7 @@ use Rattle.driver_reclaim.specs.declared.turns.PassTurn.{PassTurn}
 use Rattle.driver_reclaim.specs.declared.turns.PassTurn.TheVariants as turns
 use Rattle.driver_reclaim.specs.inner.After.{cpu_of, kicked_past, StandsAfter, StandsBehind}
 use Rattle.driver_reclaim.specs.inner.Answers.{bits_of, by_reclaimer}
-use Rattle.driver_reclaim.specs.inner.Kept.{Keeps, TurnKeeps}
+use Rattle.driver_reclaim.specs.inner.Kept.{KeepsReclaim, TurnKeeps}
 use Rattle.driver_reclaim.specs.inner.Ready.{Ready}
 use Rattle.driver_reclaim.specs.inner.Rests.{IsWait}
 use Rattle.driver_reclaim.specs.inner.Turning.{turn_of, TurnSays}
@@ -48,7 +48,7 @@ use Rattle.driver_reclaim.proofs.StageLaws.{in_tries, InTries}
 -- ---- turns with an entry
 
 pub keeps_of : (first : ℕ) (j : JobView) (past : List Entry) (e : Entry) (ev : Event) → TurnKeeps first j past (turn_of e ev)
-    → Keeps first j past e.event
+    → KeepsReclaim first j past e.event
 keeps_of first j past e (Did (actions.EwbStart f slot) answer) k = k
 keeps_of first j past e (Refused action (why.NotTracked epoch older)) k = k
 keeps_of first j past e (Refused action (why.SlotOccupied version)) k = k

@@ -43,8 +43,8 @@ use Rattle.driver_pass.specs.declared.stages.Taken.{Taken}
 use Rattle.driver_pass.specs.inner.Noted.{instructed}
 use Rattle.driver_pass.specs.inner.Viewed.{aside_by, pages_in, PassView, sealing_in, still_out}
 use Rattle.driver_reclaim.specs.inner.Answers.{by_reclaimer}
-use Rattle.driver_reclaim.specs.inner.Ended.{IsEnded}
-use Rattle.driver_reclaim.specs.inner.Kept.{Keeps}
+use Rattle.driver_reclaim.specs.inner.Ended.{IsEndedOut}
+use Rattle.driver_reclaim.specs.inner.Kept.{KeepsReclaim}
 use Rattle.driver_reclaim.specs.inner.Ready.{Ready}
 use Rattle.driver_reclaim.specs.inner.Shown.{ShowsEntry}
 use Rattle.driver_reclaim.specs.inner.Stored.{IsStored, StoredSays}
@@ -104,7 +104,7 @@ module _ (made : Making) (j : JobView) (past : List Entry) (v : PassView) (d d' 
 
     -- it is due, and keeps the rules
     abbrev Given : Type 0
-    Given = IsNext (going_due j past (outs_kept j past) false) event × Keeps made.first_epoch j past event
+    Given = IsNext (going_due j past (outs_kept j past) false) event × KeepsReclaim made.first_epoch j past event
 
     ends : IsNext (leaving_due past one.page (λ f. Ends (Ewb (frame_at f)))) event
     ends = rw out.at refl
@@ -153,8 +153,8 @@ module _ (made : Making) (j : JobView) (past : List Entry) (v : PassView) (d d' 
         goes : ages.ahead j past (outs_kept j past) ≡ ages.GoesOn
         goes = ap (λ x. ahead_by x (due_with j past (outs_kept j past))) calm.0 ∙ ap ahead_due calm.1
 
-    ended : IsEnded made.first_epoch j past d e (instructed e.event v) d'
-    ended = subst (λ (x : Entry). IsEnded made.first_epoch j past d x (instructed x.event v) d') (sym entry_is) (record {
+    ended : IsEndedOut made.first_epoch j past d e (instructed e.event v) d'
+    ended = subst (λ (x : Entry). IsEndedOut made.first_epoch j past d x (instructed x.event v) d') (sym entry_is) (record {
       due = (given seals).0;
       kept = (given seals).1;
       stands = tells.goes made j past v d m r event (given seals).1;
@@ -164,12 +164,12 @@ module _ (made : Making) (j : JobView) (past : List Entry) (v : PassView) (d d' 
 pub stored_ends : (made : Making) (j : JobView) (past : List Entry) (v : PassView) (d d' : Driver) (m m' : Parts)
     (told told' : Option (List Call)) (before after : ℕ) (e : Entry) → Ready made j past v d m → Along (KeptAgeRule j) past
     → Along (KickRule j) past → StoredSays v (state_of m) d told before e (state_of m') d' told' after
-    → IsEnded made.first_epoch j past d e (instructed e.event v) d'
+    → IsEndedOut made.first_epoch j past d e (instructed e.event v) d'
 stored_ends made j past v d d' m m' told told' before after e r age kick says = by_one (sealing_in v) refl says
   where
     by_one : (o : Option Taken) → sealing_in v ≡ o
         → IsSomeAnd o (λ one. IsStored one (state_of m) d told before e (state_of m') d' told' after)
-        → IsEnded made.first_epoch j past d e (instructed e.event v) d'
+        → IsEndedOut made.first_epoch j past d e (instructed e.event v) d'
     by_one None is k = absurd k
     by_one (Some one) is k = ended made j past v d d' m m' told told' before after e r one (sealing_of v one is) k age kick
 

@@ -19,12 +19,12 @@ ghost use Rattle.driver_pass.specs.inner.Viewed.{is_amid, is_kicked, is_sealing,
 ghost use Rattle.driver_reclaim.specs.inner.After.{StandsAfter};
 ghost use Rattle.driver_reclaim.specs.inner.Answers.{IsTurn};
 ghost use Rattle.driver_reclaim.specs.inner.Asked.{look_told, places_by};
-ghost use Rattle.driver_reclaim.specs.inner.Ended.{IsEnded};
+ghost use Rattle.driver_reclaim.specs.inner.Ended.{IsEndedOut};
 ghost use Rattle.driver_reclaim.specs.inner.Kept.{TurnKeeps};
 ghost use Rattle.driver_reclaim.specs.inner.Ready.{CanStep, HasFirst, Ready};
 ghost use Rattle.driver_reclaim.specs.inner.Rests.{IsWait};
 ghost use Rattle.driver_reclaim.specs.inner.Shown.{ShowsAfter};
-ghost use Rattle.driver_reclaim.specs.inner.Stored.{IsOpen, IsStarted, StoredSays};
+ghost use Rattle.driver_reclaim.specs.inner.Stored.{IsOpen, IsStartedPass, StoredSays};
 ghost use Rattle.driver_reclaim.specs.inner.Turning.{TurnSays};
 ghost use Rattle.driver_reclaim.specs.declared.turns.PassTurn.{PassTurn};
 ghost use Rattle.sgx_types.specs.Making.{Making};
@@ -50,7 +50,7 @@ pub fn first_arrays_are_made()
 /// be ended.
 pub fn started_passes_can_be_stored()
     ensures { (made : Making) (j : JobView) (past : List Entry) (v : PassView) (d : Driver) (m : Parts) → Ready made j past v d m
-        → is_sealing v ≡ true → IsOpen v (state_of m) × IsStarted v (state_of m) d.states.counts }
+        → is_sealing v ≡ true → IsOpen v (state_of m) × IsStartedPass v (state_of m) d.states.counts }
 {}
 
 /// A slot is left wherever a TCS or REG page is tried: where driver and machine agree and no try found its slot in use, not all slots are
@@ -93,7 +93,7 @@ pub fn ends_are_right()
     ensures ended { (made : Making) (j : JobView) (past : List Entry) (v : PassView) (d d' : Driver) (m m' : Parts)
         (told told' : Option (List Call)) (before after : ℕ) (e : Entry) → Ready made j past v d m → Along (KeptAgeRule j) past
         → Along (KickRule j) past → StoredSays v (state_of m) d told before e (state_of m') d' told' after
-        → IsEnded made.first_epoch j past d e (instructed e.event v) d' }
+        → IsEndedOut made.first_epoch j past d e (instructed e.event v) d' }
     ensures spare { (v : PassView) (d d' : Driver) (m m' : Parts) (told told' : Option (List Call)) (before after : ℕ) (e : Entry)
         (n n' : ℕ) → StoredSays v (state_of m) d told before e (state_of m') d' told' after → n' + 1 ≡ n → still_out v ≤ n
         → still_out (instructed e.event v) ≤ n' }

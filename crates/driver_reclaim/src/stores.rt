@@ -6,7 +6,7 @@ ghost use Rattle.sgx_rules.specs.declared.entries.Entry.{Entry};
 ghost use Rattle.sgx_types.specs.Making.{Making};
 ghost use Rattle.machine_laws.specs.inner.Shape.{FitsApart, ShapeWithRules};
 ghost use Rattle.driver_pass.specs.inner.Noted.{instructed};
-ghost use Rattle.driver_reclaim.specs.inner.Stored.{frame_sealing, IsOpen, IsStarted, IsStored, IsToSeal, KeepsArrays, StartsOut};
+ghost use Rattle.driver_reclaim.specs.inner.Stored.{frame_sealing, IsOpen, IsStartedPass, IsStored, IsToSeal, KeepsArrays, StartsOut};
 ghost use Rattle.driver_reclaim.specs.inner.Stored.{StoredSays};
 
 use backing_store::backing::Backing;
@@ -47,7 +47,7 @@ pub fn stored<S: Backing>(
     store: &mut S,
     work: SealedWork,
 ) -> Entry
-    requires started { IsStarted pass.old (state_of machine.old) driver.old.states.counts }
+    requires started { IsStartedPass pass.old (state_of machine.old) driver.old.states.counts }
     requires place { 1 ≤ S.spare store.old }
     ensures says { StoredSays pass.old (state_of machine.old) driver.old (S.told store.old) (S.faults store.old) result
         (state_of machine.new) driver.new (S.told store.new) (S.faults store.new) }

@@ -8,7 +8,7 @@ ghost use Rattle.sgx_machine.specs.inner.Parts.{state_of};
 ghost use Rattle.driver_tables.specs.inner.Targets.{fixed_in, slot_here_in};
 ghost use Rattle.driver_tables.specs.inner.Carried.{Carries};
 ghost use Rattle.driver_reclaim.specs.inner.Ready.{HasFreeSlots};
-ghost use Rattle.driver_reclaim.specs.inner.Tried.{IsStarted, IsTried, keeps_slot, StartsAside};
+ghost use Rattle.driver_reclaim.specs.inner.Tried.{IsTriedStart, IsTried, keeps_slot, StartsAside};
 
 use driver_pass::stages::Taken;
 use driver_tables::driver::Driver;
@@ -69,7 +69,7 @@ pub(crate) fn start_aside(
     one: Taken,
 ) -> Entry
     requires can { StartsAside driver.now one }
-    ensures started { IsStarted (state_of machine.old) driver.now one result (state_of machine.new) }
+    ensures started { IsTriedStart (state_of machine.old) driver.now one result (state_of machine.new) }
     ensures goes { Carries (state_of machine.old) result (state_of machine.new) }
     ensures cpus { length machine.new.cpus ≡ length machine.old.cpus }
 {

@@ -8,7 +8,7 @@ ghost use Rattle.sgx_types.specs.Making.{Making};
 ghost use Rattle.sgx_rules.specs.Rules.{Along, RefusalRule};
 ghost use Rattle.job_grammar.specs.Jobs.{JobView};
 ghost use Rattle.driver_rules.specs.Ages.{AgeRule, AgeRuleBy, KeptAgeRule, KickRule};
-ghost use Rattle.driver_rules.specs.inner.Decided.{is_ended, keeps_age_by, keeps_kick, keeps_script, Tells};
+ghost use Rattle.driver_rules.specs.inner.Decided.{is_ended, keeps_age_by, keeps_kick, keeps_script, TellsIf};
 ghost use Rattle.driver_rules.specs.declared.waits.Why.{Why};
 ghost use Rattle.driver_rules.specs.Dues.{IsNext, Waits};
 ghost use Rattle.driver_rules.specs.inner.Reclaims.{going_due, is_refused};
@@ -18,10 +18,11 @@ ghost use Rattle.driver_rules.specs.Spares.{Outs, outs, outs_kept};
 
 /// The tests of the rules Script, Age and Kick, and of the end, pass exactly where these hold.
 pub fn tests_tell_rules()
-    ensures script { (j : JobView) (past : List Entry) (e : Entry) → Tells (keeps_script j past e) (ScriptRule j past e) }
-    ensures age { (j : JobView) (past : List Entry) (out : Outs) (e : Entry) → Tells (keeps_age_by j past out e) (AgeRuleBy j past out e) }
-    ensures kick { (j : JobView) (past : List Entry) (e : Entry) → Tells (keeps_kick j past e) (KickRule j past e) }
-    ensures ended { (j : JobView) (past : List Entry) → Tells (is_ended j past) (IsEnded j past) }
+    ensures script { (j : JobView) (past : List Entry) (e : Entry) → TellsIf (keeps_script j past e) (ScriptRule j past e) }
+    ensures age { (j : JobView) (past : List Entry) (out : Outs) (e : Entry)
+        → TellsIf (keeps_age_by j past out e) (AgeRuleBy j past out e) }
+    ensures kick { (j : JobView) (past : List Entry) (e : Entry) → TellsIf (keeps_kick j past e) (KickRule j past e) }
+    ensures ended { (j : JobView) (past : List Entry) → TellsIf (is_ended j past) (IsEnded j past) }
 {}
 
 /// What is due to the reclaimer and the rules Age and Kick agree, whatever is told of which slots are out: an entry that keeps both is what

@@ -15,7 +15,7 @@ use Rattle.sgx_types.specs.Pages.{same_slot}
 use Rattle.driver_slots.specs.inner.Keeper.{Adds, AllOut, array_at, ArrayView, count_all, count_free, free_of, Gives, HasSame}
 use Rattle.driver_slots.specs.inner.Keeper.{is_added, is_at_most, is_free_at, is_in, is_of, is_ours, is_ours_by, is_out, is_out_by}
 use Rattle.driver_slots.specs.inner.Keeper.{IsArray, IsLeast, Keeper, slots_of, Takes, va_slot}
-use Rattle.driver_slots.specs.inner.KeeperKept.{AreApart}
+use Rattle.driver_slots.specs.inner.KeeperKept.{ArraysAreApart}
 use Rattle.driver_slots.proofs.ArrayLaws.{free_within, least_first}
 use Rattle.free_map.proofs.Marks.{count_by-set_false, count_by-set_true}
 
@@ -26,7 +26,7 @@ no_array = record { va = 0; first = 0; free = [] }
 -- ---- pages by their numbers
 
 -- the place of a page is the first with its number
-pub place_is : (xs : List ArrayView) (k : ℕ) (d : ArrayView) → AreApart xs → k < length xs
+pub place_is : (xs : List ArrayView) (k : ℕ) (d : ArrayView) → ArraysAreApart xs → k < length xs
     → position_or_len (is_of (get_or xs k d).va) xs ≡ k
 place_is xs k d apart low =
     position_or_len_is (is_of (get_or xs k d).va) xs k d (omega arith)
@@ -35,7 +35,7 @@ place_is xs k d apart low =
     (λ low. eq-eqb (get_or xs k d).va (get_or xs k d).va refl)
 
 -- behind a write at a place of one with the same number
-pub find_written : (xs : List ArrayView) (k : ℕ) (y d : ArrayView) (va : ℕ) → AreApart xs → k < length xs → y.va ≡ (get_or xs k d).va
+pub find_written : (xs : List ArrayView) (k : ℕ) (y d : ArrayView) (va : ℕ) → ArraysAreApart xs → k < length xs → y.va ≡ (get_or xs k d).va
     → find (is_of va) (set xs k y) ≡ (if y.va == va then Some y else find (is_of va) xs)
 find_written xs k y d va apart low same = by_test (y.va == va) refl
   where
@@ -46,13 +46,13 @@ find_written xs k y d va apart low same = by_test (y.va == va) refl
     by_test false is = find_past (is_of va) xs k y d (ap (λ n. n == va) (sym same) ∙ is) is
 
 -- the page at a place
-pub find_there : (xs : List ArrayView) (k : ℕ) (d : ArrayView) → AreApart xs → k < length xs
+pub find_there : (xs : List ArrayView) (k : ℕ) (d : ArrayView) → ArraysAreApart xs → k < length xs
     → find (is_of (get_or xs k d).va) xs ≡ Some (get_or xs k d)
 find_there xs k d apart low =
     find_at (is_of (get_or xs k d).va) xs ∙ ap (slice_get xs) (place_is xs k d apart low) ∙ slice_get-get_or xs k d low
 
-pub apart_written : (xs : List ArrayView) (k : ℕ) (y d : ArrayView) → AreApart xs → k < length xs → y.va ≡ (get_or xs k d).va
-    → AreApart (set xs k y)
+pub apart_written : (xs : List ArrayView) (k : ℕ) (y d : ArrayView) → ArraysAreApart xs → k < length xs → y.va ≡ (get_or xs k d).va
+    → ArraysAreApart (set xs k y)
 apart_written xs k y d apart low same i j e li lj at =
     apart i j e (omega (arith, length-set xs k y)) (omega (arith, length-set xs k y)) (sym (va_at i li) ∙ at ∙ va_at j lj)
   where
@@ -110,7 +110,7 @@ given_at x i n low = ⊎_elim
 
 -- the pages are those of another keeper, but that the one at a place has other marks
 pub record IsWritten (old new : Keeper) (k : ℕ) (x y : ArrayView) : Type 0 where
-  pub apart : AreApart old.arrays
+  pub apart : ArraysAreApart old.arrays
   pub arrays : All IsArray old.arrays
   pub low : k < length old.arrays
   pub is : (d : ArrayView) → get_or old.arrays k d ≡ x
@@ -376,7 +376,7 @@ not_out (Some a) i ours free = (a, refl, by_mark (is_free_at a i) (sym (ap (λ b
 le_is : (m n : ℕ) → m ≤ n → nat_le m n ≡ true
 le_is m n low = grind arith
 
-pub is_least : (keeper : Keeper) (k i : ℕ) (d : ArrayView) → k < length keeper.arrays → AreApart keeper.arrays
+pub is_least : (keeper : Keeper) (k i : ℕ) (d : ArrayView) → k < length keeper.arrays → ArraysAreApart keeper.arrays
     → ((j : ℕ) → j < length keeper.arrays → (free_of (get_or keeper.arrays j d) == 0) ≡ false
     → (get_or keeper.arrays k d).va ≤ (get_or keeper.arrays j d).va)
     → position (λ b. b) (get_or keeper.arrays k d).free ≡ Some i → IsLeast keeper (va_slot (get_or keeper.arrays k d).va i)

@@ -5,14 +5,14 @@ use Rattle.std.specs.List.{All, find}
 use Rattle.std.proofs.lemmas.Bool.{cases_eq, false≢true}
 use Rattle.std.proofs.lemmas.List.{get_or_default, get_or_push, get_or_append_left, length-set, length_push}
 use Rattle.driver_slots.specs.inner.Keeper.{ArrayView, is_added, is_free_at, is_in, is_of, is_ours_by, is_out_by, IsArray, Keeper}
-use Rattle.driver_slots.specs.inner.KeeperKept.{AreApart, IsAllFree}
+use Rattle.driver_slots.specs.inner.KeeperKept.{ArraysAreApart, IsAllFree}
 use Rattle.driver_slots.proofs.KeeperLaws.{all_written, apart_written, find_there, found_place, IsWritten}
 
 abbrev pub with_arrays : List ArrayView → ℕ → Keeper
 with_arrays xs room = record { arrays = xs; room = room }
 
 pub record IsPlace (xs : List ArrayView) (k : ℕ) (x : ArrayView) : Type 0 where
-  pub apart : AreApart xs
+  pub apart : ArraysAreApart xs
   pub arrays : All IsArray xs
   pub low : k < length xs
   pub is : x ≡ get_or xs k x
@@ -34,7 +34,7 @@ written_is xs maps k x y at va first fits = record {
 pub fits_there : (xs : List ArrayView) (k : ℕ) (x : ArrayView) → IsPlace xs k x → IsArray x
 fits_there xs k x at = subst IsArray (sym at.is) (at.arrays k x at.low)
 
-pub apart_still : (xs : List ArrayView) (k : ℕ) (x y : ArrayView) → IsPlace xs k x → y.va ≡ x.va → AreApart (set xs k y)
+pub apart_still : (xs : List ArrayView) (k : ℕ) (x y : ArrayView) → IsPlace xs k x → y.va ≡ x.va → ArraysAreApart (set xs k y)
 apart_still xs k x y at va = apart_written xs k y x at.apart at.low (va ∙ ap (λ (a : ArrayView). a.va) at.is)
 
 pub arrays_still : (xs : List ArrayView) (k : ℕ) (x y : ArrayView) → IsPlace xs k x → y.va ≡ x.va → y.first ≡ x.first → IsArray y
@@ -90,8 +90,8 @@ in_from a i h = grind arith
 
 -- ---- a page more
 
-pub apart_more : (xs : List ArrayView) (va : ℕ) (y : ArrayView) → AreApart xs → y.va ≡ va → is_added (with_arrays xs 0) va ≡ false
-    → AreApart (xs ++ y ∷ [])
+pub apart_more : (xs : List ArrayView) (va : ℕ) (y : ArrayView) → ArraysAreApart xs → y.va ≡ va → is_added (with_arrays xs 0) va ≡ false
+    → ArraysAreApart (xs ++ y ∷ [])
 apart_more xs va y apart number fresh i k d li lk same =
     by_places (cases_eq i (length xs)) (cases_eq k (length xs))
   where

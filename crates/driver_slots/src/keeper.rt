@@ -29,11 +29,11 @@ impl Model for SlotKeeper {
 
     ghost Value = { Keeper };
 
-    ghost use Rattle.driver_slots.specs.inner.KeeperKept.{keeper_of, IsKept};
+    ghost use Rattle.driver_slots.specs.inner.KeeperKept.{keeper_of, IsKeeperKept};
 
     ghost view = { keeper_of };
 
-    ghost invariant = { IsKept };
+    ghost invariant = { IsKeeperKept };
 }
 
 impl SlotKeeper {

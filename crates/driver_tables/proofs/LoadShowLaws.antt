@@ -27,12 +27,13 @@ use Rattle.driver_list.specs.declared.ring.Listed as ring
 use Rattle.driver_list.specs.declared.page_states.PageState.TheVariants as states
 use Rattle.driver_list.specs.inner.Keeping.{Kept, keeping, kept_at, page_kept}
 use Rattle.driver_list.specs.inner.Places.{IsPlaced}
-use Rattle.driver_list.specs.inner.States.{with_state}
+use Rattle.driver_list.specs.inner.States.{with_state, StateTable}
+use Rattle.driver_list.specs.inner.Active.{ActiveList, pushed}
 use Rattle.driver_rules.specs.Places.{Away, is_here, Loading, place}
 use Rattle.driver_rules.specs.Turns.{fails_with, last_by, last_of, load_of}
 use Rattle.driver_laws.specs.inner.Agrees.{Keeping, ShowsSlots, loaded_by}
 use Rattle.driver_laws.specs.inner.Keeps.{GivesIf}
-use Rattle.driver_slots.specs.inner.Keeper.{is_ours}
+use Rattle.driver_slots.specs.inner.Keeper.{is_ours, Keeper}
 use Rattle.driver_laws.specs.inner.Kinds.{CanMove}
 use Rattle.driver_laws.specs.inner.Sound.{IsSound}
 use Rattle.driver_laws.proofs.KeeperGives.{shows_eld}
@@ -46,7 +47,7 @@ use Rattle.driver_laws.proofs.SoundLaws.{entry_of, load_start}
 use Rattle.driver_tables.specs.declared.driver.Driver.{Driver}
 use Rattle.driver_tables.specs.inner.Moves.{IsLoaded, IsLoadedAside, with_here, with_load}
 use Rattle.driver_tables.specs.inner.Tables.{ShowsTables, listed}
-use Rattle.driver_tables.proofs.ShowLaws.{gives_none, shows_moved, shows_quiet, shows_still}
+use Rattle.driver_tables.proofs.ShowLaws.{gives_none, shows_moved, shows_quiet, shows_still, IsSameJob}
 
 -- ---- copies
 
@@ -112,6 +113,19 @@ slot_page past f page slot at sound =
     let start = load_start past f.0 page slot sound at in
     subst (λ (s : VaSlot). is_here (place past (va_page s.va)) ≡ true) start.2 (sound.arrays.named f.0 start.0 start.1)
 
+-- the tables are of the same job where a copy is dropped and a page came back
+same_job : (old new : Driver) (c : Cpu) (active : ActiveList) (table : StateTable) (slots : Keeper)
+    → new ≡ record old { kept = slice_set old.kept c.0 None; active = active; states = table; slots = slots }
+    → active.counts ≡ old.active.counts → IsSameJob old new
+same_job old new c active table slots is counts = record {
+  active = ap (λ (d : Driver). d.active.counts) is ∙ counts;
+  rooms = ap (λ (d : Driver). length d.kept) is ∙ length-set old.kept c.0 None;
+  marks = ap (λ (d : Driver). d.marks) is;
+  cpus = ap (λ (d : Driver). d.cpus) is;
+  enclaves = ap (λ (d : Driver). d.enclaves) is;
+  arrays = ap (λ (d : Driver). d.va_pages) is;
+}
+
 -- the end of a load that was not refused, of a TCS or REG page
 pub shows_load_end : (k : Keeping) (j : JobView) (old new : Driver) (past : List Entry) (c : Cpu) (f : Frame) (page : Page) (version : ℕ)
     (tag : List ℕ) (slot : VaSlot) → is_own_page page ≡ true → CanMove past (Did (Eld f) (Moved page version tag))
@@ -123,14 +137,8 @@ shows_load_end k j old new past c f page version tag slot own can at sound here 
     (record {
       here = place-eld past (actors.Cpu c) f page version tag;
       others = λ q other. place-eld-other past (actors.Cpu c) f page q version tag other;
-    }) (ap (λ (d : Driver). d.states) is.others) (record {
-      active = ap (λ (d : Driver). d.active.counts) is.others;
-      rooms = ap (λ (d : Driver). length d.kept) is.others ∙ length-set old.kept c.0 None;
-      marks = ap (λ (d : Driver). d.marks) is.others;
-      cpus = ap (λ (d : Driver). d.cpus) is.others;
-      enclaves = ap (λ (d : Driver). d.enclaves) is.others;
-      arrays = ap (λ (d : Driver). d.va_pages) is.others;
-    }) (record {
+    }) (ap (λ (d : Driver). d.states) is.others)
+    (same_job old new c (pushed old.active page) (with_state old.states page (states.Here f)) new.slots is.others refl) (record {
       list =
           ap (λ (d : Driver). map listed d.active.pages) is.others ∙ map_push old.active.pages
           ∙ ap (λ xs. xs ++ record { page = page; young = false } ∷ []) t.list
@@ -161,14 +169,8 @@ shows_load_end_aside k j old new past c f page version tag slot aside can at sou
     (record {
       here = place-eld past (actors.Cpu c) f page version tag;
       others = λ q other. place-eld-other past (actors.Cpu c) f page q version tag other;
-    }) (ap (λ (d : Driver). d.states) is.others) (record {
-      active = ap (λ (d : Driver). d.active.counts) is.others;
-      rooms = ap (λ (d : Driver). length d.kept) is.others ∙ length-set old.kept c.0 None;
-      marks = ap (λ (d : Driver). d.marks) is.others;
-      cpus = ap (λ (d : Driver). d.cpus) is.others;
-      enclaves = ap (λ (d : Driver). d.enclaves) is.others;
-      arrays = ap (λ (d : Driver). d.va_pages) is.others;
-    }) (record {
+    }) (ap (λ (d : Driver). d.states) is.others)
+    (same_job old new c old.active (with_state old.states page (states.Here f)) new.slots is.others refl) (record {
       list =
           ap (λ (d : Driver). map listed d.active.pages) is.others ∙ t.list
           ∙ sym (listed-eld-other past (actors.Cpu c) f page version tag aside sound);

@@ -49,7 +49,7 @@ use Rattle.driver_laws.proofs.MoveLaws.{place-taken-other}
 use Rattle.driver_laws.proofs.MoveLaws.{place-young}
 use Rattle.driver_laws.proofs.SoundLaws.{entry_of, head_here, frame_of_here}
 use Rattle.driver_tables.specs.declared.driver.Driver.{Driver}
-use Rattle.driver_tables.specs.inner.Moves.{IsLooked, IsLookedAside, IsTaken, frame_in, leaving_of}
+use Rattle.driver_tables.specs.inner.Moves.{IsLooked, IsLookedAside, IsTakenOff, frame_in, leaving_of}
 use Rattle.driver_tables.specs.inner.Tables.{ShowsTables, listed, place_in}
 
 -- the frame of a page that is here
@@ -367,7 +367,7 @@ module _ (k : Keeping) (j : JobView) (old new : Driver) (past : List Entry) (pag
   at_head : (f : ℕ) × (place past page ≡ Here f)
   at_head = head_here (active past) (place past) page sound.list head
 
-  taken : IsTaken old page new → IsPlaced old.states.counts page
+  taken : IsTakenOff old page new → IsPlaced old.states.counts page
       → ShowsTables k j new (entry_of actors.Reclaimer (Age page looks.Taken) ∷ past)
   taken is here =
       shows_moved k j old new past (entry_of actors.Reclaimer (Age page looks.Taken)) page (leaving_of (state_of old.states page)) t here

@@ -73,7 +73,7 @@ use Rattle.driver_tables.specs.inner.Tables.{IsNew}
 use Rattle.driver_tables.specs.declared.driver.Driver.{Driver}
 use Rattle.driver_tables.proofs.BuildLaws.{add_own, add_placed, arrays_before, create_placed}
 use Rattle.job_grammar.specs.inner.Valid.{IsValid}
-use Rattle.due_notes.specs.inner.Arrays.{HasAsMany, KeepsArrays, is_move}
+use Rattle.due_notes.specs.inner.Arrays.{HasAsMany, KeepsKeeper, is_move}
 use Rattle.due_notes.specs.inner.Plain.{is_reclaimer}
 use Rattle.due_notes.proofs.EntryLaws.{AddsOwn, ages, is_init}
 
@@ -113,7 +113,7 @@ module _ (k : Keeping) (j : JobView) (keeper : Keeper) (past : List Entry) (a : 
       by_test false is = refl
 
   -- .. and the keeper has room for it
-  pub array_room : KeepsArrays j keeper past → length keeper.arrays < keeper.room
+  pub array_room : KeepsKeeper j keeper past → length keeper.arrays < keeper.room
   array_room keeps =
       let k = keeps array_first in
       let pages = k.pages in
@@ -154,7 +154,7 @@ module _ (j : JobView) (past : List Entry) (a : Actor) (e n : ℕ) (f : Frame) (
     (answer : Answer) (other : is_reclaimer a ≡ false)
     (script : ScriptRule j past (did_by a (actions.Add e n f kind perm init) answer)) where
   -- all version array pages were made before it
-  pub arrays_made : (k : Keeping) (keeper : Keeper) → AddsAreBuilt j past → ShowsSlots k j keeper past → KeepsArrays j keeper past
+  pub arrays_made : (k : Keeping) (keeper : Keeper) → AddsAreBuilt j past → ShowsSlots k j keeper past → KeepsKeeper j keeper past
       → vas_made past ≡ va_pages j
   arrays_made k keeper adds slots keeps = by_test (has_pages past) refl
     where
@@ -303,8 +303,8 @@ none_before e past none = (neither (is_add e.event) (has_pages past) none).1
 
 pub arrays_go_on : (j : JobView) (old new : Keeper) (past : List Entry) (a : Actor) (event : Event) → is_reclaimer a ≡ false
     → ScriptRule j past (record { actor = a; event = event }) → is_epa_refused event ≡ false
-    → length new.arrays ≡ vas_after event (length old.arrays) → new.room ≡ old.room → KeepsArrays j old past
-    → KeepsArrays j new (record { actor = a; event = event } ∷ past)
+    → length new.arrays ≡ vas_after event (length old.arrays) → new.room ≡ old.room → KeepsKeeper j old past
+    → KeepsKeeper j new (record { actor = a; event = event } ∷ past)
 arrays_go_on j old new past a event other script done pages room keeps none =
     let e : Entry = record { actor = a; event = event } in
     let k = keeps (none_before e past none) in
@@ -320,7 +320,7 @@ vas_same _ n epa = refl
 
 -- an entry of another actor than the builder makes none
 pub arrays_stay : (j : JobView) (old new : Keeper) (past : List Entry) (e : Entry) → is_builder e.actor ≡ false → is_epa e.event ≡ false
-    → length new.arrays ≡ length old.arrays → new.room ≡ old.room → KeepsArrays j old past → KeepsArrays j new (e ∷ past)
+    → length new.arrays ≡ length old.arrays → new.room ≡ old.room → KeepsKeeper j old past → KeepsKeeper j new (e ∷ past)
 arrays_stay j old new past e other epa pages room keeps none =
     let k = keeps (none_before e past none) in
     let same : vas_made (e ∷ past) ≡ vas_made past = vas_same e.event (vas_made past) epa in
@@ -336,7 +336,7 @@ arrays_stay j old new past e other epa pages room keeps none =
 
 -- where a TCS or REG page was added there is nothing to keep
 pub arrays_late : (j : JobView) (keeper : Keeper) (past : List Entry) (e : Entry) (g : Page) → IsSound past → is_own_page g ≡ true
-    → is_absent (place past g) ≡ false → KeepsArrays j keeper (e ∷ past)
+    → is_absent (place past g) ≡ false → KeepsKeeper j keeper (e ∷ past)
 arrays_late j keeper past e g sound own there none =
     absurd (false≢true (sym (none_before e past none)
     ∙ added_has_pages past g (sym (own_there past g own) ∙ sound.made g ∙ ap not there)))
@@ -353,10 +353,10 @@ move_makes_none _ h = refl
 -- a page that is there is moved: where it is a SECS or a version array page, the keeper has as many pages as before
 pub arrays_moved : (j : JobView) (old new : Keeper) (past : List Entry) (e : Entry) (g : Page) → IsSound past
     → is_builder e.actor ≡ false → is_move e.event ≡ true → is_absent (place past g) ≡ false
-    → (is_own_page g ≡ false → HasAsMany old new) → KeepsArrays j old past → KeepsArrays j new (e ∷ past)
+    → (is_own_page g ≡ false → HasAsMany old new) → KeepsKeeper j old past → KeepsKeeper j new (e ∷ past)
 arrays_moved j old new past e g sound other moves there beside keeps = by_own (is_own_page g) refl
   where
-    by_own : (b : Bool) → is_own_page g ≡ b → KeepsArrays j new (e ∷ past)
+    by_own : (b : Bool) → is_own_page g ≡ b → KeepsKeeper j new (e ∷ past)
     by_own true own = arrays_late j new past e g sound own there
     by_own false is =
         let many = beside is in arrays_stay j old new past e other (move_makes_none e.event moves) many.pages many.room keeps
@@ -378,26 +378,26 @@ tried_out past g Sealing h = record { frame = h.frame; leaving = h.leaving }
 -- each entry of the reclaimer is of a page of its pass, which was added, or of a SECS or a version array page
 pub arrays_in_pass : (j : JobView) (out : Outs) (old new : Keeper) (past : List Entry) (event : Event) → IsSound past
     → KeepsPages past (pass j past) → AgeRuleBy j past out (record { actor = actors.Reclaimer; event = event })
-    → (is_aside (aside past) event ≡ true → HasAsMany old new) → KeepsArrays j old past
-    → KeepsArrays j new (record { actor = actors.Reclaimer; event = event } ∷ past)
+    → (is_aside (aside past) event ≡ true → HasAsMany old new) → KeepsKeeper j old past
+    → KeepsKeeper j new (record { actor = actors.Reclaimer; event = event } ∷ past)
 arrays_in_pass j out old new past event sound pages age many keeps =
     by_aside (aside past) pages.aside (due_with j past out)
     (λ g. due_is_other j past out (last_event past actors.Reclaimer) g) event age many
   where
     late : (ev : Event) (g : Page) → is_own_page g ≡ true → is_absent (place past g) ≡ false
-        → KeepsArrays j new (record { actor = actors.Reclaimer; event = ev } ∷ past)
+        → KeepsKeeper j new (record { actor = actors.Reclaimer; event = ev } ∷ past)
     late ev g own there = arrays_late j new past (record { actor = actors.Reclaimer; event = ev }) g sound own there
 
-    stay : (ev : Event) → is_epa ev ≡ false → HasAsMany old new → KeepsArrays j new (record { actor = actors.Reclaimer; event = ev } ∷ past)
+    stay : (ev : Event) → is_epa ev ≡ false → HasAsMany old new → KeepsKeeper j new (record { actor = actors.Reclaimer; event = ev } ∷ past)
     stay ev epa same = arrays_stay j old new past (record { actor = actors.Reclaimer; event = ev }) refl epa same.pages same.room keeps
 
     looked : (page : Page) (look : Look) → head_of (active past) ≡ Some page
-        → KeepsArrays j new (record { actor = actors.Reclaimer; event = Age page look } ∷ past)
+        → KeepsKeeper j new (record { actor = actors.Reclaimer; event = Age page look } ∷ past)
     looked page look head = late (Age page look) page (head_own past page sound head) (head_there past page sound head)
 
     -- an entry of a pass, while no other page is on its way out
     by_pass : HasAside past NoneAside → (at : Pass) → HasPages past at → (ev : Event) → LookOf j past ev → InPass past at ev
-        → KeepsArrays j new (record { actor = actors.Reclaimer; event = ev } ∷ past)
+        → KeepsKeeper j new (record { actor = actors.Reclaimer; event = ev } ∷ past)
     by_pass own (Between works) h (Age page look) l n = looked page look l.head
     by_pass own (Between works) h _ l n = absurd n
     by_pass own (Scan left taken) h (Age page look) l n = looked page look l.head
@@ -411,7 +411,7 @@ arrays_in_pass j out old new past event sound pages age many keeps =
 
     by_aside : (a : Aside) → HasAside past a → (due : Option Page) → ((g : Page) → due ≡ Some g → is_own_page g ≡ false) → (ev : Event)
         → IsAhead j past (ahead_by a due) ev → (is_aside a ev ≡ true → HasAsMany old new)
-        → KeepsArrays j new (record { actor = actors.Reclaimer; event = ev } ∷ past)
+        → KeepsKeeper j new (record { actor = actors.Reclaimer; event = ev } ∷ past)
     by_aside NoneAside h None others ev n same = by_pass h (pass j past) pages.pages ev n.look n.in_pass
     by_aside NoneAside h (Some g) others (Age page looks.NoRoom) n same =
         stay (Age page looks.NoRoom) refl (same (ap not (ap is_own_page n ∙ others g refl)))
@@ -426,7 +426,7 @@ arrays_in_pass j out old new past event sound pages age many keeps =
     by_aside (IsGoing g) h due others (Did (actions.Ewb f) answer) n same = stay (Did (actions.Ewb f) answer) refl (same refl)
     by_aside (IsGoing g) h due others _ n same = absurd n
 
-pub arrays_begin : (j : JobView) (d : Driver) → IsNew j d → KeepsArrays j d.slots []
+pub arrays_begin : (j : JobView) (d : Driver) → IsNew j d → KeepsKeeper j d.slots []
 arrays_begin j d new none = record {
   built = refl;
   pages = ap (λ (k : Keeper). length k.arrays) new.slots;

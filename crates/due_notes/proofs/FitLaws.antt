@@ -41,7 +41,7 @@ use Rattle.due_tables.specs.inner.Due.{IsOrderly, IsShown}
 use Rattle.due_tables.specs.inner.Holding.{mode_of, page_inside_of}
 use Rattle.due_tables.specs.inner.Shown.{ShowsTurns}
 use Rattle.due_tables.specs.inner.TcsTurns.{tcs_at}
-use Rattle.due_notes.specs.inner.Arrays.{KeepsArrays}
+use Rattle.due_notes.specs.inner.Arrays.{KeepsKeeper}
 use Rattle.due_notes.specs.inner.Noted.{CanNoteTables, HasSecsHere, KeepsFrom}
 use Rattle.due_notes.specs.inner.Noting.{Fits, FitsAnswer, FitsBoth, FitsEvent, offset_inside_of}
 use Rattle.due_notes.specs.inner.Plain.{is_reclaimer}
@@ -53,7 +53,7 @@ use Rattle.due_notes.proofs.UseLaws.{UsesBoth, UsesOne, enter_use, fill_use, loa
 module _ (keeping : Keeping) (j : JobView) (past : List Entry) (d : Driver) (m : Parts) (t : Turns) (shown : IsShown keeping j past d m)
     (shows : ShowsTurns j past t)
     (orderly : IsOrderly j past)
-    (arrays : KeepsArrays j d.slots past) (first : ℕ) (keeps : KeepsFrom keeping first) where
+    (arrays : KeepsKeeper j d.slots past) (first : ℕ) (keeps : KeepsFrom keeping first) where
   here : (g : Page) → There past g → IsPlaced d.active.counts g
   here g there = subst (λ counts. IsPlaced counts g) shown.shows.counts (shown.shows.placed g there)
 

@@ -64,7 +64,7 @@ use Rattle.due_tables.specs.inner.Due.{IsOrderly, IsShown}
 use Rattle.due_tables.specs.inner.Holding.{mode_of, page_inside_of}
 use Rattle.due_tables.specs.inner.Shown.{ShowsTurns}
 use Rattle.due_tables.specs.inner.TcsTurns.{tcs_at}
-use Rattle.due_notes.specs.inner.Arrays.{KeepsArrays}
+use Rattle.due_notes.specs.inner.Arrays.{KeepsKeeper}
 use Rattle.due_notes.specs.inner.Noted.{AreNoted, CanNoteTables, HasSecsHere, KeepsFrom}
 use Rattle.due_notes.specs.inner.Noting.{Does, DoesEvent, MakesArray, first_slot, offset_inside_of, touching, with_page}
 use Rattle.due_notes.specs.inner.Plain.{is_plain, is_reclaimer}
@@ -113,13 +113,13 @@ same_moves e old new plain counts kept lost calls = record {
 still_noted : (k : Keeping) (j : JobView) (past : List Entry) (old : Driver) (e : Entry) (new : Driver)
     → is_plain_event e.event ≡ true → ShowsTables k j new (e ∷ past) → new.active.own ≡ old.active.own → new.slots ≡ old.slots
     → new.states ≡ old.states
-    → new.kept ≡ old.kept → KeepsArrays j old.slots (e ∷ past) → AreNoted k j past old e new
+    → new.kept ≡ old.kept → KeepsKeeper j old.slots (e ∷ past) → AreNoted k j past old e new
 still_noted k j past old e new plain shows own slots states kept arrays = record {
   shows = shows;
   counts = same_counts past e.event (count_out old.slots) (count_out new.slots) plain (ap count_out slots);
   own = own;
   moves = same_moves e old new plain (ap (λ (s : _). s.counts) states) kept (λ g placed. ap (λ s. is_lost_state (page_state s g)) states);
-  arrays = subst (λ k. KeepsArrays j k (e ∷ past)) (sym slots) arrays;
+  arrays = subst (λ k. KeepsKeeper j k (e ∷ past)) (sym slots) arrays;
 }
 
 -- an entry that makes no version array page
@@ -161,14 +161,14 @@ refused_none past action refusal plain = refl
 module _ (keeping : Keeping) (j : JobView) (past : List Entry) (d : Driver) (m : Parts) (t : Turns) (shown : IsShown keeping j past d m)
     (shows : ShowsTurns j past t)
     (orderly : IsOrderly j past)
-    (arrays : KeepsArrays j d.slots past) (stand : VersionsStand past) (first : ℕ) (keeps : KeepsFrom keeping first) where
+    (arrays : KeepsKeeper j d.slots past) (stand : VersionsStand past) (first : ℕ) (keeps : KeepsFrom keeping first) where
   tables : ShowsTables keeping j d past
   tables = shown.shows
 
   -- the keeper as it was stands for a done instruction that makes no version array page
   kept_arrays : (a : Actor) (action : Action) (answer : Answer) → is_reclaimer a ≡ false → is_plain action ≡ true
       → ScriptRule j past (did_by a action answer) → ((f : Frame) → action ≡ actions.Epa f → ⊥)
-      → KeepsArrays j d.slots (did_by a action answer ∷ past)
+      → KeepsKeeper j d.slots (did_by a action answer ∷ past)
   kept_arrays a action answer other plain script none =
       arrays_go_on j d.slots d.slots past a (Did action answer) other script refl
       (same_made (Did action answer) (length d.slots.arrays) (λ f x is. none f (action_same f x is))) refl arrays

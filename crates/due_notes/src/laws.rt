@@ -27,7 +27,7 @@ ghost use Rattle.sgx_rules.specs.declared.entries.Entry.{Entry};
 ghost use Rattle.sgx_rules.specs.declared.entries.Event.{Event};
 ghost use Rattle.sgx_types.specs.declared.names.Page.{Page};
 ghost use Rattle.sgx_types.specs.Pages.{is_own_page};
-ghost use Rattle.due_notes.specs.inner.Arrays.{HasAsMany, KeepsArrays, is_move};
+ghost use Rattle.due_notes.specs.inner.Arrays.{HasAsMany, KeepsKeeper, is_move};
 ghost use Rattle.due_notes.specs.inner.Noted.{HasSecsHere, KeepsFrom};
 ghost use Rattle.due_notes.specs.inner.Plain.{is_reclaimer};
 ghost use Rattle.script_rules.specs.Script.{is_builder};
@@ -38,18 +38,18 @@ ghost use Rattle.driver_slots.specs.inner.Keeper.{Keeper};
 /// keeper: so it is behind an entry that moves one, behind each of the reclaimer's in a pass, and wherever one is not absent. Behind an
 /// entry that moves a SECS or a version array page the keeper has as many pages as before.
 pub fn arrays_are_kept()
-    ensures first { (j : JobView) (d : Driver) → IsNew j d → KeepsArrays j d.slots [] }
+    ensures first { (j : JobView) (d : Driver) → IsNew j d → KeepsKeeper j d.slots [] }
     ensures others { (j : JobView) (old new : Keeper) (past : List Entry) (e : Entry) → is_builder e.actor ≡ false → is_epa e.event ≡ false
-        → length new.arrays ≡ length old.arrays → new.room ≡ old.room → KeepsArrays j old past → KeepsArrays j new (e ∷ past) }
+        → length new.arrays ≡ length old.arrays → new.room ≡ old.room → KeepsKeeper j old past → KeepsKeeper j new (e ∷ past) }
     ensures moved { (j : JobView) (old new : Keeper) (past : List Entry) (e : Entry) (g : Page) → IsSound past
         → is_builder e.actor ≡ false → is_move e.event ≡ true → is_absent (place past g) ≡ false
-        → (is_own_page g ≡ false → HasAsMany old new) → KeepsArrays j old past → KeepsArrays j new (e ∷ past) }
+        → (is_own_page g ≡ false → HasAsMany old new) → KeepsKeeper j old past → KeepsKeeper j new (e ∷ past) }
     ensures passes { (j : JobView) (out : Outs) (old new : Keeper) (past : List Entry) (event : Event) → IsSound past
         → KeepsPages past (pass j past) → AgeRuleBy j past out (record { actor = actors.Reclaimer; event = event })
-        → (is_aside (aside past) event ≡ true → HasAsMany old new) → KeepsArrays j old past
-        → KeepsArrays j new (record { actor = actors.Reclaimer; event = event } ∷ past) }
+        → (is_aside (aside past) event ≡ true → HasAsMany old new) → KeepsKeeper j old past
+        → KeepsKeeper j new (record { actor = actors.Reclaimer; event = event } ∷ past) }
     ensures late { (j : JobView) (keeper : Keeper) (past : List Entry) (e : Entry) (g : Page) → IsSound past → is_own_page g ≡ true
-        → is_absent (place past g) ≡ false → KeepsArrays j keeper (e ∷ past) }
+        → is_absent (place past g) ≡ false → KeepsKeeper j keeper (e ∷ past) }
 {}
 
 /// A page is added while the SECS of its enclave is here, where the reclaimer kept Age by the slots that its driver keeps as out: a SECS

@@ -25,7 +25,7 @@ use Rattle.driver_laws.specs.inner.Sound.{is_absent}
 use Rattle.driver_tables.specs.declared.driver.Driver.{Driver}
 use Rattle.driver_tables.specs.inner.Tables.{place_in}
 use Rattle.due_tables.specs.declared.turns.Turns.{Turns}
-use Rattle.due_tables.specs.inner.Asked.{CanAsk, Looks, frame_seen, here_if, looks_at, standing_seen, stands_if}
+use Rattle.due_tables.specs.inner.Asked.{CanAskDue, Looks, frame_seen, here_if, looks_at, standing_seen, stands_if}
 use Rattle.due_tables.specs.inner.Due.{IsOrderly, IsShown, standing}
 use Rattle.due_tables.specs.inner.Shown.{ShowsTurns}
 use Rattle.due_tables.specs.inner.TcsTurns.{has_place, rows, tcs_by}
@@ -111,7 +111,7 @@ module _ (k : Keeping) (j : JobView) (past : List Entry) (d : Driver) (m : Parts
         ∙ ap (λ (c : CpuColumns). holds_number (c.translations p) n) a.columns.cpus;
   }
 
-  pub can_ask : (p : ℕ) → p < length j.scripts → CanAsk d m t p
+  pub can_ask : (p : ℕ) → p < length j.scripts → CanAskDue d m t p
   can_ask p low = record {
     places = places_same;
     turn = let each = s.each in omega (arith, each, low);

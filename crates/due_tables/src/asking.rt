@@ -5,7 +5,7 @@ ghost use Rattle.sgx_rules.specs.declared.entries.Entry.{Entry};
 ghost use Rattle.driver_rules.specs.Turns.{cpu_due};
 ghost use Rattle.driver_laws.specs.inner.Agrees.{Keeping};
 ghost use Rattle.script_rules.specs.inner.Cursor.{IsCursor};
-ghost use Rattle.due_tables.specs.inner.Asked.{CanAsk, after_by, cpu_by, early_by, inside_by, is_last_by, looks_at, next_step};
+ghost use Rattle.due_tables.specs.inner.Asked.{CanAskDue, after_by, cpu_by, early_by, inside_by, is_last_by, looks_at, next_step};
 ghost use Rattle.due_tables.specs.inner.Asked.{op_at};
 ghost use Rattle.due_tables.specs.inner.Asked.{outside_by};
 ghost use Rattle.due_tables.specs.inner.Asked.{frame_seen, page_behind, turn_by};
@@ -42,7 +42,7 @@ impl Turns {
     // What a processor does next, by what machine and tables show.
     fn cpu_due_by(&self, job: &Job, driver: &Driver, machine: &Machine, cpu: Cpu) -> CpuDue
         requires cursor { IsCursor job.now self.now.cursor }
-        requires can { CanAsk driver.now machine.now self.now cpu.0 }
+        requires can { CanAskDue driver.now machine.now self.now cpu.0 }
         ensures { result ≡ cpu_by self.now.is_spent (looks_at driver.now machine.now self.now cpu.0) (turn_at self.now.cpus cpu.0)
             (is_last_by cpu.0 self.now.last) (op_at job.now cpu.0 (turn_at self.now.cpus cpu.0).replied) (next_step job.now self.now) }
     {
@@ -84,7 +84,7 @@ impl Turns {
         turn: CpuTurn,
     ) -> CpuDue
         requires cursor { IsCursor job.now self.now.cursor }
-        requires can { CanAsk driver.now machine.now self.now cpu.0 }
+        requires can { CanAskDue driver.now machine.now self.now cpu.0 }
         ensures { result ≡ turn_by (looks_at driver.now machine.now self.now cpu.0) turn (op_at job.now cpu.0 turn.replied)
             (next_step job.now self.now) }
     {
@@ -107,7 +107,7 @@ impl Turns {
         interruption: Option<Interruption>,
         op: Option<Op>,
     ) -> CpuDue
-        requires { CanAsk driver.now machine.now self.now cpu.0 }
+        requires { CanAskDue driver.now machine.now self.now cpu.0 }
         ensures { result ≡ outside_by (looks_at driver.now machine.now self.now cpu.0) interruption op }
     {
         let Some(op) = op else {
@@ -140,7 +140,7 @@ impl Turns {
         is_kicked: bool,
         op: Option<Op>,
     ) -> CpuDue
-        requires { CanAsk driver.now machine.now self.now cpu.0 }
+        requires { CanAskDue driver.now machine.now self.now cpu.0 }
         ensures { result ≡ inside_by (looks_at driver.now machine.now self.now cpu.0) is_kicked op }
     {
         if is_kicked {

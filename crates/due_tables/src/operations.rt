@@ -3,7 +3,7 @@
 ghost use Rattle.std.specs.Prelude.{◌≡◌, ◌||◌, false, not, length, map, slice_index_or};
 ghost use Rattle.cached_translations.specs.inner.Modes.{is_inside};
 ghost use Rattle.due_tables.specs.declared.steps.CpuStep.TheVariants as steps;
-ghost use Rattle.due_tables.specs.inner.Asked.{CanAsk, access_by, access_in, access_page, enters_by, fill_by, frame_seen};
+ghost use Rattle.due_tables.specs.inner.Asked.{CanAskDue, access_by, access_in, access_page, enters_by, fill_by, frame_seen};
 ghost use Rattle.due_tables.specs.inner.Asked.{last_save_of};
 ghost use Rattle.due_tables.specs.inner.Asked.{looks_at, next_save_of, op_by, page_of, resumes_by, with_access};
 ghost use Rattle.due_tables.specs.inner.TcsTurns.{rows, tcs_at};
@@ -25,7 +25,7 @@ impl Turns {
     /// The next step of an operation.
     #[inline(always)]
     pub(crate) fn op_due(&self, driver: &Driver, machine: &Machine, cpu: Cpu, op: Op) -> CpuDue
-        requires { CanAsk driver.now machine.now self.now cpu.0 }
+        requires { CanAskDue driver.now machine.now self.now cpu.0 }
         ensures { result ≡ op_by (looks_at driver.now machine.now self.now cpu.0) op }
     {
         match op {
@@ -76,7 +76,7 @@ impl Turns {
         enclave: u16,
         tcs: u32,
     ) -> CpuDue
-        requires { CanAsk driver.now machine.now self.now cpu.0 }
+        requires { CanAskDue driver.now machine.now self.now cpu.0 }
         ensures { result ≡ op_by (looks_at driver.now machine.now self.now cpu.0) (Op.Enter enclave tcs) }
     {
         if self.is_turned_away(machine.mode(cpu), enclave) {
@@ -99,7 +99,7 @@ impl Turns {
         enclave: u16,
         tcs: u32,
     ) -> CpuDue
-        requires { CanAsk driver.now machine.now self.now cpu.0 }
+        requires { CanAskDue driver.now machine.now self.now cpu.0 }
         ensures { result ≡ op_by (looks_at driver.now machine.now self.now cpu.0) (Op.Resume enclave tcs) }
     {
         if self.is_turned_away(machine.mode(cpu), enclave) {
@@ -192,7 +192,7 @@ impl Turns {
         off: u64,
         access: CpuStep,
     ) -> CpuDue
-        requires { CanAsk driver.now machine.now self.now cpu.0 }
+        requires { CanAskDue driver.now machine.now self.now cpu.0 }
         ensures { let look = looks_at driver.now machine.now self.now cpu.0 in result ≡ access_by look look.mode op off access }
     {
         match machine.mode(cpu) {
@@ -216,7 +216,7 @@ impl Turns {
         off: u64,
         access: CpuStep,
     ) -> CpuDue
-        requires { CanAsk driver.now machine.now self.now cpu.0 }
+        requires { CanAskDue driver.now machine.now self.now cpu.0 }
         ensures { result ≡ access_in (looks_at driver.now machine.now self.now cpu.0) enclave op off access }
     {
         let page = page_of(enclave, off);

@@ -9,7 +9,7 @@ ghost use Rattle.epcm_entry.specs.inner.Sights.{sight_in};
 ghost use Rattle.secs_state.specs.inner.Secs.{with_busy};
 ghost use Rattle.cached_translations.specs.inner.Modes.{is_inside};
 ghost use Rattle.track_epoch.specs.inner.Tracking.{entered};
-ghost use Rattle.entry_exit.specs.inner.Entry.{IsAdded, enter_sight, fields_at, with_entered, with_resumed};
+ghost use Rattle.entry_exit.specs.inner.Entry.{IsAddedIn, enter_sight, fields_at, with_entered, with_resumed};
 
 use crate::tcs::{fields, set_cssa};
 use crate::way_in::{WayIn, seat};
@@ -38,7 +38,7 @@ pub fn eenter(
     ssa_frame: Frame,
 ) -> Result<u32, Refusal>
     requires room { is_inside cpu.old.mode ≡ false → length track.old.noted < PROCESSORS }
-    requires added { is_inside cpu.old.mode ≡ false → IsAdded (sight_in epc.now tcs_frame.0).content secs.old }
+    requires added { is_inside cpu.old.mode ≡ false → IsAddedIn (sight_in epc.now tcs_frame.0).content secs.old }
     ensures row { refusal_in result
         ≡ first_of_row (enter_row secs.old.enclave tcs (enter_sight epc.now secs.old cpu.old.mode tcs tcs_frame.0 ssa_frame.0)) }
     ensures answer { IfOk result (λ cssa. cssa ≡ (fields_at epc.now tcs_frame.0).cssa) }
@@ -70,7 +70,7 @@ pub fn eresume(
     ssa_frame: Frame,
 ) -> Result<u64, Refusal>
     requires room { is_inside cpu.old.mode ≡ false → length track.old.noted < PROCESSORS }
-    requires added { is_inside cpu.old.mode ≡ false → IsAdded (sight_in epc.old tcs_frame.0).content secs.old }
+    requires added { is_inside cpu.old.mode ≡ false → IsAddedIn (sight_in epc.old tcs_frame.0).content secs.old }
     ensures row { refusal_in result
         ≡ first_of_row (resume_row secs.old.enclave tcs (enter_sight epc.old secs.old cpu.old.mode tcs tcs_frame.0 ssa_frame.0)) }
     ensures answer { IfOk result (λ saved. saved ≡ word_at epc.old ssa_frame.0 0) }

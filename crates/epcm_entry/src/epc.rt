@@ -32,11 +32,11 @@ impl Model for Epc {
 
     ghost Value = { List EpcFrame };
 
-    ghost use Rattle.epcm_entry.specs.inner.Kept.{epc_of, IsKept};
+    ghost use Rattle.epcm_entry.specs.inner.Kept.{epc_of, IsEpcKept};
 
     ghost view = { epc_of };
 
-    ghost invariant = { IsKept };
+    ghost invariant = { IsEpcKept };
 }
 
 impl Epc {

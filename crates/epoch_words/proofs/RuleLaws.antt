@@ -13,7 +13,7 @@ use Rattle.atomic_table.proofs.Lists.{at_set, set_here, set_else, set_again, at_
 use Rattle.epoch_words.specs.declared.seen.Seen.{Seen}
 use Rattle.epoch_words.specs.declared.rule.View.{View}
 use Rattle.epoch_words.specs.inner.Seen.{seen, word_of, seen_in, IsLawful, Changes, IsNotAhead}
-use Rattle.epoch_words.specs.inner.Rule.{Seat, at, hardware, pass, Fits, IsKept, Writes, Observes}
+use Rattle.epoch_words.specs.inner.Rule.{Seat, at, hardware, pass, SeatFits, AreWordsKept, Writes, Observes}
 use Rattle.epoch_words.proofs.SeenLaws.{seen_in-word_of, not_ahead_of_itself, not_ahead_further, changes}
 
 -- ---- lists
@@ -47,7 +47,7 @@ views_each P views id w mine others j v e =
 
 pub writes : (slots id : ℕ) (me : Seat) (i r : ℕ) (known : List Seen) → me.0 ≡ hardware known → i < length known → word_of (seen_in r) ≡ r
     → Changes (at known i) (seen_in r)
-    → Allows IsKept slots id me i (λ _. r) (λ _. Writes (step slots i r 0 none) me r)
+    → Allows AreWordsKept slots id me i (λ _. r) (λ _. Writes (step slots i r 0 none) me r)
 writes slots id me i r known is inside back change s k _ here _ =
     let x : Seen = seen_in r in
     let here' : get_elem? s.views id ≡ some (hardware known) = here ∙ ap some is in
@@ -67,7 +67,7 @@ writes slots id me i r known is inside back change s k _ here _ =
         there = set_here s.views id (hardware now) (low s.views id _ here);
         lawful = at_each (λ _ y. IsLawful y) k.now i x inside' after.1 (λ j _. k.lawful j);
         words = ap (λ (l : List ℕ). set l i r) k.words ∙ (ap (set (map word_of k.now) i) (sym back) ∙ sym (map-set word_of k.now i x));
-        each = views_each (Fits id now) s.views id (hardware now) record
+        each = views_each (SeatFits id now) s.views id (hardware now) record
             { alone = λ _. refl; wide = refl; not_ahead = λ j. not_ahead_of_itself (at now j) }
             (λ j v apart e. let old = k.each j v e in record {
               alone = λ t. old.alone t ∙ sym owns;
@@ -86,7 +86,7 @@ writes slots id me i r known is inside back change s k _ here _ =
 -- ---- a pass looks at a word
 
 pub observes : (slots id : ℕ) (me : Seat) (i : ℕ) → me.0 ≡ pass me.0.seen → i < length me.0.seen
-    → Allows IsKept slots id me i (λ n. n) (Observes (step slots i 0 0 none) me)
+    → Allows AreWordsKept slots id me i (λ n. n) (Observes (step slots i 0 0 none) me)
 observes slots id me i reads inside s k _ here _ =
     let old = k.each id me.0 here in
     let x : Seen = at k.now i in
@@ -105,7 +105,7 @@ observes slots id me i reads inside s k _ here _ =
         there = set_else s.views id k.owner w apart ∙ k.there;
         lawful = k.lawful;
         words = set-get_or s.words i 0 ∙ k.words;
-        each = views_each (Fits k.owner k.now) s.views id w
+        each = views_each (SeatFits k.owner k.now) s.views id w
             record {
               alone = λ t. absurd (is_pass t);
               wide = length-set me.0.seen i x ∙ old.wide;
@@ -124,25 +124,26 @@ observes slots id me i reads inside s k _ here _ =
 
 -- ---- a pass is split off
 
-pub tells : (id : ℕ) (v : View) → Splits IsKept id v v (pass v.seen)
+pub tells : (id : ℕ) (v : View) → Splits AreWordsKept id v v (pass v.seen)
 tells id v s k here =
     let old = k.each id v here in
     let same = set_again s.views id v here in
-    subst (λ (views : List View). IsKept record { words = s.words; homes = s.homes; views = views ++ pass v.seen ∷ [] }) (sym same) record {
+    subst (λ (views : List View). AreWordsKept record { words = s.words; homes = s.homes; views = views ++ pass v.seen ∷ [] })
+    (sym same) record {
       owner = k.owner;
       now = k.now;
       there = at_longer s.views (pass v.seen ∷ []) k.owner (hardware k.now) k.there;
       lawful = k.lawful;
       words = k.words;
       each = λ j u e. ⊎_elim (λ (t : get_elem? s.views j ≡ some u). k.each j u t)
-          (λ (t : pass v.seen ≡ u). subst (Fits k.owner k.now j) t record
+          (λ (t : pass v.seen ≡ u). subst (SeatFits k.owner k.now j) t record
           { alone = λ z. absurd (is_pass z); wide = old.wide; not_ahead = old.not_ahead }) (at_snoc s.views (pass v.seen) u j e);
     }
 
 -- ---- the start
 
 opens : (words : List ℕ) (now : List Seen) → words ≡ map word_of now → ((i : ℕ) → IsLawful (at now i))
-    → IsKept (opening words [] (hardware now))
+    → AreWordsKept (opening words [] (hardware now))
 opens words now says lawful = record {
   owner = 0;
   now = now;
@@ -152,8 +153,8 @@ opens words now says lawful = record {
   each = one;
 }
   where
-    one : (seat : ℕ) (v : View) → get_elem? (hardware now ∷ []) seat ≡ some v → Fits 0 now seat v
-    one zero v e = subst (Fits 0 now 0) (some-injective _ _ e) record
+    one : (seat : ℕ) (v : View) → get_elem? (hardware now ∷ []) seat ≡ some v → SeatFits 0 now seat v
+    one zero v e = subst (SeatFits 0 now 0) (some-injective _ _ e) record
         { alone = λ _. refl; wide = refl; not_ahead = λ i. not_ahead_of_itself (at now i) }
     one (suc j) v e = absurd (some-ne-none v (sym e))
 
@@ -170,7 +171,7 @@ lawful_alike (suc n) s h zero = h
 lawful_alike (suc n) s h (suc i) = lawful_alike n s h i
 
 pub opens_alike : (n : ℕ) (s : Seen) (words : List ℕ) (now : List Seen) → words ≡ replicate n (word_of s) → now ≡ replicate n s → IsLawful s
-    → IsKept (opening words [] (hardware now))
+    → AreWordsKept (opening words [] (hardware now))
 opens_alike n s words now words_are now_is lawful =
     opens words now (words_are ∙ (words_alike n s ∙ ap (map word_of) (sym now_is)))
     (subst (λ (all : List Seen). (i : ℕ) → IsLawful (at all i)) (sym now_is) (lawful_alike n s lawful))

@@ -14,9 +14,9 @@ pub struct View {
 pub struct EpochRule;
 
 impl TableRule<(), View, Vec<Seen>> for EpochRule {
-    ghost use Rattle.epoch_words.specs.inner.Rule.{IsKept, hardware};
+    ghost use Rattle.epoch_words.specs.inner.Rule.{AreWordsKept, hardware};
 
-    ghost holds = { λ _ table. IsKept table };
+    ghost holds = { λ _ table. AreWordsKept table };
 
     ghost first = { λ start. hardware start.items };
 }

@@ -59,11 +59,11 @@ impl Model for Flat {
 
     ghost Value = { FlatParts };
 
-    ghost use Rattle.flat_machine.specs.inner.Whole.{parts_of, IsWhole};
+    ghost use Rattle.flat_machine.specs.inner.Whole.{parts_of, IsWholeMemory};
 
     ghost view = { parts_of };
 
-    ghost invariant = { IsWhole };
+    ghost invariant = { IsWholeMemory };
 }
 
 impl Flat {

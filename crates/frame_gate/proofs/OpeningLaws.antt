@@ -8,7 +8,7 @@ use Rattle.atomic_table.specs.Table.{opening}
 use Rattle.frame_gate.specs.declared.view.View.{View}
 use Rattle.frame_gate.specs.declared.view.Written.{Written}
 use Rattle.frame_gate.specs.inner.Views.{start, first_view, first_words, untouched, written_of}
-use Rattle.frame_gate.specs.inner.Rule.{AreCounted, IsMarked, Fits, IsKept}
+use Rattle.frame_gate.specs.inner.Rule.{AreCounted, IsMarked, RoleFits, AreFramesKept}
 use Rattle.frame_gate.proofs.ProcessorLaws.{all_past_drained}
 
 zeros : (n i : ℕ) → get_or (replicate {A = ℕ} n 0) i 0 ≡ 0
@@ -27,8 +27,8 @@ free_marked epoch n i = subst (λ (z : Written). IsMarked epoch z.word z.blocked
 
 module _ (count : ℕ) where
   first_fits : (j : ℕ) (v : View) → get_elem? (first_view count ∷ []) j ≡ some v
-      → Fits count 0 (start 0) (replicate count untouched) 0 j v.role
-  first_fits zero v e = subst (λ (z : View). Fits count 0 (start 0) (replicate count untouched) 0 0 z.role) (some-injective _ _ e)
+      → RoleFits count 0 (start 0) (replicate count untouched) 0 j v.role
+  first_fits zero v e = subst (λ (z : View). RoleFits count 0 (start 0) (replicate count untouched) 0 0 z.role) (some-injective _ _ e)
       (refl, refl, refl)
   first_fits (suc j) v e = absurd (some-ne-none v (sym e))
 
@@ -60,7 +60,7 @@ module _ (count : ℕ) where
       limited = omega arith;
     }
 
-    pub opens : IsKept count (opening ws [] (first_view count))
+    pub opens : AreFramesKept count (opening ws [] (first_view count))
     opens = record {
       pager = 0;
       ledger = start 0;

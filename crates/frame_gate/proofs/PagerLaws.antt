@@ -27,7 +27,8 @@ use Rattle.frame_gate.specs.inner.Views.{set_back, tracked, written, untouched, 
 use Rattle.frame_gate.specs.inner.Views.{role_set_back, role_tracked, blocked_by, role_wrote, role_split, newcomer}
 use Rattle.frame_gate.specs.inner.Rule.{Shared, Seat, total, one_if, is_at, role_at, inside_at, role_entries}
 use Rattle.frame_gate.specs.inner.Rule.{entries_of, role_seats, seats_of, AreCounted, IsMarked, AreWritten}
-use Rattle.frame_gate.specs.inner.Rule.{HasEpoch, IsUntil, CanHold, AreHeld, Fits, IsKept, Settles, SetsBack, Tracks, WritesFrame}
+use Rattle.frame_gate.specs.inner.Rule.{HasEpoch, IsUntil, CanHold, AreHeld, RoleFits, AreFramesKept}
+use Rattle.frame_gate.specs.inner.Rule.{Settles, SetsBack, Tracks, WritesFrame}
 use Rattle.frame_gate.proofs.SumLaws.{inside, each_set, sum_snoc, sum_none, none_each}
 use Rattle.frame_gate.proofs.CountLaws.{at_other, learn_counts, still_counts}
 use Rattle.frame_gate.proofs.ProcessorLaws.{few_entries, frames_still, frames_later, same_sums, all_past_drained}
@@ -39,15 +40,16 @@ module _ (count : ℕ) where
       → HasEpoch l'.epoch before' p.epoch × AreHeld count fs' p.epoch ps
 
   restand : (pager : ℕ) (l l' : Ledger) (fs fs' : List Written) (before before' j : ℕ) (r : Role) → j ≢ pager →
-      ((p : Visit) (ps : List Pair) → r ≡ Processor p ps → Carries l fs before l' fs' before' p ps) → Fits count pager l fs before j r
-      → Fits count pager l' fs' before' j r
+      ((p : Visit) (ps : List Pair) → r ≡ Processor p ps → Carries l fs before l' fs' before' p ps) → RoleFits count pager l fs before j r
+      → RoleFits count pager l' fs' before' j r
   restand pager l l' fs fs' before before' j (Pager m gs) ne conv h = absurd (ne h.0)
   restand pager l l' fs fs' before before' j (Processor p ps) ne conv h = let a = conv p ps refl h.1 h.2 in (h.0, a.0, a.1)
 
-  module _ (s : Shared) (k : IsKept count s) (id : ℕ) (v w : View) (l : Ledger) (fs : List Written) (at : get_elem? s.views id ≡ some v)
+  module _ (s : Shared) (k : AreFramesKept count s) (id : ℕ) (v w : View) (l : Ledger) (fs : List Written)
+      (at : get_elem? s.views id ≡ some v)
       (is : v.role ≡ Pager l fs) where
     mine : (id ≡ k.pager) × (l ≡ k.ledger) × (fs ≡ k.frames)
-    mine = subst (Fits count k.pager k.ledger k.frames k.before id) is (k.each id v at)
+    mine = subst (RoleFits count k.pager k.ledger k.frames k.before id) is (k.each id v at)
 
     pager_counts : AreCounted l k.before k.entries s.words s.views
     pager_counts = subst (λ (z : Ledger). AreCounted z k.before k.entries s.words s.views) (sym mine.1) k.counted
@@ -55,18 +57,18 @@ module _ (count : ℕ) where
     pager_frames : AreWritten count l.epoch fs s.words
     pager_frames = subst (λ (z : ℕ × List Written). AreWritten count z.0 z.1 s.words) (λ i. ((sym mine.1 i).epoch, sym mine.2 i)) k.written
 
-    others : (j : ℕ) (u : View) → get_elem? s.views j ≡ some u → Fits count id l fs k.before j u.role
-    others j u e = subst (λ (z : ℕ × (Ledger × List Written)). Fits count z.0 z.1.0 z.1.1 k.before j u.role)
+    others : (j : ℕ) (u : View) → get_elem? s.views j ≡ some u → RoleFits count id l fs k.before j u.role
+    others j u e = subst (λ (z : ℕ × (Ledger × List Written)). RoleFits count z.0 z.1.0 z.1.1 k.before j u.role)
         (λ i. (sym mine.0 i, (sym mine.1 i, sym mine.2 i))) (k.each j u e)
 
     pager_step : (l' : Ledger) (fs' : List Written) (before' n : ℕ) (ws : List ℕ) → w.role ≡ Pager l' fs' → AreCounted l' before' n ws
         (set s.views id w) → AreWritten count l'.epoch fs' ws
         → ((j : ℕ) (u : View) (p : Visit) (ps : List Pair) → get_elem? s.views j ≡ some u → u.role ≡ Processor p ps
-        → Carries l fs k.before l' fs' before' p ps) → IsKept count record { words = ws; homes = s.homes; views = set s.views id w }
+        → Carries l fs k.before l' fs' before' p ps) → AreFramesKept count record { words = ws; homes = s.homes; views = set s.views id w }
     pager_step l' fs' before' n ws isw counts framed conv =
-        let each : (j : ℕ) (u : View) → get_elem? (set s.views id w) j ≡ some u → Fits count id l' fs' before' j u.role =
-        each_set (λ j u. Fits count id l' fs' before' j u.role) s.views id w
-        (subst (Fits count id l' fs' before' id) (sym isw) (refl, refl, refl))
+        let each : (j : ℕ) (u : View) → get_elem? (set s.views id w) j ≡ some u → RoleFits count id l' fs' before' j u.role =
+        each_set (λ j u. RoleFits count id l' fs' before' j u.role) s.views id w
+        (subst (RoleFits count id l' fs' before' id) (sym isw) (refl, refl, refl))
         (λ j u ne e. restand id l l' fs fs' k.before before' j u.role ne (λ p ps q. conv j u p ps e q) (others j u e)) in
         record {
           pager = id;
@@ -96,7 +98,7 @@ module _ (count : ℕ) where
   same_epoch false l = refl
 
   pub settles : (slots id : ℕ) (me : Seat) (l : Ledger) (fs : List Written) (i : ℕ) → me.0.role ≡ Pager l fs → l.is_empty ≡ false
-      → i ≡ leave_word (l.epoch - 1) → Allows (IsKept count) slots id me i (λ n. n) (Settles (step slots i 0 0 none) me)
+      → i ≡ leave_word (l.epoch - 1) → Allows (AreFramesKept count) slots id me i (λ n. n) (Settles (step slots i 0 0 none) me)
   settles slots id me l fs i is unknown word s k _ at _ =
       let r : ℕ = get_or s.words i 0 in
       let l' : Ledger = settled l r in
@@ -123,7 +125,7 @@ module _ (count : ℕ) where
         w,
         keeps,
         tt,
-        subst (λ (ws : List ℕ). IsKept count record { words = ws; homes = s.homes; views = set s.views id w })
+        subst (λ (ws : List ℕ). AreFramesKept count record { words = ws; homes = s.homes; views = set s.views id w })
             (sym (set-get_or s.words i 0))
             (pager_step s k id me.0 w l fs at is l' fs k.before k.entries s.words refl counts
             (subst (λ (x : ℕ). AreWritten count x fs s.words) (sym same) (pager_frames s k id me.0 w l fs at is))
@@ -132,7 +134,7 @@ module _ (count : ℕ) where
       )
 
   pub sets_back : (slots id : ℕ) (me : Seat) (l : Ledger) (fs : List Written) (i : ℕ) → me.0.role ≡ Pager l fs → l.is_empty ≡ true
-      → i ≡ leave_word (l.epoch - 1) → Allows (IsKept count) slots id me i (λ _. 0) (λ _. SetsBack (step slots i 0 0 none) me 0)
+      → i ≡ leave_word (l.epoch - 1) → Allows (AreFramesKept count) slots id me i (λ _. 0) (λ _. SetsBack (step slots i 0 0 none) me 0)
   sets_back slots id me l fs i is clear word s k _ at _ =
       let l' : Ledger = set_back l in
       let w : View = view (Pager l' fs) (after_step me.0.counter) in
@@ -178,12 +180,12 @@ module _ (count : ℕ) where
 
   -- no processor is inside with an epoch that has not begun
   none_next : (pager : ℕ) (l : Ledger) (fs : List Written) (before j : ℕ) (r : Role) → l.epoch ≡ before + 1
-      → Fits count pager l fs before j r → role_at (l.epoch + 1) r ≡ 0
+      → RoleFits count pager l fs before j r → role_at (l.epoch + 1) r ≡ 0
   none_next pager l fs before j (Pager m gs) up h = refl
   none_next pager l fs before j (Processor p ps) up h = none_at l.epoch before up p.epoch h.1
 
   pub tracks : (slots id : ℕ) (me : Seat) (l : Ledger) (fs : List Written) (new : ℕ) → me.0.role ≡ Pager l fs → l.is_set_back ≡ true
-      → new ≡ (l.epoch + 1) * 4294967296 → Allows (IsKept count) slots id me 0 (λ _. new) (Tracks (step slots 0 new 0 none) me)
+      → new ≡ (l.epoch + 1) * 4294967296 → Allows (AreFramesKept count) slots id me 0 (λ _. new) (Tracks (step slots 0 new 0 none) me)
   tracks slots id me l fs new is back now s k _ at _ =
       let w0 : ℕ = get_or s.words 0 0 in
       let l' : Ledger = tracked l (w0 % 4294967296) in
@@ -231,7 +233,7 @@ module _ (count : ℕ) where
         (λ t. view (role_tracked (sym is t) (w0 % 4294967296)) (after_step me.0.counter)),
       )
 
-  pub splits : (id : ℕ) (v : View) (l : Ledger) (fs : List Written) → v.role ≡ Pager l fs → l.seats < 16 → Splits (IsKept count) id v
+  pub splits : (id : ℕ) (v : View) (l : Ledger) (fs : List Written) → v.role ≡ Pager l fs → l.seats < 16 → Splits (AreFramesKept count) id v
       (view (role_split v.role) v.counter) newcomer
   splits id v l fs is room s k at =
       let l' : Ledger = ledger (l.seats + 1) l.epoch l.kept l.is_empty l.is_set_back in
@@ -265,12 +267,12 @@ module _ (count : ℕ) where
         made = let a = c.made in omega arith;
         limited = c.limited;
       } in
-      let each : (j : ℕ) (u : View) → get_elem? all j ≡ some u → Fits count id l' fs k.before j u.role = λ j u e. ⊎_elim
+      let each : (j : ℕ) (u : View) → get_elem? all j ≡ some u → RoleFits count id l' fs k.before j u.role = λ j u e. ⊎_elim
       (λ (t : get_elem? vs j ≡ some u).
-      each_set (λ j u. Fits count id l' fs k.before j u.role) s.views id w
-      (subst (Fits count id l' fs k.before id) (sym isw) (refl, refl, refl))
+      each_set (λ j u. RoleFits count id l' fs k.before j u.role) s.views id w
+      (subst (RoleFits count id l' fs k.before id) (sym isw) (refl, refl, refl))
       (λ j u ne e. restand id l l' fs fs k.before k.before j u.role ne (λ p ps q h g. (h, g)) (others s k id v w l fs at is j u e)) j u t)
-      (λ (t : newcomer ≡ u). subst (λ (z : View). Fits count id l' fs k.before j z.role) t (omega arith, tt, tt))
+      (λ (t : newcomer ≡ u). subst (λ (z : View). RoleFits count id l' fs k.before j z.role) t (omega arith, tt, tt))
       (at_snoc vs newcomer u j e) in
       record {
         pager = id;
@@ -330,7 +332,7 @@ module _ (count : ℕ) where
 
   pub writes_frame : (slots id : ℕ) (me : Seat) (l : Ledger) (fs : List Written) (f i word : ℕ) → me.0.role ≡ Pager l fs → f < count
       → i ≡ frame_word f → IsMarked l.epoch word (blocked_by l.epoch word) → Survives l fs f (written word (blocked_by l.epoch word))
-      → Allows (IsKept count) slots id me i (λ _. word) (WritesFrame (step slots i word 0 none) me)
+      → Allows (AreFramesKept count) slots id me i (λ _. word) (WritesFrame (step slots i word 0 none) me)
   writes_frame slots id me l fs f i word is low place marked conv s k _ at _ =
       let b : Option ℕ = blocked_by l.epoch word in
       let fs' : List Written = set fs f (written word b) in
@@ -372,7 +374,7 @@ module _ (count : ℕ) where
 
   pub blocks : (slots id : ℕ) (me : Seat) (l : Ledger) (fs : List Written) (f i word : ℕ) → me.0.role ≡ Pager l fs → f < count
       → i ≡ frame_word f → IsHeld (written_of fs f).word → word ≡ blocked_word (generation_in (written_of fs f).word)
-      → Allows (IsKept count) slots id me i (λ _. word) (WritesFrame (step slots i word 0 none) me)
+      → Allows (AreFramesKept count) slots id me i (λ _. word) (WritesFrame (step slots i word 0 none) me)
   blocks slots id me l fs f i word is low place taken new = writes_frame slots id me l fs f i word is low place
       (marked_blocked l.epoch word (omega arith))
       (λ before e g up which _ h. record {
@@ -383,13 +385,13 @@ module _ (count : ℕ) where
 
   pub places : (slots id : ℕ) (me : Seat) (l : Ledger) (fs : List Written) (f i word : ℕ) → me.0.role ≡ Pager l fs → f < count
       → i ≡ frame_word f → IsFree (written_of fs f).word → word ≡ held_word (generation_in (written_of fs f).word + 1)
-      → Allows (IsKept count) slots id me i (λ _. word) (WritesFrame (step slots i word 0 none) me)
+      → Allows (AreFramesKept count) slots id me i (λ _. word) (WritesFrame (step slots i word 0 none) me)
   places slots id me l fs f i word is low place empty new = writes_frame slots id me l fs f i word is low place
       (marked_open l.epoch word (omega arith)) (λ before e g up which _ h. let a = h.not_free in absurd (omega arith))
 
   pub frees : (slots id : ℕ) (me : Seat) (l : Ledger) (fs : List Written) (f i word b : ℕ) → me.0.role ≡ Pager l fs → f < count
       → i ≡ frame_word f → word ≡ free_word (generation_in (written_of fs f).word) → IsDrained l (written_of fs f) b
-      → Allows (IsKept count) slots id me i (λ _. word) (WritesFrame (step slots i word 0 none) me)
+      → Allows (AreFramesKept count) slots id me i (λ _. word) (WritesFrame (step slots i word 0 none) me)
   frees slots id me l fs f i word b is low place new drained = writes_frame slots id me l fs f i word is low place
       (marked_open l.epoch word (omega arith))
       (λ before e g up which apart h.

@@ -25,7 +25,7 @@ use Rattle.frame_gate.specs.inner.Views.{view, after_step, after_load, visit, pa
 use Rattle.frame_gate.specs.inner.Views.{filled, written_of, role_entered, role_left, role_filled, role_holds}
 use Rattle.frame_gate.specs.inner.Rule.{Shared, Seat, total, one_if, is_at, role_at, inside_at, role_entries, entries_of}
 use Rattle.frame_gate.specs.inner.Rule.{role_seats, seats_of, AreCounted, IsMarked, AreWritten, HasEpoch, IsUntil}
-use Rattle.frame_gate.specs.inner.Rule.{CanHold, AreHeld, Fits, IsPastDrained, IsKept, Enters, Leaves, Meets, Fills, Touches}
+use Rattle.frame_gate.specs.inner.Rule.{CanHold, AreHeld, RoleFits, IsPastDrained, AreFramesKept, Enters, Leaves, Meets, Fills, Touches}
 use Rattle.frame_gate.proofs.SumLaws.{each_set, sum_set, sum_below, none_each, one_of}
 use Rattle.frame_gate.proofs.CountLaws.{at_itself, enter_counts, leave_counts, still_counts}
 
@@ -37,13 +37,13 @@ apart views i j x y l fs p ps a r b q e =
     let z : Pager l fs ≡ Processor p ps = sym r ∙ (ap (λ (v : View). v.role) s ∙ q) in
     cc
 
-stands_most : (count pager : ℕ) (l : Ledger) (fs : List Written) (before j : ℕ) (r : Role) → Fits count pager l fs before j r
+stands_most : (count pager : ℕ) (l : Ledger) (fs : List Written) (before j : ℕ) (r : Role) → RoleFits count pager l fs before j r
     → role_entries r ≤ 134217728 * role_seats r
 stands_most count pager l fs before j (Pager m gs) h = omega arith
 stands_most count pager l fs before j (Processor p ps) h = let a = h.0 in omega arith
 
 -- entries never fill their part of the word
-pub few_entries : (count : ℕ) (s : Shared) (k : IsKept count s) → k.entries ≤ 2147483648
+pub few_entries : (count : ℕ) (s : Shared) (k : AreFramesKept count s) → k.entries ≤ 2147483648
 few_entries count s k =
     let a = sum_below entries_of seats_of s.views (λ j v e. stands_most count k.pager k.ledger k.frames k.before j v.role (k.each j v e)) in
     let b = k.counted.made in
@@ -80,7 +80,7 @@ not_held None h = refl
 not_held (Some generation) h = absurd (h generation refl)
 
 past_drained : (count pager : ℕ) (l : Ledger) (fs : List Written) (before j : ℕ) (r : Role) → l.epoch ≡ before + 1
-    → (l.is_empty ≡ true → role_at before r ≡ 0) → Fits count pager l fs before j r → IsPastDrained l fs r
+    → (l.is_empty ≡ true → role_at before r ≡ 0) → RoleFits count pager l fs before j r → IsPastDrained l fs r
 past_drained count pager l fs before j (Pager m gs) up clear h = tt
 past_drained count pager l fs before j (Processor p ps) up clear h = λ f b e d within.
     let which : (e ≡ l.epoch) ⊎ (e ≡ before) = subst (HasEpoch l.epoch before) within h.1 in
@@ -98,23 +98,24 @@ past_drained count pager l fs before j (Processor p ps) up clear h = λ f b e d 
     (later, not_held (generation_of ps f) (λ g q. let until : e ≤ b = subst (IsUntil e) d.blocked (holding f g q).1.until in omega arith))
 
 pub all_past_drained : (count pager : ℕ) (l : Ledger) (fs : List Written) (before n : ℕ) (ws : List ℕ) (vs : List View)
-    → AreCounted l before n ws vs → ((j : ℕ) (v : View) → get_elem? vs j ≡ some v → Fits count pager l fs before j v.role)
+    → AreCounted l before n ws vs → ((j : ℕ) (v : View) → get_elem? vs j ≡ some v → RoleFits count pager l fs before j v.role)
     → (j : ℕ) (v : View) → get_elem? vs j ≡ some v → IsPastDrained l fs v.role
 all_past_drained count pager l fs before n ws vs counted each j v at =
     past_drained count pager l fs before j v.role counted.epoch (λ z. none_each (inside_at before) vs j v (counted.empty z) at)
     (each j v at)
 
 -- a step of a processor
-proc_step : (count : ℕ) (s : Shared) (k : IsKept count s) (id : ℕ) (v w : View) (p p' : Visit) (ps ps' : List Pair) (n : ℕ) (ws : List ℕ)
+proc_step : (count : ℕ) (s : Shared) (k : AreFramesKept count s) (id : ℕ) (v w : View) (p p' : Visit) (ps ps' : List Pair)
+    (n : ℕ) (ws : List ℕ)
     → get_elem? s.views id ≡ some v → v.role ≡ Processor p ps → w.role ≡ Processor p' ps'
     → AreCounted k.ledger k.before n ws (set s.views id w) → AreWritten count k.ledger.epoch k.frames ws → p'.entries ≤ 134217728
     → HasEpoch k.ledger.epoch k.before p'.epoch → AreHeld count k.frames p'.epoch ps'
-    → IsKept count record { words = ws; homes = s.homes; views = set s.views id w }
+    → AreFramesKept count record { words = ws; homes = s.homes; views = set s.views id w }
 proc_step count s k id v w p p' ps ps' n ws at is isw counts framed few which holding =
     let other : k.pager ≢ id = apart s.views k.pager id k.there.0 v k.ledger k.frames p ps k.there.1 k.there.2 at is in
-    let each : (j : ℕ) (u : View) → get_elem? (set s.views id w) j ≡ some u → Fits count k.pager k.ledger k.frames k.before j u.role =
-    each_set (λ j u. Fits count k.pager k.ledger k.frames k.before j u.role) s.views id w
-    (subst (Fits count k.pager k.ledger k.frames k.before id) (sym isw) (few, which, holding)) (λ j u _ e. k.each j u e) in
+    let each : (j : ℕ) (u : View) → get_elem? (set s.views id w) j ≡ some u → RoleFits count k.pager k.ledger k.frames k.before j u.role =
+    each_set (λ j u. RoleFits count k.pager k.ledger k.frames k.before j u.role) s.views id w
+    (subst (RoleFits count k.pager k.ledger k.frames k.before id) (sym isw) (few, which, holding)) (λ j u _ e. k.each j u e) in
     record {
       pager = k.pager;
       ledger = k.ledger;
@@ -129,12 +130,12 @@ proc_step count s k id v w p p' ps ps' n ws at is isw counts framed few which ho
     }
 
 -- what the rule says of the seat of a processor
-proc_stands : (count : ℕ) (s : Shared) (k : IsKept count s) (id : ℕ) (v : View) (p : Visit) (ps : List Pair)
-    → get_elem? s.views id ≡ some v → v.role ≡ Processor p ps → Fits count k.pager k.ledger k.frames k.before id (Processor p ps)
-proc_stands count s k id v p ps at is = subst (Fits count k.pager k.ledger k.frames k.before id) is (k.each id v at)
+proc_stands : (count : ℕ) (s : Shared) (k : AreFramesKept count s) (id : ℕ) (v : View) (p : Visit) (ps : List Pair)
+    → get_elem? s.views id ≡ some v → v.role ≡ Processor p ps → RoleFits count k.pager k.ledger k.frames k.before id (Processor p ps)
+proc_stands count s k id v p ps at is = subst (RoleFits count k.pager k.ledger k.frames k.before id) is (k.each id v at)
 
 pub enters : (count slots id : ℕ) (me : Seat) (e : ℕ) (ps : List Pair) → me.0.role ≡ Processor (visit e None) ps → e < 134217728 → Allows
-    (IsKept count) slots id me 0 (λ n. (n + 1) % 2 ^ 64) (Enters (step slots 0 1 0 none) me)
+    (AreFramesKept count) slots id me 0 (λ n. (n + 1) % 2 ^ 64) (Enters (step slots 0 1 0 none) me)
 enters count slots id me e ps is room s k _ at fits =
     let w0 : ℕ = get_or s.words 0 0 in
     let most = few_entries count s k in
@@ -153,7 +154,7 @@ enters count slots id me e ps is room s k _ at fits =
     )
 
 pub leaves_gate : (count slots id : ℕ) (me : Seat) (m e : ℕ) (ps : List Pair) → me.0.role ≡ Processor (visit m (Some e)) ps → Allows
-    (IsKept count) slots id me (leave_word e) (λ n. (n + 1) % 2 ^ 64) (Leaves (step slots (leave_word e) 1 0 none) me)
+    (AreFramesKept count) slots id me (leave_word e) (λ n. (n + 1) % 2 ^ 64) (Leaves (step slots (leave_word e) 1 0 none) me)
 leaves_gate count slots id me m e ps is s k _ at fits =
     let x : ℕ = get_or s.words (leave_word e) 0 in
     let l : Ledger = k.ledger in
@@ -242,7 +243,7 @@ same_sums g vs id v w at a = let c = sum_set (λ (u : View). g u.role) vs id v w
 
 module _ (count slots id : ℕ) (me : Seat) (p : Visit) (ps : List Pair) (e f i : ℕ) (is : me.0.role ≡ Processor p ps)
     (within : p.epoch ≡ Some e) (low : f < count) (place : i ≡ frame_word f) where
-  meets : (s : Shared) (k : IsKept count s) → get_elem? s.views id ≡ some me.0 → Meets me.0.role f (get_or s.words i 0)
+  meets : (s : Shared) (k : AreFramesKept count s) → get_elem? s.views id ≡ some me.0 → Meets me.0.role f (get_or s.words i 0)
   meets s k at g h =
       let stands = proc_stands count s k id me.0 p ps at is in
       let holding : AreHeld count k.frames (Some e) ps = subst (λ (o : Option ℕ). AreHeld count k.frames o ps) within stands.2 in
@@ -250,8 +251,9 @@ module _ (count slots id : ℕ) (me : Seat) (p : Visit) (ps : List Pair) (e f i 
       ap (λ (x : ℕ). x / 4) found ∙ (holding f g (ap (λ (r : Role). role_holds r f) (sym is) ∙ h)).1.generation
 
   -- a load by which the pairs become ps'
-  looks : (s : Shared) (k : IsKept count s) (ps' : List Pair) (x : Counter) → get_elem? s.views id ≡ some me.0 → AreHeld count k.frames
-      (Some e) ps' → IsKept count (stepped s i (get_or s.words i 0) id me.1 (view (Processor p ps') x) keeps)
+  looks : (s : Shared) (k : AreFramesKept count s) (ps' : List Pair) (x : Counter) → get_elem? s.views id ≡ some me.0
+      → AreHeld count k.frames
+      (Some e) ps' → AreFramesKept count (stepped s i (get_or s.words i 0) id me.1 (view (Processor p ps') x) keeps)
   looks s k ps' x at holding =
       let w : View = view (Processor p ps') x in
       let stands = proc_stands count s k id me.0 p ps at is in
@@ -263,11 +265,12 @@ module _ (count slots id : ℕ) (me : Seat) (p : Visit) (ps : List Pair) (e f i 
       (λ (ws : List ℕ). AreCounted k.ledger k.before k.entries ws (set s.views id w)) (set-get_or s.words i 0)
       (still_counts k.ledger k.before k.entries i (get_or s.words i 0) s.words s.views (set s.views id w) k.counted
       (omega arith) sums seats made) in
-      subst (λ (ws : List ℕ). IsKept count record { words = ws; homes = s.homes; views = set s.views id w }) (sym (set-get_or s.words i 0))
+      subst (λ (ws : List ℕ). AreFramesKept count record { words = ws; homes = s.homes; views = set s.views id w })
+      (sym (set-get_or s.words i 0))
       (proc_step count s k id me.0 w p p ps ps' k.entries s.words at is refl counts k.written stands.0 stands.1
       (subst (λ (o : Option ℕ). AreHeld count k.frames o ps') (sym within) holding))
 
-  pub fills : Allows (IsKept count) slots id me i (λ n. n) (Fills (step slots i 0 0 none) me)
+  pub fills : Allows (AreFramesKept count) slots id me i (λ n. n) (Fills (step slots i 0 0 none) me)
   fills s k _ at _ =
       let r : ℕ = get_or s.words i 0 in
       let stands = proc_stands count s k id me.0 p ps at is in
@@ -287,7 +290,7 @@ module _ (count slots id : ℕ) (me : Seat) (p : Visit) (ps : List Pair) (e f i 
         ),
       )
 
-  pub touches : Allows (IsKept count) slots id me i (λ n. n) (Touches (step slots i 0 0 none) me)
+  pub touches : Allows (AreFramesKept count) slots id me i (λ n. n) (Touches (step slots i 0 0 none) me)
   touches s k _ at _ =
       let r : ℕ = get_or s.words i 0 in
       let stands = proc_stands count s k id me.0 p ps at is in

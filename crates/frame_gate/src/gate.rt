@@ -7,7 +7,7 @@ ghost use Rattle.frame_gate.specs.declared.limits.TheConstants.{LAST_GENERATION}
 ghost use Rattle.sgx_types.specs.declared.names.TheConstants.{PROCESSORS};
 ghost use Rattle.frame_gate.specs.inner.Words.{free_word, held_word, blocked_word, IsFrame, IsFree, IsHeld, IsBlocked};
 ghost use Rattle.frame_gate.specs.inner.Views.{first_words, untouched};
-ghost use Rattle.frame_gate.specs.inner.Known.{newcomer_of, StepsAtMost, IsOutside, IsInside, HoldsFrame, entered, outside};
+ghost use Rattle.frame_gate.specs.inner.Known.{newcomer_of, StepsAtMost, IsOutside, IsProcInside, HoldsFrame, entered, outside};
 ghost use Rattle.frame_gate.specs.inner.Known.{Filled, RefusedFill, Touched};
 ghost use Rattle.frame_gate.specs.inner.Known.{first_pager, word_now, generation_now, with_frame, settled_pager, RefusedOlder};
 ghost use Rattle.frame_gate.specs.inner.Known.{next_pager, Tracked, RefusedTrack, settled_if, Evicted, RefusedEvict, HasDrained};
@@ -156,7 +156,7 @@ impl FrameGate {
     /// A processor leaves. What it held is dropped.
     pub fn leave(&self, seat: &mut ProcSeat)
         requires gate { seat.old.gate ≡ self.now }
-        requires inside { IsInside seat.old }
+        requires inside { IsProcInside seat.old }
         ensures outside { seat.new ≡ outside seat.old }
         ensures steps { StepsAtMost 3 seat.old.counter seat.new.counter }
     {
@@ -179,7 +179,7 @@ impl FrameGate {
     pub fn fill(&self, seat: &mut ProcSeat, frame: u32) -> Result<u64, NotHeld>
         requires gate { seat.old.gate ≡ self.now }
         requires frame { IsFrame self.now frame }
-        requires inside { IsInside seat.old }
+        requires inside { IsProcInside seat.old }
         requires room { (length seat.old.pairs < MOST_PAIRS) ⊎ HoldsFrame seat.old frame }
         ensures filled { IfOk result (λ generation. Filled seat.old frame generation seat.new) }
         ensures refused { IfErr result (λ refusal. RefusedFill seat.old frame refusal.word seat.new) }

@@ -7,7 +7,7 @@ ghost use Rattle.frame_gate.specs.declared.limits.TheConstants.{MOST_FRAMES, MOS
 ghost use Rattle.sgx_types.specs.declared.names.TheConstants.{PROCESSORS};
 ghost use Rattle.frame_gate.specs.inner.Words.{IsFrame};
 ghost use Rattle.frame_gate.specs.inner.Views.{visit};
-ghost use Rattle.frame_gate.specs.inner.Known.{newcomer_of, IsOutside, IsInside};
+ghost use Rattle.frame_gate.specs.inner.Known.{newcomer_of, IsOutside, IsProcInside};
 ghost use Rattle.frame_gate.specs.inner.Rounds.{IsReady, HasEntered, HaveEntered, AreOutside};
 
 use crate::gate::FrameGate;
@@ -22,7 +22,7 @@ use std::thread::{Threads, for_each_mut, join_mut};
 fn try_fill(gate: &FrameGate, seat: &mut ProcSeat, frame: u32)
     requires gate { seat.old.gate ≡ gate.now }
     requires frame { IsFrame gate.now frame }
-    requires inside { IsInside seat.old }
+    requires inside { IsProcInside seat.old }
     requires room { length seat.old.pairs < MOST_PAIRS }
     ensures gate { seat.new.gate ≡ seat.old.gate }
     ensures visit { seat.new.visit ≡ seat.old.visit }
@@ -38,7 +38,7 @@ fn try_fill(gate: &FrameGate, seat: &mut ProcSeat, frame: u32)
 fn use_frames(gate: &FrameGate, seat: &mut ProcSeat, frames: u32)
     requires gate { seat.old.gate ≡ gate.now }
     requires frames { (frames ≤ MOST_PAIRS) × (3 + frames ≤ gate.now.words) }
-    requires inside { IsInside seat.old }
+    requires inside { IsProcInside seat.old }
     requires nothing { seat.old.pairs ≡ [] }
     ensures gate { seat.new.gate ≡ seat.old.gate }
     ensures visit { seat.new.visit ≡ seat.old.visit }

@@ -8,9 +8,9 @@ pub struct GateRule;
 
 impl TableRule<(), View, u32> for GateRule {
     ghost use Rattle.frame_gate.specs.inner.Views.{first_view};
-    ghost use Rattle.frame_gate.specs.inner.Rule.{IsKept};
+    ghost use Rattle.frame_gate.specs.inner.Rule.{AreFramesKept};
 
-    ghost holds = { IsKept };
+    ghost holds = { AreFramesKept };
 
     ghost first = { first_view };
 }

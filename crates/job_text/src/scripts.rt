@@ -25,13 +25,13 @@ pub(crate) struct Scripts {
 impl Model for Scripts {
     ghost use Rattle.std.specs.Prelude.{List};
     ghost use Rattle.job_grammar.specs.declared.jobs.Op.{Op};
-    ghost use Rattle.job_text.specs.inner.Scripts.{view_of, IsKept};
+    ghost use Rattle.job_text.specs.inner.Scripts.{view_of, AreScriptsKept};
 
     ghost Value = { List (List Op) };
 
     ghost view = { view_of };
 
-    ghost invariant = { IsKept };
+    ghost invariant = { AreScriptsKept };
 }
 
 /// The place of a page in the table of owners.

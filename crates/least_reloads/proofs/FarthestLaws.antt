@@ -9,7 +9,7 @@ use Rattle.sgx_types.specs.Pages.{same_page}
 use Rattle.sgx_types.proofs.Pages.{same_page-refl}
 use Rattle.sgx_types.proofs.CountLaws.{one_if}
 use Rattle.least_reloads.specs.Plans.{StepView, PlanView, has, kept, held_behind, IsStep, IsRun, loads_of, IsLawful}
-use Rattle.least_reloads.specs.inner.Plans.{IsLeast}
+use Rattle.least_reloads.specs.inner.Plans.{IsLeastPlan}
 use Rattle.least_reloads.specs.inner.Farthest.{stays, comes, swaps, IsUsedLast, IsBest, Hit, Fill, Swap, IsBestRun, Holds}
 use Rattle.least_reloads.proofs.Pages.{none_distinct, one_distinct}
 use Rattle.least_reloads.proofs.Held.{has-kept, has_one, loaded, distinct-after}
@@ -227,7 +227,7 @@ reached frames some accesses plan best counted = record {
 
 -- and every lawful plan makes at least as many loads
 pub least : (frames : ℕ) → 1 ≤ frames → (accesses : List Page) (plan : PlanView) → IsBestRun frames [] accesses plan.steps
-    → plan.loads ≡ loads_of plan.steps → IsLeast accesses frames plan
+    → plan.loads ≡ loads_of plan.steps → IsLeastPlan accesses frames plan
 least frames some accesses plan best counted = λ other lawful.
     omega (
       arith,

@@ -4,7 +4,7 @@ use Rattle.std.proofs.Common.{get_or, Some, is_some, cond, arith, refl, sym, sub
 use Rattle.std.proofs.lemmas.List.{drop_more, drop_all, append-nil, length-append}
 use Rattle.sgx_types.specs.declared.names.Page.{Page}
 use Rattle.least_reloads.specs.Plans.{StepView, PlanView, held_behind, loads_of, IsLawful}
-use Rattle.least_reloads.specs.inner.Plans.{IsLeast}
+use Rattle.least_reloads.specs.inner.Plans.{IsLeastPlan}
 use Rattle.least_reloads.specs.inner.Farthest.{IsBest, Hit, Fill, Swap, IsBestRun, Holds, IsUseAt, Keeps, Chosen}
 use Rattle.least_reloads.proofs.FarthestLaws.{holds_next, holds_none, reached, least}
 use Rattle.least_reloads.proofs.RunLaws.{loads_of-append}
@@ -83,7 +83,7 @@ made_more frames accesses old now new steps loads i u d step some low so_far cho
 -- all accesses are served
 pub record MadeAll (frames : ℕ) (accesses : List Page) (plan : PlanView) : Type 0 where
   pub lawful : IsLawful accesses frames plan
-  pub fewest : IsLeast accesses frames plan
+  pub fewest : IsLeastPlan accesses frames plan
 
 pub made_all : (frames : ℕ) (accesses : List Page) (entries : List (ℕ × Page)) (plan : PlanView) (i : ℕ) → 1 ≤ frames → length accesses ≤ i
     → MadeSoFar frames accesses entries plan.steps plan.loads i → MadeAll frames accesses plan

@@ -5,7 +5,7 @@ ghost use Rattle.std.specs.Ordering.{nat_cmp};
 ghost use Rattle.std.specs.BTreeMap.{get, btree_map_len};
 ghost use Rattle.sgx_types.specs.declared.names.Page.{Page};
 ghost use Rattle.least_reloads.specs.Plans.{IsLawful};
-ghost use Rattle.least_reloads.specs.inner.Plans.{IsLeast};
+ghost use Rattle.least_reloads.specs.inner.Plans.{IsLeastPlan};
 ghost use Rattle.least_reloads.specs.inner.Farthest.{AreUses, Holds, Keeps, Chosen};
 
 use crate::load_plan::{LoadPlan, Step};
@@ -19,7 +19,7 @@ use std::collections::{BTreeMap, HashMap};
 pub fn plan(alloc: Global, accesses: &[Page], frames: u32) -> Result<LoadPlan, Memory>
     requires { 1 ≤ frames }
     ensures reached { IfOk result (λ plan. IsLawful accesses.now frames plan) }
-    ensures least { IfOk result (λ plan. IsLeast accesses.now frames plan) }
+    ensures least { IfOk result (λ plan. IsLeastPlan accesses.now frames plan) }
 {
     let uses = next_uses(alloc, accesses)?;
     let mut held = BTreeMap::new(alloc);

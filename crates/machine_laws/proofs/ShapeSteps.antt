@@ -37,7 +37,7 @@ use Rattle.seal_record.specs.Cipher.{cipher}
 use Rattle.machine_laws.specs.inner.Columns.{HasAllVersions, HasBack, HasColumns, HasVersions}
 use Rattle.machine_laws.specs.inner.Guarded.{IsGuarded, Loads, WritesOut}
 use Rattle.machine_laws.specs.inner.Histories.{BringsArrayIn}
-use Rattle.machine_laws.specs.inner.Notes.{IsDone as IsDoneEvent}
+use Rattle.machine_laws.specs.inner.Notes.{IsDidEvent as IsDoneEvent}
 use Rattle.machine_laws.specs.inner.Shape.{ShapeWithRules}
 use Rattle.machine_laws.specs.inner.Stands.{IsSound}
 use Rattle.machine_laws.specs.inner.State.{State, fresh, after_eld, after_failed_eld, making_of}

@@ -31,7 +31,7 @@ use Rattle.machine_copies.proofs.RestLaws.{bytes_rest}
 use Rattle.machine_laws.specs.inner.Columns.{HasAllVersions, HasBack}
 use Rattle.machine_laws.proofs.MoveEnds.{IsDoneBack}
 use Rattle.machine_laws.specs.inner.Histories.{BringsBytes, BringsBack, BringsIn, OutsideBytes, StandsWithAllRules, given_out, looked_at}
-use Rattle.machine_laws.specs.inner.Notes.{IsDone, IsNote}
+use Rattle.machine_laws.specs.inner.Notes.{IsDidEvent, IsNote}
 use Rattle.machine_laws.proofs.NoteLaws.{noted_arrays, noted_brings, noted_keeps, noted_made, noted_reload, noted_sealed, noted_shaped}
 use Rattle.seal_record.specs.Cipher.{cipher}
 use Rattle.machine_laws.specs.inner.Shape.{ShapeWithRules}
@@ -243,16 +243,16 @@ reloaded_all s t made past records a f rec e sound guarded sound' guarded' loadi
 pub reloaded_told : (s t : State) (made : Making) (past : List Entry) (records : List Made) (a : Actor) (f : Frame) (rec : Sealed)
     (e : Entry) → IsSound s → IsGuarded s → IsSound t → IsGuarded t → is_loading (s.content f.0) ≡ true → CanEnd s f.0 rec
     → IsReloaded s a f rec e t → StandsWithAllRules made s past records
-    → (IsDone e.event → BringsIn made.key past s f.0 rec) → StandsWithAllRules made t (e ∷ past) records
+    → (IsDidEvent e.event → BringsIn made.key past s f.0 rec) → StandsWithAllRules made t (e ∷ past) records
 reloaded_told s t made past records a f rec e sound guarded sound' guarded' loading bring back h brings =
     reloaded_back s t made past records a f rec e sound guarded sound' guarded' loading bring back h
     (λ allowed. brings (done allowed) back.coming.start back.coming.page back.coming.opened back.coming.loads)
   where
-    done : first_of_row (commit_row s f.0 back.coming rec) ≡ None → IsDone e.event
+    done : first_of_row (commit_row s f.0 back.coming rec) ≡ None → IsDidEvent e.event
     done allowed =
         let row : IsDoneBack s a f rec e t back.coming
         = rw allowed at back.row in
-        subst (λ (x : Entry). IsDone x.event) (sym row.0) tt
+        subst (λ (x : Entry). IsDidEvent x.event) (sym row.0) tt
 
 -- ---- entries of no instruction
 

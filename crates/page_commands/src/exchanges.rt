@@ -6,7 +6,8 @@ ghost use Rattle.sgx_rules.specs.declared.entries.Entry.{Entry};
 ghost use Rattle.sgx_rules.specs.Processors.{is_by};
 ghost use Rattle.script_rules.specs.Script.{replied, script_of};
 ghost use Rattle.page_commands.specs.Summary.{is_xadd, xadds, xadds_in};
-ghost use Rattle.page_commands.specs.inner.Progress.{AreProgress, HaveRoom, IsProgress, more_if};
+ghost use Rattle.page_commands.specs.inner.Progress.{AreProgress, HaveRoom, IsProgress};
+ghost use Rattle.trace_tally.specs.Tally.{more_if};
 
 use job_grammar::jobs::{Job, Op};
 use run_replies::replies::interrupted_after;

@@ -37,7 +37,7 @@ use Rattle.driver_faults.specs.declared.answers.FaultAnswer.{FaultAnswer}
 use Rattle.driver_faults.specs.declared.answers.Loaded.{Loaded}
 use Rattle.driver_faults.specs.inner.Finishing.{CanFinish, ComesBack, IsFinished, bus_why}
 use Rattle.driver_tables.specs.inner.Targets.{slot_here_in}
-use Rattle.driver_faults.specs.inner.Resolving.{IsFetch, IsGot, IsResolved, IsStarted}
+use Rattle.driver_faults.specs.inner.Resolving.{FetchesPage, IsGot, IsResolved, IsStarted}
 use Rattle.history_rules.specs.Calls.{ComesByBus, ComesWith, before, is_lost}
 use Rattle.sgx_rules.specs.declared.entries.Answer.TheVariants.{Moved}
 use Rattle.sgx_rules.specs.declared.refusals.Refusal.TheVariants as why
@@ -148,7 +148,7 @@ module _ (key : List ℕ) (past : List Entry) (calls : List Call) (d : Driver) (
 
   by_free : (slot : VaSlot) (named : Option SlotAt) (o : Option ℕ) (answer : FaultAnswer) (d' : Driver) (m' : Parts)
       (told : Option (List Call)) → page_state d.states page ≡ states.Away slot
-      → IsFetch cpu page slot named o d m (Some calls) answer d' m' told
+      → FetchesPage cpu page slot named o d m (Some calls) answer d' m' told
       → Tells told (λ longer. AnswerComes cpu page answer calls longer d d')
   by_free slot None o answer d' m' told at is = absurd is
   by_free slot (Some named) None answer d' m' told at is =

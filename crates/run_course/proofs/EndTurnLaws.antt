@@ -27,9 +27,9 @@ use Rattle.driver_pass.specs.inner.Noted.{after_done, after_page, aside_instruct
 use Rattle.driver_pass.specs.inner.Viewed.{count_aside, is_amid, is_kicked, is_kicked_stage, is_sealing, PassView, sealing_at, sealing_in}
 use Rattle.driver_pass.specs.inner.Viewed.{sealing_with, still_out, waiting_by}
 use Rattle.driver_reclaim.specs.inner.After.{StandsBehind}
-use Rattle.driver_reclaim.specs.inner.Ended.{IsEnded}
+use Rattle.driver_reclaim.specs.inner.Ended.{IsEndedOut}
 use Rattle.driver_reclaim.specs.inner.Ready.{Ready}
-use Rattle.driver_reclaim.specs.inner.Stored.{IsOpen, IsStarted, IsStored, KeepsArrays, StoredSays}
+use Rattle.driver_reclaim.specs.inner.Stored.{IsOpen, IsStartedPass, IsStored, KeepsArrays, StoredSays}
 use Rattle.driver_reclaim.proofs.MoveLaws.{amid_instructed}
 use Rattle.driver_reclaim.proofs.OpenLaws.{can_store}
 use Rattle.driver_reclaim.proofs.StoredLaws.{place_used, stored_ends}
@@ -54,7 +54,7 @@ use Rattle.driver_rules.specs.Stops.{is_bus}
 -- a course whose write-out is open has its page's bytes, and can end it
 pub course_open : (c : Course) (told : Option (List Call)) (spare : ℕ) → KeepsCourse c told spare → is_sealing c.pass ≡ true
     → IsOpen c.pass (state_of c.machine)
-    × IsStarted c.pass (state_of c.machine) c.driver.states.counts
+    × IsStartedPass c.pass (state_of c.machine) c.driver.states.counts
 course_open c told spare k waits =
     can_store (machine_of c.job) c.job (past_of c) c.pass c.driver c.machine (course_ready c told spare k) waits
 
@@ -218,7 +218,7 @@ end_is_own c told longer before spare faults faults' e p d m k going waits says 
     ready : Ready (machine_of c.job) c.job (past_of c) c.pass c.driver c.machine
     ready = course_ready c told before k
 
-    ended : IsEnded c.job.start_epoch c.job (past_of c) c.driver e (instructed e.event c.pass) d
+    ended : IsEndedOut c.job.start_epoch c.job (past_of c) c.driver e (instructed e.event c.pass) d
     ended =
         stored_ends (machine_of c.job) c.job (past_of c) c.pass c.driver d c.machine m told longer faults faults' e ready k.book.age
         k.book.kick says

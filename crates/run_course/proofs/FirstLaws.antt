@@ -44,7 +44,7 @@ use Rattle.due_tables.specs.inner.Shown.{ShowsTurns}
 use Rattle.due_tables.proofs.EndLaws.{ends_first}
 use Rattle.due_tables.proofs.FirstLaws.{holds_first}
 use Rattle.due_tables.proofs.OrderLaws.{orderly_first}
-use Rattle.due_notes.specs.inner.Arrays.{KeepsArrays}
+use Rattle.due_notes.specs.inner.Arrays.{KeepsKeeper}
 use Rattle.due_notes.proofs.ArrayLaws.{arrays_begin}
 use Rattle.run_calls.specs.inner.Stores.{TellsStore}
 use Rattle.run_calls.proofs.StoreLaws.{tells_first}
@@ -193,7 +193,7 @@ course_first c told spare first none =
       whole = ap is_amid first.pass;
       first = subst HasFirst (sym past) first_array;
       places = places_first c.pass spare first.pass;
-      arrays = subst (KeepsArrays c.job c.driver.slots) (sym past) (arrays_begin c.job c.driver first.driver);
+      arrays = subst (KeepsKeeper c.job c.driver.slots) (sym past) (arrays_begin c.job c.driver first.driver);
       ends = subst EndsAreTold (sym past) ends_first;
       clear = subst (IsClear c.job) (sym past) (clear_first c.job);
       room =

@@ -50,7 +50,7 @@ use Rattle.run_course.specs.inner.Passing.{FollowsBy, IsOwnEntry, IsOwnKicks}
 use Rattle.run_course.proofs.KeepLaws.{course_ready, few_cpus}
 use Rattle.run_course.proofs.PassTurnLaws.{IsTurnEntry, Leaves, LeavesDriver, TellsDue, turn_leaves, turn_tells}
 use Rattle.driver_reclaim.specs.inner.Answers.{bits_of}
-use Rattle.due_notes.specs.inner.Arrays.{KeepsArrays}
+use Rattle.due_notes.specs.inner.Arrays.{KeepsKeeper}
 use Rattle.run_course.proofs.RestLaws.{book_of_state}
 use Rattle.run_course.proofs.SpentLaws.{turn_used}
 use Rattle.run_course.proofs.TakeLaws.{own_entry}
@@ -215,7 +215,7 @@ module _ (c : Course) (told longer : Option (List Call)) (before spare : ℕ) (p
         whole = s.whole;
         first = k.first;
         places = s.places;
-        arrays = subst (λ (x : Driver). KeepsArrays c.job x.slots (past_of c)) (sym same) k.arrays;
+        arrays = subst (λ (x : Driver). KeepsKeeper c.job x.slots (past_of c)) (sym same) k.arrays;
         ends = k.ends;
         clear = k.clear;
         room = room;

@@ -25,7 +25,7 @@ use Rattle.driver_reclaim.proofs.FirstLaws.{stays_first}
 use Rattle.due_tables.specs.declared.turns.Turns.{Turns}
 use Rattle.due_tables.specs.inner.Holding.{mode_of}
 use Rattle.due_tables.specs.inner.Ending.{EndsAreTold}
-use Rattle.due_notes.specs.inner.Arrays.{KeepsArrays}
+use Rattle.due_notes.specs.inner.Arrays.{KeepsKeeper}
 use Rattle.run_laws.specs.inner.Books.{IsMade, KeepsBook}
 use Rattle.run_course.specs.declared.course.Course.{Course}
 use Rattle.run_course.specs.inner.Courses.{Grows, IsClear, IsSame, KeepsCourse, KeepsKicks, has_open_load, open_starts, past_of}
@@ -71,7 +71,7 @@ first_behind c told spare e k age =
 -- a course behind an entry that was taken in
 pub taken_keeps : (c c' : Course) (e : Entry) (told : Option (List Call)) (spare : ℕ) → TcsAreApart c.job → c'.job ≡ c.job
     → c'.entries.items ≡ c.entries.items ++ e ∷ [] → IsRecorded c e told c' → IsTaken c e c'
-    → HasFirst (e ∷ past_of c) → still_out c'.pass ≤ spare → KeepsArrays c.job c'.driver.slots (e ∷ past_of c)
+    → HasFirst (e ∷ past_of c) → still_out c'.pass ≤ spare → KeepsKeeper c.job c'.driver.slots (e ∷ past_of c)
     → EndsAreTold (e ∷ past_of c) → IsClear c.job (e ∷ past_of c)
     → vec_len c'.entries + 2 * open_starts c' ≤ vec_capacity c'.entries → KeepsCourse c' told spare
 taken_keeps c c' e told spare tcs job kept book stands first places arrays ends clear room =
@@ -86,8 +86,8 @@ taken_keeps c c' e told spare tcs job kept book stands first places arrays ends 
       whole = stands.1;
       first = subst HasFirst (sym past) first;
       places = places;
-      arrays = subst (λ (j : JobView). KeepsArrays j c'.driver.slots (past_of c')) (sym job)
-          (subst (KeepsArrays c.job c'.driver.slots) (sym past) arrays);
+      arrays = subst (λ (j : JobView). KeepsKeeper j c'.driver.slots (past_of c')) (sym job)
+          (subst (KeepsKeeper c.job c'.driver.slots) (sym past) arrays);
       ends = subst EndsAreTold (sym past) ends;
       clear = subst (λ (j : JobView). IsClear j (past_of c')) (sym job) (subst (IsClear c.job) (sym past) clear);
       room = room;
@@ -160,7 +160,7 @@ keeps_kicks actors.Reclaimer same = tt
 -- a turn that reserved its room, and took one entry in
 pub grown_by_one : (c x : Course) (before : Mode) (e : Entry) (told longer : Option (List Call)) (c' : Course) (by : Actor) (spare : ℕ)
     → Took c x before e told longer c' → HasFirst (e ∷ past_of c) → still_out c'.pass ≤ spare
-    → KeepsArrays c.job c'.driver.slots (e ∷ past_of c) → EndsAreTold (e ∷ past_of c) → IsClear c.job (e ∷ past_of c)
+    → KeepsKeeper c.job c'.driver.slots (e ∷ past_of c) → EndsAreTold (e ∷ past_of c) → IsClear c.job (e ∷ past_of c)
     → vec_len x.entries + 64 ≤ vec_capacity x.entries → e.actor ≡ by → is_kicked c'.pass ≡ is_kicked c.pass
     → Grows c by 1 c' longer spare
 grown_by_one c x before e told longer c' by spare k first places arrays ends clear room actor kicks =
@@ -179,8 +179,8 @@ grown_by_one c x before e told longer c' by spare k first places arrays ends cle
       kicks = keeps_kicks by kicks;
       keeps = taken_keeps x c' e longer spare (subst TcsAreApart (sym k.enters.job) k.enters.tcs) k.job k.kept both.0 both.1
           (subst (λ h. HasFirst (e ∷ h)) (sym past) first) places
-          (subst (λ (j : JobView). KeepsArrays j c'.driver.slots (e ∷ past_of x)) (sym k.enters.job)
-          (subst (λ h. KeepsArrays c.job c'.driver.slots (e ∷ h)) (sym past) arrays))
+          (subst (λ (j : JobView). KeepsKeeper j c'.driver.slots (e ∷ past_of x)) (sym k.enters.job)
+          (subst (λ h. KeepsKeeper c.job c'.driver.slots (e ∷ h)) (sym past) arrays))
           (subst (λ h. EndsAreTold (e ∷ h)) (sym past) ends)
           (subst (λ (j : JobView). IsClear j (e ∷ past_of x)) (sym k.enters.job)
           (subst (λ h. IsClear c.job (e ∷ h)) (sym past) clear))

@@ -32,7 +32,7 @@ use Rattle.run_records.proofs.ToldLaws.{kick_told}
 use Rattle.run_laws.specs.inner.Bits.{AllBelow, GoesOnBy, RisesFrom, below, has_bit}
 use Rattle.run_laws.proofs.BitLaws.{below_all, below_more, bit_is, goes_on}
 use Rattle.run_laws.proofs.KickLaws.{kick_next, kicked_more, kicks_in_order}
-use Rattle.due_notes.specs.inner.Arrays.{KeepsArrays}
+use Rattle.due_notes.specs.inner.Arrays.{KeepsKeeper}
 use Rattle.due_notes.proofs.ArrayLaws.{arrays_stay}
 use Rattle.due_tables.specs.inner.Ending.{EndsAreTold}
 use Rattle.run_course.specs.declared.course.Course.{Course}
@@ -254,8 +254,8 @@ entries_own (p ∷ ps) =
     All-append (λ (e : Entry). e.actor ≡ actors.Reclaimer) (entries_of ps) (kick p ∷ []) (entries_own ps)
     (All-cons (λ (e : Entry). e.actor ≡ actors.Reclaimer) (kick p) [] refl (All-nil (λ (e : Entry). e.actor ≡ actors.Reclaimer)))
 
-arrays_kicked : (j : JobView) (keeper : Keeper) (ps : List ℕ) (past : List Entry) → KeepsArrays j keeper past
-    → KeepsArrays j keeper (kicked_past ps past)
+arrays_kicked : (j : JobView) (keeper : Keeper) (ps : List ℕ) (past : List Entry) → KeepsKeeper j keeper past
+    → KeepsKeeper j keeper (kicked_past ps past)
 arrays_kicked j keeper [] past k = k
 arrays_kicked j keeper (p ∷ ps) past k =
     arrays_kicked j keeper ps (kick p ∷ past) (arrays_stay j keeper keeper past (kick p) refl refl refl refl k)
@@ -298,10 +298,10 @@ kicks_grow c c' bits longer spare n own k count =
         first = subst HasFirst (sym k.past) (first_kicked own.kick.cpus (past_of c) own.first);
         places = subst (λ (x : PassView). still_out x ≤ spare) (sym passes) own.places;
         arrays =
-            subst (λ (j : JobView). KeepsArrays j c'.driver.slots (past_of c')) (sym job)
-            (subst (KeepsArrays c.job c'.driver.slots) (sym k.past)
+            subst (λ (j : JobView). KeepsKeeper j c'.driver.slots (past_of c')) (sym job)
+            (subst (KeepsKeeper c.job c'.driver.slots) (sym k.past)
             (arrays_kicked c.job c'.driver.slots own.kick.cpus (past_of c)
-            (subst (λ (d : Driver). KeepsArrays c.job d.slots (past_of c)) (sym k.driver) own.arrays)));
+            (subst (λ (d : Driver). KeepsKeeper c.job d.slots (past_of c)) (sym k.driver) own.arrays)));
         ends = subst EndsAreTold (sym k.past) (ends_kicked own.kick.cpus (past_of c) own.ends);
         clear = subst (λ (j : JobView). IsClear j (past_of c')) (sym job)
             (subst (IsClear c.job) (sym k.past) (clear_kicked c.job own.kick.cpus (past_of c) own.clear));

@@ -44,7 +44,7 @@ use Rattle.driver_pass.specs.inner.Standing.{StandsFor}
 use Rattle.driver_pass.specs.inner.Viewed.{is_amid, is_sealing, still_out}
 use Rattle.driver_reclaim.specs.inner.Ready.{HasFirst}
 use Rattle.driver_reclaim.proofs.FirstLaws.{stays_first}
-use Rattle.due_notes.specs.inner.Arrays.{KeepsArrays}
+use Rattle.due_notes.specs.inner.Arrays.{KeepsKeeper}
 use Rattle.due_notes.specs.inner.Plain.{is_reclaimer}
 use Rattle.due_tables.specs.declared.turns.Turns.{Turns}
 use Rattle.due_tables.specs.inner.Ending.{EndsAreTold, IsForRecord}
@@ -155,7 +155,7 @@ taken_stands c c' past told longer spare d m e s job kept book stands places rec
 
 -- where no refused load is to be told it is a course between two turns
 pub stands_keeps : (c : Course) (past : List Entry) (told : Option (List Call)) (spare : ℕ) → Stands c past told spare c.driver c.machine
-    → KeepsArrays c.job c.driver.slots past → IsClear c.job past → vec_len c.entries + 2 * open_starts c ≤ vec_capacity c.entries
+    → KeepsKeeper c.job c.driver.slots past → IsClear c.job past → vec_len c.entries + 2 * open_starts c ≤ vec_capacity c.entries
     → KeepsCourse c told spare
 stands_keeps c past told spare s arrays clear room = record {
   tcs = s.tcs;
@@ -164,7 +164,7 @@ stands_keeps c past told spare s arrays clear room = record {
   whole = s.whole;
   first = subst HasFirst (sym s.same) s.first;
   places = s.places;
-  arrays = subst (KeepsArrays c.job c.driver.slots) (sym s.same) arrays;
+  arrays = subst (KeepsKeeper c.job c.driver.slots) (sym s.same) arrays;
   ends = subst EndsAreTold (sym s.same) s.ends;
   clear = subst (IsClear c.job) (sym s.same) clear;
   room = room;

@@ -44,12 +44,12 @@ use Rattle.run_calls.specs.inner.Comes.{bus_of}
 use Rattle.driver_faults.specs.declared.answers.FaultAnswer.{FaultAnswer}
 use Rattle.driver_faults.specs.declared.answers.FaultAnswer.TheVariants as answers
 use Rattle.driver_faults.specs.declared.answers.Loaded.{Loaded}
-use Rattle.driver_faults.specs.inner.Due.{IsEnd, IsRight, IsRightEnd, ShowsEnd}
+use Rattle.driver_faults.specs.inner.Due.{EndsLoadAt, IsRight, IsRightEnd, ShowsEnd}
 use Rattle.driver_faults.specs.inner.Finishing.{CanFinish, IsFinished}
 use Rattle.driver_faults.specs.inner.Resolving.{IsResolved}
 use Rattle.driver_faults.proofs.EndLaws.{can_finish, finished_is_right}
 use Rattle.driver_pass.specs.inner.Viewed.{is_kicked, is_sealing, still_out}
-use Rattle.due_notes.specs.inner.Arrays.{KeepsArrays}
+use Rattle.due_notes.specs.inner.Arrays.{KeepsKeeper}
 use Rattle.due_notes.proofs.ArrayLaws.{arrays_moved}
 use Rattle.due_notes.specs.inner.Plain.{is_reclaimer}
 use Rattle.driver_laws.specs.inner.Sound.{is_absent}
@@ -223,16 +223,16 @@ took_stands c c' past told longer spare d m before e s took =
 
 -- the arrays behind it
 pub took_arrays : (c c' : Course) (past : List Entry) (longer : Option (List Call)) (before : Mode) (e : Entry)
-    → TookIn c c' before e longer → KeepsArrays c.job c.driver.slots past → KeepsArrays c'.job c'.driver.slots past
+    → TookIn c c' before e longer → KeepsKeeper c.job c.driver.slots past → KeepsKeeper c'.job c'.driver.slots past
 took_arrays c c' past longer before e took k =
-    subst (λ (j : JobView). KeepsArrays j c'.driver.slots past) (sym took.job)
-    (subst (λ (x : Keeper). KeepsArrays c.job x past) (sym (ap (λ (x : Driver). x.slots) took.driver)) k)
+    subst (λ (j : JobView). KeepsKeeper j c'.driver.slots past) (sym took.job)
+    (subst (λ (x : Keeper). KeepsKeeper c.job x past) (sym (ap (λ (x : Driver). x.slots) took.driver)) k)
 
 -- behind the entry of a fault step that is not refused is a course between two turns
 pub fetched_keeps : (c c' : Course) (past : List Entry) (told longer : Option (List Call)) (spare : ℕ) (d : Driver) (m : Parts)
     (before : Mode) (e : Entry) (page : Page) → Stands c past told spare d m → TookIn c c' before e longer
     → IsOfAway past e.event (place past page) → is_refused e.event ≡ false → is_reclaimer e.actor ≡ false
-    → KeepsArrays c.job c.driver.slots (e ∷ past) → spends e.event ≡ false → IsClear c.job past
+    → KeepsKeeper c.job c.driver.slots (e ∷ past) → spends e.event ≡ false → IsClear c.job past
     → vec_len c.entries + 64 ≤ vec_capacity c.entries → KeepsCourse c' longer spare
 fetched_keeps c c' past told longer spare d m before e page s took away done other arrays calm clear room =
     let s' = took_stands c c' past told longer spare d m before e s took away.quiet.for_record other in
@@ -258,7 +258,7 @@ turns_room j past t p shows mine = let each = shows.each in omega (arith, each, 
 pub back_keeps : (c c' : Course) (past : List Entry) (told : Option (List Call)) (spare : ℕ) (d : Driver) (m : Parts) (before : Mode)
     (e : Entry) (cpu : Cpu) (f : Frame) → Stands c past told spare d m → TookIn c c' before e told → e.actor ≡ actors.Cpu cpu
     → action_of e.event ≡ Some (actions.Eld f) → is_refused e.event ≡ false → cpu.0 < length c.turns.cpus
-    → has_open_load (turn_at c.turns.cpus cpu.0) ≡ true → KeepsArrays c.job c.driver.slots (e ∷ past) → IsClear c.job past
+    → has_open_load (turn_at c.turns.cpus cpu.0) ≡ true → KeepsKeeper c.job c.driver.slots (e ∷ past) → IsClear c.job past
     → vec_len c.entries + 2 * open_starts c ≤ vec_capacity c.entries → KeepsCourse c' told spare
 back_keeps c c' past told spare d m before e cpu f s took by acts done low loads arrays clear room =
     let quiet = end_quiet past f e.event acts done in
@@ -332,11 +332,11 @@ pub record EndFacts (s : Course) (d' : Driver) (m' : Parts) (told : Option (List
     pub opened : has_open_load (turn_at s.turns.cpus cpu.0) ≡ true
     pub place : vec_len s.entries + 1 ≤ vec_capacity s.entries
     pub entry : Entry
-    pub ended : IsEnd (past_of s) cpu page frame entry loaded
+    pub ended : EndsLoadAt (past_of s) cpu page frame entry loaded
     pub shows : ShowsEnd s.job (past_of s) cpu page loaded d'
     pub store : OfBus cpu page loaded (λ e bus. AreTold s.job (e ∷ past_of s) bus told told d' d')
     pub back : IfSome told (λ calls. IsHonest calls → IsBack loaded)
-    pub arrays : KeepsArrays s.job d'.slots (entry_in loaded ∷ past_of s)
+    pub arrays : KeepsKeeper s.job d'.slots (entry_in loaded ∷ past_of s)
 
 -- who loads a page can end that
 pub opened_can : (s : Course) (told : Option (List Call)) (spare : ℕ) (cpu : Cpu) (page : Page) → KeepsCourse s told spare

@@ -48,7 +48,7 @@ use Rattle.history_rules.specs.Calls.{is_lost}
 use Rattle.driver_faults.specs.declared.answers.FaultAnswer.{FaultAnswer}
 use Rattle.driver_faults.specs.declared.answers.FaultAnswer.TheVariants as answers
 use Rattle.driver_faults.specs.inner.Due.{IsRight, WaitsBy}
-use Rattle.driver_faults.specs.inner.Resolving.{IsFetch as IsAsking, IsResolved, asked_by, asked_in}
+use Rattle.driver_faults.specs.inner.Resolving.{FetchesPage as IsAsking, IsResolved, asked_by, asked_in}
 use Rattle.driver_faults.proofs.AskLaws.{can_resolve}
 use Rattle.driver_tables.specs.inner.Tables.{ShowsTables, place_in}
 use Rattle.driver_tables.specs.inner.Targets.{slot_here_in, target_in}
@@ -56,7 +56,7 @@ use Rattle.driver_tables.proofs.TargetLaws.{target_is}
 use Rattle.driver_pass.specs.inner.Viewed.{is_sealing}
 use Rattle.driver_reclaim.specs.inner.Ready.{HasFirst}
 use Rattle.driver_slots.specs.inner.Keeper.{Keeper}
-use Rattle.due_notes.specs.inner.Arrays.{KeepsArrays}
+use Rattle.due_notes.specs.inner.Arrays.{KeepsKeeper}
 use Rattle.due_notes.proofs.ArrayLaws.{arrays_stay}
 use Rattle.script_rules.specs.Script.{is_builder}
 use Rattle.due_tables.specs.declared.turns.Turns.{Turns}
@@ -191,7 +191,7 @@ both_unlost (Some calls) g asked one two = (one, two)
 
 -- the arrays behind the start of a load
 pub start_arrays : (s : Course) (d' : Driver) (cpu : Cpu) (e : Entry) → e.actor ≡ actors.Cpu cpu → IsLoadStart e.event
-    → d'.slots ≡ s.driver.slots → KeepsArrays s.job s.driver.slots (past_of s) → KeepsArrays s.job d'.slots (e ∷ past_of s)
+    → d'.slots ≡ s.driver.slots → KeepsKeeper s.job s.driver.slots (past_of s) → KeepsKeeper s.job d'.slots (e ∷ past_of s)
 start_arrays s d' cpu e by acts same =
     arrays_stay s.job s.driver.slots d'.slots (past_of s) e (ap is_builder by) (start_none e.event acts)
     (ap (λ (x : Keeper). length x.arrays) same) (ap (λ (x : Keeper). x.room) same)
@@ -513,7 +513,7 @@ module _ {s : Course} {entries : Vec Entry} {d' : Driver} {m' : Parts} {told tol
         first = subst HasFirst (sym same)
             (stands_first (mid s entries d' m') (past_of s) told spare s.driver s.machine e stands (ap is_reclaimer right.due.1));
         places = f.keeps.places;
-        arrays = subst (λ h. KeepsArrays s.job d'.slots (bus_of cpu asked reasons.Slot ∷ h)) (sym same)
+        arrays = subst (λ h. KeepsKeeper s.job d'.slots (bus_of cpu asked reasons.Slot ∷ h)) (sym same)
             (arrays_stay s.job d'.slots d'.slots (e ∷ past_of s) (bus_of cpu asked reasons.Slot) refl refl refl refl
             (start_arrays s d' cpu e right.due.1 left.acts (ap (λ (x : Driver). x.slots) left.driver) f.keeps.arrays));
         ends = subst EndsAreTold (sym (ap reverse f.items)) f.keeps.ends;

@@ -50,10 +50,10 @@ use Rattle.driver_faults.specs.declared.answers.FaultAnswer.{FaultAnswer}
 use Rattle.driver_faults.specs.declared.answers.FaultAnswer.TheVariants as answers
 use Rattle.driver_faults.specs.declared.answers.Loaded.{Loaded}
 use Rattle.driver_faults.specs.declared.answers.Loaded.TheVariants as ends
-use Rattle.driver_faults.specs.inner.Due.{IsEnd, IsRight, IsRightEnd}
+use Rattle.driver_faults.specs.inner.Due.{EndsLoadAt, IsRight, IsRightEnd}
 use Rattle.driver_faults.specs.inner.Finishing.{CanFinish, ComesBack, IsFinished}
 use Rattle.driver_faults.specs.inner.Repeating.{IsAgain, IsWorkFor}
-use Rattle.driver_faults.specs.inner.Resolving.{IsFetch, IsGot, IsResolved, IsStarted, IsToOpen}
+use Rattle.driver_faults.specs.inner.Resolving.{FetchesPage, IsGot, IsResolved, IsStarted, IsToOpen}
 use Rattle.driver_pass.specs.inner.Standing.{StandsAt}
 use Rattle.driver_pass.specs.inner.Viewed.{PassView, is_amid}
 use Rattle.due_tables.specs.declared.turns.Turns.{Turns}
@@ -188,7 +188,7 @@ got_leaves cpu page slot at f (Err faults.Memory) answer d d' m m' told told' is
 
 -- by the free frame
 fetch_leaves : (cpu : Cpu) (page : Page) (slot : VaSlot) (at : Option SlotAt) (o : Option ℕ) (answer : FaultAnswer) (d d' : Driver)
-    (m m' : Parts) (told told' : Option (List Call)) → IsFetch cpu page slot at o d m told answer d' m' told'
+    (m m' : Parts) (told told' : Option (List Call)) → FetchesPage cpu page slot at o d m told answer d' m' told'
     → Leaves cpu page answer d d' m m' told told'
 fetch_leaves cpu page slot None o answer d d' m m' told told' is = absurd is
 fetch_leaves cpu page slot (Some at) None answer d d' m m' told told' is =
@@ -309,7 +309,7 @@ begun_opens j past cpu page d d' m' e work own shows placed room is =
 -- ---- the end of a load
 
 -- the entry by which a load ended
-pub end_is : (past : List Entry) (cpu : Cpu) (page : Page) (f : Frame) (e : Entry) (loaded : Loaded) → IsEnd past cpu page f e loaded
+pub end_is : (past : List Entry) (cpu : Cpu) (page : Page) (f : Frame) (e : Entry) (loaded : Loaded) → EndsLoadAt past cpu page f e loaded
     → entry_in loaded ≡ e
 end_is past cpu page f e (ends.Here entry) is = is.0
 end_is past cpu page f e (ends.Bus entry why) is = is.0

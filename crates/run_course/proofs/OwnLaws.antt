@@ -12,7 +12,7 @@ use Rattle.backing_store.specs.Calls.{Call}
 use Rattle.driver_tables.specs.declared.driver.Driver.{Driver}
 use Rattle.driver_pass.specs.inner.Viewed.{is_sealing, still_out}
 use Rattle.run_laws.specs.inner.Books.{with_own}
-use Rattle.due_notes.specs.inner.Arrays.{KeepsArrays}
+use Rattle.due_notes.specs.inner.Arrays.{KeepsKeeper}
 use Rattle.due_tables.specs.declared.cpu_turns.CpuTurn.{CpuTurn}
 use Rattle.due_tables.specs.declared.turns.Turns.{Turns}
 use Rattle.due_tables.specs.inner.Ending.{EndsAreTold, NoneFails}
@@ -70,7 +70,7 @@ own_grows c c' e longer spare own book stands kept capacity noted driver places 
       keeps = taken_keeps c c' e longer spare own.take.can.tcs job kept
           (subst (λ told. IsRecorded c e told c') own.same book) stands own.first
           (subst (λ n. n ≤ spare) (sym places) own.places)
-          (subst (λ (d : Driver). KeepsArrays c.job d.slots (e ∷ past_of c)) (sym driver) own.arrays)
+          (subst (λ (d : Driver). KeepsKeeper c.job d.slots (e ∷ past_of c)) (sym driver) own.arrays)
           own.ends own.clear room;
     }
   where

@@ -1,6 +1,6 @@
 -- What a course keeps gives all that is so of every book.
 use Rattle.std.specs.Prelude.{IfSome}
-use Rattle.std.proofs.Common.{◌≡◌, ℕ, Bool, List, [], ◌∷◌, Option, Some, None, subst}
+use Rattle.std.proofs.Common.{◌≡◌, ℕ, Bool, List, [], ◌∷◌, Option, Some, None, subst, false}
 use Rattle.sgx_rules.specs.declared.entries.Entry.{Entry}
 use Rattle.sgx_rules.specs.Rules.{Along, AtEachPlace, EvictRule, NoPageTwice, NoneStale, RefusalRule}
 use Rattle.sgx_rules.specs.inner.Rules.{KeepsRules}

@@ -19,7 +19,7 @@ use Rattle.driver_pass.specs.inner.Viewed.{is_amid, is_kicked, is_sealing, PassV
 use Rattle.history_rules.specs.Given.{UnforgedRun, made_in}
 use Rattle.machine_laws.specs.inner.Columns.{HasAllVersions}
 use Rattle.run_laws.specs.inner.Books.{KeepsBook, KeepsHonest}
-use Rattle.due_notes.specs.inner.Arrays.{KeepsArrays}
+use Rattle.due_notes.specs.inner.Arrays.{KeepsKeeper}
 use Rattle.due_tables.specs.declared.turns.Turns.{Turns}
 use Rattle.due_tables.specs.inner.Ending.{EndsAreTold}
 use Rattle.run_course.specs.declared.course.Course.{Course}
@@ -109,9 +109,9 @@ rest_keeps c c' told spare rests k =
       first = subst HasFirst (sym past) k.first;
       places = subst (λ (v : PassView). still_out v ≤ spare) (sym rests.pass) k.places;
       arrays =
-          subst (λ (j : JobView). KeepsArrays j c'.driver.slots (past_of c')) (sym rests.job)
-          (subst (KeepsArrays c.job c'.driver.slots) (sym past)
-          (subst (λ (d : Driver). KeepsArrays c.job d.slots (past_of c)) (sym rests.driver) k.arrays));
+          subst (λ (j : JobView). KeepsKeeper j c'.driver.slots (past_of c')) (sym rests.job)
+          (subst (KeepsKeeper c.job c'.driver.slots) (sym past)
+          (subst (λ (d : Driver). KeepsKeeper c.job d.slots (past_of c)) (sym rests.driver) k.arrays));
       ends = subst EndsAreTold (sym past) k.ends;
       clear = subst (λ (j : JobView). IsClear j (past_of c')) (sym rests.job) (subst (IsClear c.job) (sym past) k.clear);
       room =

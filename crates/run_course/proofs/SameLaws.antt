@@ -15,7 +15,7 @@ use Rattle.driver_pass.specs.inner.Viewed.{is_amid, is_kicked, is_sealing, PassV
 use Rattle.driver_reclaim.specs.inner.Ready.{HasFirst}
 use Rattle.due_tables.specs.declared.turns.Turns.{Turns}
 use Rattle.due_tables.specs.inner.Ending.{EndsAreTold}
-use Rattle.due_notes.specs.inner.Arrays.{KeepsArrays}
+use Rattle.due_notes.specs.inner.Arrays.{KeepsKeeper}
 use Rattle.run_laws.specs.inner.Books.{KeepsBook}
 use Rattle.run_course.specs.declared.course.Course.{Course}
 use Rattle.run_course.specs.inner.Courses.{IsClear, IsSame, KeepsCourse, has_open_load, open_starts, past_of}
@@ -52,7 +52,7 @@ same_keeps c c' told spare s k =
       whole = by_parts c c' s (λ j h d m t v. is_amid v ≡ false) k.whole;
       first = by_parts c c' s (λ j h d m t v. HasFirst h) k.first;
       places = by_parts c c' s (λ j h d m t v. still_out v ≤ spare) k.places;
-      arrays = by_parts c c' s (λ j h d m t v. KeepsArrays j d.slots h) k.arrays;
+      arrays = by_parts c c' s (λ j h d m t v. KeepsKeeper j d.slots h) k.arrays;
       ends = by_parts c c' s (λ j h d m t v. EndsAreTold h) k.ends;
       clear = by_parts c c' s (λ j h d m t v. IsClear j h) k.clear;
       room = omega (arith, room, more, starts, size, one, two);

@@ -19,7 +19,7 @@ use Rattle.driver_reclaim.specs.inner.After.{StandsBehind}
 use Rattle.driver_pass.specs.inner.Viewed.{is_amid, is_sealing, PassView, still_out}
 use Rattle.run_laws.specs.inner.Books.{AreTold, CarriesBytes}
 use Rattle.run_records.specs.inner.Honest.{StaysHonest}
-use Rattle.due_notes.specs.inner.Arrays.{HasAsMany, KeepsArrays}
+use Rattle.due_notes.specs.inner.Arrays.{HasAsMany, KeepsKeeper}
 use Rattle.due_notes.proofs.ArrayLaws.{arrays_in_pass}
 use Rattle.due_tables.specs.inner.Holding.{mode_of}
 use Rattle.due_tables.specs.inner.Noting.{with_kick}
@@ -83,7 +83,7 @@ own_entry c told longer before spare e p d m k made = record {
   actor = made.mine.actor;
   first = first_behind c told before e k made.next.age;
   places = made.places;
-  arrays = subst (λ (a : Actor). KeepsArrays c.job d.slots (record { actor = a; event = e.event } ∷ past_of c)) (sym made.mine.actor)
+  arrays = subst (λ (a : Actor). KeepsKeeper c.job d.slots (record { actor = a; event = e.event } ∷ past_of c)) (sym made.mine.actor)
       (arrays_in_pass c.job (outs_kept c.job (past_of c)) c.driver.slots d.slots (past_of c) e.event k.book.agrees.sound
       k.book.agrees.pages
       (subst (λ (a : Actor). KeptAgeRule c.job (past_of c) (record { actor = a; event = e.event })) made.mine.actor made.next.age)

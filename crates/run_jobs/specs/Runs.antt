@@ -1,5 +1,5 @@
 -- A whole run of a job: what is so of each, whatever it was that the store gave, and for every order of turns.
-use Rattle.std.specs.Prelude.{ℕ, ◌≡◌, ◌<◌, List, Option, IfSome, length}
+use Rattle.std.specs.Prelude.{ℕ, ◌≡◌, ◌<◌, List, Option, IfSome, length, false}
 use Rattle.sgx_rules.specs.declared.entries.Entry.{Entry}
 use Rattle.sgx_rules.specs.Rules.{Along, EvictRule, Fits, RisingRule, Stale}
 use Rattle.io_edges.specs.declared.plans.PlanLine.{PlanLine}

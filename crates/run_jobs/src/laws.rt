@@ -8,7 +8,7 @@ ghost use Rattle.run_jobs.specs.Runs.{WholeRun};
 ghost use Rattle.run_jobs.specs.declared.ends.End.{End};
 ghost use Rattle.run_jobs.specs.declared.ends.End.TheVariants as ends;
 ghost use Rattle.sgx_rules.specs.declared.entries.Entry.{Entry};
-ghost use Rattle.std.specs.Prelude.{◌≡◌, ◌≢◌, Some, List, [], count_by, length};
+ghost use Rattle.std.specs.Prelude.{◌≡◌, ◌≢◌, Some, false, List, [], count_by, length};
 
 /// A run of a job without plan lines over a planned store, which answers its calls by its rules and has one record for each put, loses no
 /// page, however it ended, and so ends no processor by one.

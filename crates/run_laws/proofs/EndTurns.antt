@@ -49,10 +49,10 @@ use Rattle.driver_tables.specs.inner.Agrees.{Agrees}
 use Rattle.driver_tables.specs.inner.Asked.{IsNextOf}
 use Rattle.driver_faults.specs.declared.answers.Loaded.{Loaded}
 use Rattle.driver_faults.specs.declared.answers.Loaded.TheVariants as ends
-use Rattle.driver_faults.specs.inner.Due.{IsEnd, IsRightEnd, ShowsEnd}
+use Rattle.driver_faults.specs.inner.Due.{EndsLoadAt, IsRightEnd, ShowsEnd}
 use Rattle.driver_faults.specs.inner.Finishing.{CanFinish, ComesBack, IsFinished}
 use Rattle.driver_faults.proofs.EndLaws.{end_frame}
-use Rattle.driver_reclaim.specs.inner.Ended.{IsEnded}
+use Rattle.driver_reclaim.specs.inner.Ended.{IsEndedOut}
 use Rattle.driver_reclaim.specs.inner.Ready.{Ready}
 use Rattle.driver_pass.specs.inner.Standing.{StandsAt}
 use Rattle.driver_pass.specs.declared.stages.Taken.{Taken}
@@ -131,7 +131,7 @@ module _ (made : Making) (j : JobView) (past : List Entry) (d d' : Driver) (m m'
       by_frame : cpu_due j past cpu.0 ≡ Ends (Eld (frame_at n))
       by_frame = rw (going, last) refl
 
-  shown : (l : Loaded) (e : Entry) → entry_in l ≡ e → IsEnd past cpu page can.frame right.entry l → ShowsEnd j past cpu page l d'
+  shown : (l : Loaded) (e : Entry) → entry_in l ≡ e → EndsLoadAt past cpu page can.frame right.entry l → ShowsEnd j past cpu page l d'
       → (right.entry ≡ e) × ShowsTables (drivers j) j d' (e ∷ past)
   shown (ends.Here x) e same at shows = (sym at.0 ∙ same, subst (λ y. ShowsTables (drivers j) j d' (y ∷ past)) same shows)
   shown (ends.Bus x why) e same at shows = (sym at.0 ∙ same, subst (λ y. ShowsTables (drivers j) j d' (y ∷ past)) same shows.0)
@@ -196,7 +196,7 @@ module _ (made : Making) (j : JobView) (past : List Entry) (d d' : Driver) (m m'
 out_by : (made : Making) (j : JobView) (past : List Entry) (d d' : Driver) (m m' : Parts) (f : Frame) (page : Page) (x : Start)
     (version : ℕ) (tag : List ℕ) (e : Entry) (v : PassView) → Agrees made j past d m → is_spent past ≡ false
     → e ≡ did_by actors.Reclaimer (Ewb f) (Moved page version tag) → open_start past f.0 ≡ Some x → x.loads ≡ None → version ≡ x.version
-    → IsEnded made.first_epoch j past d e v d' → GoesOnWith made past e m' → length m'.cpus ≡ length m.cpus
+    → IsEndedOut made.first_epoch j past d e v d' → GoesOnWith made past e m' → length m'.cpus ≡ length m.cpus
     → IsNextOf made j past d m e d' m'
 out_by made j past d d' m m' f page x version tag e v a going entry opened writes drawn ended on cpus = record {
   script = record { not_spent = going; next = rw entry refl };
@@ -239,7 +239,7 @@ none_loads past f page x s at opened =
 pub out_next : (made : Making) (j : JobView) (past : List Entry) (d d' : Driver) (m m' : Parts) (v : PassView)
     (told told' : Option (List Call)) (faults faults' : ℕ) (e : Entry) → Ready made j past v d m → is_spent past ≡ false
     → StoredSays v (state_of m) d told faults e (state_of m') d' told' faults'
-    → IsEnded made.first_epoch j past d e (instructed e.event v) d' → GoesOnWith made past e m' → length m'.cpus ≡ length m.cpus
+    → IsEndedOut made.first_epoch j past d e (instructed e.event v) d' → GoesOnWith made past e m' → length m'.cpus ≡ length m.cpus
     → IsNextOf made j past d m e d' m'
 out_next made j past d d' m m' v told told' faults faults' e r going says ended on cpus = by_one (sealing_in v) says
   where

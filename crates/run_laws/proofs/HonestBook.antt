@@ -1,7 +1,7 @@
 -- What the book keeps over an honest store, one entry longer.
 use Rattle.std.proofs.Common.{◌≡◌, ℕ, ◌==◌, Bool, true, false, if◌then◌else◌, refl, sym, ◌∙◌}
 use Rattle.std.proofs.Common.{ap, subst, List, [], ◌∷◌, Option, Some, None, is_some, length}
-use Rattle.std.proofs.lemmas.Bool.{eq-eqb, false≢true}
+use Rattle.std.proofs.lemmas.Bool.{eq-eqb, false≢true, or_from}
 use Rattle.sgx_types.proofs.Pages.{same_pages, same_slots}
 use Rattle.sgx_rules.specs.declared.entries.Action.TheVariants.{Eld, EldStart, Ewb, EwbStart}
 use Rattle.sgx_types.specs.declared.names.Actor.{Actor}

@@ -52,7 +52,7 @@ use Rattle.run_calls.specs.inner.Comes.{bus_of}
 use Rattle.driver_faults.specs.declared.answers.FaultAnswer.{FaultAnswer}
 use Rattle.driver_faults.specs.declared.answers.FaultAnswer.TheVariants as answers
 use Rattle.driver_faults.specs.inner.Due.{IsRight}
-use Rattle.driver_faults.specs.inner.Resolving.{IsFetch, IsGot, IsResolved, IsStarted}
+use Rattle.driver_faults.specs.inner.Resolving.{FetchesPage, IsGot, IsResolved, IsStarted}
 use Rattle.driver_pass.specs.inner.Standing.{StandsAt}
 use Rattle.driver_pass.specs.inner.Viewed.{is_amid, PassView}
 use Rattle.run_laws.specs.inner.Loads.{GoesOnWith, OfAnswer}
@@ -104,7 +104,7 @@ got_did cpu page slot at f (Err faults.Failed) answer d d' m m' is = rw is.says 
 got_did cpu page slot at f (Err faults.Memory) answer d d' m m' is = absurd is
 
 fetch_did : (cpu : Cpu) (page : Page) (slot : VaSlot) (at : Option SlotAt) (o : Option ℕ) (answer : FaultAnswer) (d d' : Driver)
-    (m m' : Parts) (told told' : Option (List Call)) → IsFetch cpu page slot at o d m told answer d' m' told'
+    (m m' : Parts) (told told' : Option (List Call)) → FetchesPage cpu page slot at o d m told answer d' m' told'
     → DidSo cpu page answer d d' m m'
 fetch_did cpu page slot None o answer d d' m m' told told' is = absurd is
 fetch_did cpu page slot (Some at) None answer d d' m m' told told' is = rw is.does.says tt

@@ -59,7 +59,7 @@ use Rattle.driver_reclaim.specs.declared.turns.PassTurn.{PassTurn}
 use Rattle.driver_reclaim.specs.declared.turns.PassTurn.TheVariants as turns
 use Rattle.driver_reclaim.specs.inner.Answers.{by_reclaimer, IsTryOut, IsTurn, start_turn, track_turn, try_turn}
 use Rattle.driver_reclaim.specs.inner.Going.{TurnGoes}
-use Rattle.driver_reclaim.specs.inner.Kept.{Keeps, TurnKeeps}
+use Rattle.driver_reclaim.specs.inner.Kept.{KeepsReclaim, TurnKeeps}
 use Rattle.driver_reclaim.specs.inner.Shown.{ShowsAfter, ShowsEntry}
 use Rattle.run_laws.specs.inner.Turns.{OfEntry}
 use Rattle.run_laws.proofs.PlainLaws.{enclave_is}
@@ -243,7 +243,8 @@ taken_made {past = past} {m = m} r g u =
     sym (ap is_some (enclave_is columns g.enclave)) ∙ added_created m g (ap is_some (added_is columns g) ∙ there)
 
 entry_next : (made : Making) (j : JobView) (past : List Entry) (d d' : Driver) (m m' : Parts) (e : Entry) → Agrees made j past d m
-    → is_spent past ≡ false → IsOwn made.first_epoch past e → Keeps made.first_epoch j past e.event → Carries (state_of m) e (state_of m')
+    → is_spent past ≡ false → IsOwn made.first_epoch past e → KeepsReclaim made.first_epoch j past e.event
+    → Carries (state_of m) e (state_of m')
     → length m'.cpus ≡ length m.cpus → ShowsEntry j past e d d' → IsNextOf made j past d m e d' m'
 entry_next made j past d d' m m' e r going own keeps carries cpus shows = record {
   script = record { not_spent = going; next = rw own.actor_is own.no_load };

@@ -30,7 +30,7 @@ ghost use Rattle.sgx_rules.specs.declared.entries.BusWhy.{BusWhy};
 ghost use Rattle.sgx_types.specs.declared.names.Cpu.{Cpu};
 ghost use Rattle.sgx_types.specs.declared.names.Page.{Page};
 ghost use Rattle.driver_reclaim.specs.inner.Answers.{IsTurn};
-ghost use Rattle.driver_reclaim.specs.inner.Ended.{IsEnded};
+ghost use Rattle.driver_reclaim.specs.inner.Ended.{IsEndedOut};
 ghost use Rattle.driver_reclaim.specs.inner.Going.{TurnGoes};
 ghost use Rattle.driver_reclaim.specs.inner.Ready.{Ready};
 ghost use Rattle.driver_reclaim.specs.inner.Stored.{StoredSays};
@@ -114,6 +114,6 @@ pub fn write_outs_are_next()
     ensures { (made : Making) (j : JobView) (past : List Entry) (d d' : Driver) (m m' : Parts) (v : PassView)
         (told told' : Option (List Call)) (faults faults' : ℕ) (e : Entry) → Ready made j past v d m → is_spent past ≡ false
         → StoredSays v (state_of m) d told faults e (state_of m') d' told' faults'
-        → IsEnded made.first_epoch j past d e (instructed e.event v) d' → GoesOnWith made past e m' → length m'.cpus ≡ length m.cpus
+        → IsEndedOut made.first_epoch j past d e (instructed e.event v) d' → GoesOnWith made past e m' → length m'.cpus ≡ length m.cpus
         → IsNextOf made j past d m e d' m' }
 {}

@@ -62,7 +62,7 @@ use Rattle.history_rules.proofs.HonestLaws.{honest_before, last_sealed}
 use Rattle.driver_faults.specs.declared.answers.FaultAnswer.{FaultAnswer}
 use Rattle.driver_faults.specs.declared.answers.FaultAnswer.TheVariants as answers
 use Rattle.driver_faults.specs.inner.Due.{IsRight}
-use Rattle.driver_faults.specs.inner.Resolving.{IsFetch, IsGot, IsResolved}
+use Rattle.driver_faults.specs.inner.Resolving.{FetchesPage, IsGot, IsResolved}
 use Rattle.driver_faults.proofs.LoadRows.{IsFoundAt, slot_stands}
 use Rattle.run_laws.specs.inner.Books.{AreTold, FindsVersion, IsHonestEntry, KeepsBook}
 use Rattle.run_laws.specs.inner.Honest.{PutsArray}
@@ -174,7 +174,7 @@ module _ (made : Making) (j : JobView) (past : List Entry) (d d' : Driver) (m m'
   got slot to f (Err faults.Memory) answer at found is = absurd is
 
   fetched : (slot : VaSlot) (o : Option SlotAt) (free : Option ℕ) (told told' : Option (List Call)) (answer : FaultAnswer)
-      → place past page ≡ Away slot → slot_here past slot ≡ o → IsFetch cpu page slot o free d m told answer d' m' told' → Told answer
+      → place past page ≡ Away slot → slot_here past slot ≡ o → FetchesPage cpu page slot o free d m told answer d' m' told' → Told answer
   fetched slot None free told told' answer at found is = absurd is
   fetched slot (Some to) None told told' answer at found is = said _ answer is.does.says tt
   fetched slot (Some to) (Some f) told told' answer at found is = got slot to (frame_at f) is.got answer at found is.does

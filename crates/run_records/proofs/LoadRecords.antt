@@ -63,7 +63,7 @@ use Rattle.driver_faults.specs.declared.answers.FaultAnswer.TheVariants as answe
 use Rattle.driver_faults.specs.declared.answers.Loaded.{Loaded}
 use Rattle.driver_faults.specs.declared.answers.Loaded.TheVariants as ends
 use Rattle.driver_faults.specs.inner.Finishing.{CanFinish, IsFinished}
-use Rattle.driver_faults.specs.inner.Resolving.{IsFetch, IsGot, IsResolved}
+use Rattle.driver_faults.specs.inner.Resolving.{FetchesPage, IsGot, IsResolved}
 use Rattle.driver_faults.proofs.EndLaws.{end_frame}
 use Rattle.run_laws.specs.inner.Books.{AreTold, IsTold, KeepsBook}
 use Rattle.run_laws.specs.inner.Loads.{OfAnswer, entry_in}
@@ -101,7 +101,7 @@ got_silent cpu page slot to f (Err faults.Failed) d d' m m' answer is = said_sil
 got_silent cpu page slot to f (Err faults.Memory) d d' m m' answer is = absurd is
 
 fetch_silent : (cpu : Cpu) (page : Page) (slot : VaSlot) (at : Option SlotAt) (free : Option ℕ) (d d' : Driver) (m m' : Parts)
-    (told told' : Option (List Call)) (answer : FaultAnswer) → IsFetch cpu page slot at free d m told answer d' m' told'
+    (told told' : Option (List Call)) (answer : FaultAnswer) → FetchesPage cpu page slot at free d m told answer d' m' told'
     → OfAnswer cpu page answer IsSilent
 fetch_silent cpu page slot None free d d' m m' told told' answer is = absurd is
 fetch_silent cpu page slot (Some to) None d d' m m' told told' answer is = said_silent cpu page _ answer is.does.says tt
@@ -128,7 +128,7 @@ got_none page (Err faults.Failed) = refl
 got_none page (Err faults.Memory) = refl
 
 fetch_none : (cpu : Cpu) (page : Page) (slot : VaSlot) (at : Option SlotAt) (free : Option ℕ) (d d' : Driver) (m m' : Parts)
-    (told' : Option (List Call)) (answer : FaultAnswer) → IsFetch cpu page slot at free d m None answer d' m' told' → told' ≡ None
+    (told' : Option (List Call)) (answer : FaultAnswer) → FetchesPage cpu page slot at free d m None answer d' m' told' → told' ≡ None
 fetch_none cpu page slot None free d d' m m' told' answer is = absurd is
 fetch_none cpu page slot (Some to) None d d' m m' told' answer is = is.calls
 fetch_none cpu page slot (Some to) (Some f) d d' m m' told' answer is = is.calls ∙ got_none page is.got
@@ -157,7 +157,7 @@ asked_entry cpu page slot to f (Err faults.Failed) d d' m m' answer is none = su
 asked_entry cpu page slot to f (Err faults.Memory) d d' m m' answer is none = is
 
 fetch_stays : (cpu : Cpu) (page : Page) (slot : VaSlot) (at : Option SlotAt) (free : Option ℕ) (d d' : Driver) (m m' : Parts)
-    (told told' : Option (List Call)) (answer : FaultAnswer) → IsFetch cpu page slot at free d m told answer d' m' told'
+    (told told' : Option (List Call)) (answer : FaultAnswer) → FetchesPage cpu page slot at free d m told answer d' m' told'
     → HasNoEntry answer → told' ≡ told
 fetch_stays cpu page slot None free d d' m m' told told' answer is none = absurd is
 fetch_stays cpu page slot (Some to) None d d' m m' told told' answer is none = is.calls

@@ -31,11 +31,11 @@ impl Model for Secs {
 
     ghost Value = { SecsState };
 
-    ghost use Rattle.secs_state.specs.inner.Kept.{secs_of, IsKept};
+    ghost use Rattle.secs_state.specs.inner.Kept.{secs_of, IsSecsKept};
 
     ghost view = { secs_of };
 
-    ghost invariant = { IsKept };
+    ghost invariant = { IsSecsKept };
 }
 
 impl Secs {

@@ -29,7 +29,7 @@ use Rattle.track_epoch.specs.inner.Tracking.{Tracking, entered, left}
 use Rattle.track_epoch.specs.inner.Tracks.{track_of, with_track}
 use Rattle.track_epoch.proofs.TracksLaws.{track_of-with_track}
 use Rattle.sgx_rules.specs.Frames.{page_there}
-use Rattle.entry_exit.specs.inner.Entry.{IsAdded}
+use Rattle.entry_exit.specs.inner.Entry.{IsAddedIn}
 use Rattle.evict_reload.specs.inner.Sights.{HaveEnclaves, owner_in}
 use Rattle.machine_laws.specs.inner.State.{State, seat_enclave, is_seated_by, rewritten, with_inside, with_acc, after_exit}
 use Rattle.machine_laws.specs.inner.State.{after_fill}
@@ -99,11 +99,11 @@ added_there table e number x is found = rw found at is
 
 -- a page of an enclave that a frame holds is one of its added pages
 pub frame_added : (d : Parts) (e n : ℕ) (x : SecsState) → IsTable d.secs → enclave_at d.secs e ≡ Some x → IsFramed (state_of d)
-    → IsAdded (held (entry_at d.epc n)) x
+    → IsAddedIn (held (entry_at d.epc n)) x
 frame_added d e n x table found framed = by_content (held (entry_at d.epc n)) (framed n)
   where
     by_content : (c : Content) → ((g : Page) (kind : Kind) (perm : Perm) → c ≡ Holds g kind perm
-        → is_some (added_in (enclave_at d.secs g.enclave) g.number) ≡ true) → IsAdded c x
+        → is_some (added_in (enclave_at d.secs g.enclave) g.number) ≡ true) → IsAddedIn c x
     by_content (Holds page kind perm) h = λ same.
         (let ours : page.enclave ≡ e = same ∙ (table.own e x found).number in
         added_there d.secs page.enclave page.number x (h page kind perm refl) (ap (enclave_at d.secs) ours ∙ found))

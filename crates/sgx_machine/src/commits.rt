@@ -1,6 +1,6 @@
 //! The ends of write-outs and loads, and what is sealed and opened between a start and its commit.
 
-ghost use Rattle.machine_laws.specs.inner.Notes.{IsDone};
+ghost use Rattle.machine_laws.specs.inner.Notes.{IsDidEvent};
 ghost use Rattle.machine_laws.specs.inner.State.{making_of};
 ghost use Rattle.std.specs.Prelude.{◌≡◌, ◌∷◌, ◌++◌, [], true, Some, length, List, is_some};
 ghost use Rattle.std.specs.Option.{IsSomeAnd};
@@ -132,7 +132,7 @@ impl Machine {
         // it last went out.
         ensures arrays { (making : Making) (past : List Entry) → ShapeWithRules making (state_of self.old) past →
             HasAllVersions (state_of self.old) past →
-            (IsDone result.event → BringsArrayIn making.key past (state_of self.old) frame.0 work.rec) →
+            (IsDidEvent result.event → BringsArrayIn making.key past (state_of self.old) frame.0 work.rec) →
             HasAllVersions (state_of self.new) (result ∷ past) }
         ensures history { (making : Making) (past : List Entry) (records : List Made) (given : List Given) →
             StandsWithAllRules making (state_of self.old) past records →
@@ -140,7 +140,7 @@ impl Machine {
             StandsWithAllRules making (state_of self.new) (result ∷ past) records }
         ensures back { (making : Making) (past : List Entry) (records : List Made) →
             StandsWithAllRules making (state_of self.old) past records →
-            (IsDone result.event → BringsIn making.key past (state_of self.old) frame.0 work.rec) →
+            (IsDidEvent result.event → BringsIn making.key past (state_of self.old) frame.0 work.rec) →
             StandsWithAllRules making (state_of self.new) (result ∷ past) records }
         ensures making { making_of (state_of self.new) ≡ making_of (state_of self.old) }
         ensures cpus { length self.new.cpus ≡ length self.old.cpus }

@@ -21,7 +21,7 @@ use Rattle.sgx_rules.specs.Frames.{is_this}
 use Rattle.trace_places.specs.declared.moves.MayMove.{MayMove}
 use Rattle.trace_places.specs.Moves.{move_of, IsMoveOf, AreMovesOf}
 use Rattle.trace_places.specs.inner.Frames.{frames_in}
-use Rattle.trace_places.specs.inner.Tables.{tenant_in, gone_in, place_in, Makes, frames_with, seen_in, move_to, move_in}
+use Rattle.trace_places.specs.inner.Tables.{tenant_in, gone_in, place_in, MakesChange, frames_with, seen_in, move_to, move_in}
 
 -- ---- pages that stay
 
@@ -54,7 +54,7 @@ frames_stay change former t ns a b =
     rw (other_tenant (tenant_of change) t (not_put change (page_of_tenant t) b), other_tenant former t a) refl
 
 -- a page that is neither the former one of the frame nor named stays where it is
-pub place_stays : (old new : Places) (change : Change) (g : Page) → Makes old change new
+pub place_stays : (old new : Places) (change : Change) (g : Page) → MakesChange old change new
     → is_this (page_at_frame (tenant_in old (frame_changed change))) g ≡ false → is_this (page_named change) g ≡ false
     → place_in new g ≡ place_in old g
 place_stays old new change g makes a b =

@@ -5,7 +5,7 @@ ghost use Rattle.sgx_rules.specs.declared.entries.Entry.{Entry};
 ghost use Rattle.sgx_types.specs.declared.names.Page.{Page};
 ghost use Rattle.trace_places.specs.Places.{page_at_frame, place_of, moved, moved_by, tenant, version_by};
 ghost use Rattle.trace_places.specs.Moves.{moves_of, AreMovesOf};
-ghost use Rattle.trace_places.specs.inner.Tables.{place_in, seen_in, move_in, Stands, HasRoom, HasRoomToMake, Makes};
+ghost use Rattle.trace_places.specs.inner.Tables.{place_in, seen_in, move_in, Stands, PlacesHaveRoom, HasRoomToMake, MakesChange};
 ghost use Rattle.trace_places.specs.inner.Tables.{pages_in, may_move, tenant_in, gone_in};
 ghost use Rattle.std.specs.HashMap.{spare};
 ghost use Rattle.trace_places.specs.declared.change.Change.TheVariants as changes;
@@ -82,7 +82,7 @@ impl Places {
     /// Takes the memory that `push_reserved` needs for this entry. Where the pages are stays as it was.
     pub fn reserve(&mut self, alloc: Global, entry: &Entry) -> Result<(), Memory>
         ensures same { (past : List Entry) → Stands self.old past → Stands self.new past }
-        ensures room { OnOk result (HasRoom self.new entry.now) }
+        ensures room { OnOk result (PlacesHaveRoom self.new entry.now) }
     {
         self.tenants.reserve(1)?;
         self.gone.reserve(1)?;
@@ -104,7 +104,7 @@ impl Places {
 
     /// Takes an entry more, and tells the moves that it makes.
     pub fn push_reserved(&mut self, entry: &Entry) -> Moves
-        requires room { HasRoom self.old entry.now }
+        requires room { PlacesHaveRoom self.old entry.now }
         ensures stands { (past : List Entry) → Stands self.old past → Stands self.new (entry.now ∷ past) }
         ensures moves { (past : List Entry) → Stands self.old past
             → (g : Page) → moves_of result g ≡ option_to_list (moved_by past entry.now g) }
@@ -121,7 +121,7 @@ impl Places {
     // Makes a change, and tells which of the pages that it is of moved.
     fn make_and_tell(&mut self, change: Change) -> Moves
         requires room { HasRoomToMake self.old (Some change) }
-        ensures makes { Makes self.old change self.new }
+        ensures makes { MakesChange self.old change self.new }
         ensures moves { (g : Page) → moves_of result g ≡ option_to_list (moved (place_in self.old g) (place_in self.new g)) }
         ensures pages { AreMovesOf result (pages_in self.old change) }
     {
@@ -137,7 +137,7 @@ impl Places {
 
     fn make(&mut self, change: Change)
         requires room { HasRoomToMake self.old (Some change) }
-        ensures { Makes self.old change self.new }
+        ensures { MakesChange self.old change self.new }
     {
         match change {
             Change::Puts { frame, tenant } => self.put(frame, tenant),
@@ -147,7 +147,7 @@ impl Places {
 
     fn put(&mut self, frame: Frame, tenant: Tenant)
         requires room { HasRoomToMake self.old (Some (changes.Puts frame tenant)) }
-        ensures { Makes self.old (changes.Puts frame tenant) self.new }
+        ensures { MakesChange self.old (changes.Puts frame tenant) self.new }
     {
         let kept: Result<_, _> = self.tenants.insert(frame.0, tenant);
         let former = kept.unwrap();
@@ -161,7 +161,7 @@ impl Places {
 
     fn empty(&mut self, frame: Frame, gone: Option<Gone>)
         requires room { HasRoomToMake self.old (Some (changes.Empties frame gone)) }
-        ensures { Makes self.old (changes.Empties frame gone) self.new }
+        ensures { MakesChange self.old (changes.Empties frame gone) self.new }
     {
         if let Some(former) = self.tenants.remove(&frame.0) {
             self.frames.take_out(former, frame.0);

@@ -9,7 +9,7 @@ use Rattle.sgx_types.specs.declared.names.Page.{Page}
 use Rattle.trace_query.specs.declared.insides.Insides.{Insides}
 use Rattle.trace_query.specs.declared.steps.Step.{Step}
 use Rattle.trace_query.specs.Spans.{is_inside, caches, is_any_below, is_entered, is_cached}
-use Rattle.trace_query.specs.inner.Insides.{is_in, sees, entered_below, cached_below, Follows, Makes}
+use Rattle.trace_query.specs.inner.Insides.{is_in, sees, entered_below, cached_below, InsidesFollow, InsidesMake}
 use Rattle.trace_query.specs.inner.Sights.{sight, sight_by, sight_in, sight_after, step_by}
 use Rattle.trace_query.proofs.SpanLaws.{caches_seen, sight_more}
 
@@ -40,7 +40,7 @@ inside_by : (o : Option Stay) (t : List BareTranslation) (enclave : ℕ) → is_
 inside_by None t enclave = refl
 inside_by (Some here) t enclave = refl
 
-pub entered_all : (known : Insides) (past : List Entry) (k enclave : ℕ) → Follows known past → k ≡ known.cpus
+pub entered_all : (known : Insides) (past : List Entry) (k enclave : ℕ) → InsidesFollow known past → k ≡ known.cpus
     → entered_below k known.processors enclave ≡ is_entered past enclave
 unfolding is_entered
 entered_all known past k enclave f is =
@@ -49,7 +49,7 @@ entered_all known past k enclave f is =
     ∙ any_same here (λ p. is_inside (stay past p) enclave) 256
     (λ p. ap (λ s. is_in s.enclave enclave) (f.sights p) ∙ inside_by (stay past p) (translations past p) enclave)
 
-pub cached_all : (known : Insides) (past : List Entry) (k : ℕ) (g : Page) → Follows known past → k ≡ known.cpus
+pub cached_all : (known : Insides) (past : List Entry) (k : ℕ) (g : Page) → InsidesFollow known past → k ≡ known.cpus
     → cached_below k known.processors g ≡ is_cached past g
 unfolding is_cached
 cached_all known past k g f is =
@@ -61,8 +61,8 @@ cached_all known past k g f is =
 
 -- ---- one entry more
 
-pub inside_more : (old new : Insides) (e : Entry) (past : List Entry) (step : Option Step) → Follows old past
-    → step ≡ step_by e.actor e.event → Makes old step new → Follows new (e ∷ past)
+pub inside_more : (old new : Insides) (e : Entry) (past : List Entry) (step : Option Step) → InsidesFollow old past
+    → step ≡ step_by e.actor e.event → InsidesMake old step new → InsidesFollow new (e ∷ past)
 inside_more old new e past step f is makes = record {
   sights = λ p.
       makes.sights p

@@ -6,12 +6,12 @@ use Rattle.trace_query.specs.declared.page_spans.PageSpans.{PageSpans}
 use Rattle.trace_spans.specs.inner.SpanLists.{spans_in, Covers}
 use Rattle.trace_spans.specs.declared.span_lists.SpanLists.{SpanLists}
 use Rattle.trace_query.specs.inner.Sights.{sight, sight_in, sight_after, step_by}
-use Rattle.trace_query.specs.inner.Seen.{Follows, Makes, Keeps, spans_after}
+use Rattle.trace_query.specs.inner.Seen.{SpansFollow, SpansMake, SpansStay, spans_after}
 use Rattle.trace_query.proofs.SpanLaws.{sight_more, spans_more}
 
-pub follows_more : (old mid new : PageSpans) (e : Entry) (past : List Entry) (step : Option Step) → Follows old past
+pub follows_more : (old mid new : PageSpans) (e : Entry) (past : List Entry) (step : Option Step) → SpansFollow old past
     → step ≡ step_by e.actor e.event → mid.processors ≡ old.processors → mid.lists ≡ old.lists → mid.len ≡ old.len + 1
-    → Makes mid step new → Follows new (e ∷ past)
+    → SpansMake mid step new → SpansFollow new (e ∷ past)
 follows_more old mid new e past step f is processors lists len makes =
     let place : mid.len ≡ length past + 1 = omega (arith, len, f.len) in
     let seen : sight_in mid.processors ≡ sight past = ap sight_in processors ∙ (λ i p. f.sights p i) in
@@ -33,7 +33,7 @@ follows_more old mid new e past step f is processors lists len makes =
       len = omega (arith, makes.len, len, f.len);
     }
 
-pub follows_kept : (old new : PageSpans) (past : List Entry) → Keeps old new → Follows old past → Follows new past
+pub follows_kept : (old new : PageSpans) (past : List Entry) → SpansStay old new → SpansFollow old past → SpansFollow new past
 follows_kept old new past keeps f = record {
   sights = λ p. keeps.sights p ∙ f.sights p;
   lists = λ q. keeps.lists q ∙ f.lists q;

@@ -15,7 +15,7 @@ use Rattle.trace_query.specs.declared.page_spans.PageSpans.{PageSpans}
 use Rattle.trace_query.specs.Spans.{caches, cachers_before, cachers}
 use Rattle.trace_spans.specs.inner.SpanLists.{lasts, end_by, ended, begun, SpansRise, is_before, cached_from, cached_at}
 use Rattle.trace_spans.specs.inner.SpanLists.{span_key, up_to}
-use Rattle.trace_query.specs.inner.Seen.{settled, spans, Follows}
+use Rattle.trace_query.specs.inner.Seen.{settled, spans, SpansFollow}
 use Rattle.trace_query.proofs.PlaceLaws.{before_more, before_all}
 use Rattle.trace_query.proofs.SpanLaws.{spans_last}
 
@@ -187,7 +187,7 @@ no_cachers k (suc n) past g le none =
     ]
 
 -- no processor beyond those that cached a page is among the cachers
-pub none_beyond : (known : PageSpans) (past : List Entry) (n : ℕ) (g : Page) (k : ℕ) → Follows known past → k ≡ up_to known.lists.last
+pub none_beyond : (known : PageSpans) (past : List Entry) (n : ℕ) (g : Page) (k : ℕ) → SpansFollow known past → k ≡ up_to known.lists.last
     → k ≤ 256 → cachers_before k (first_entries n past) g ≡ cachers (first_entries n past) g
 none_beyond known past n g k f is most =
     no_cachers k 256 (first_entries n past) g most

@@ -10,9 +10,9 @@ use Rattle.trace_query.specs.declared.page_words.PageWords.{PageWords}
 use Rattle.trace_query.specs.declared.page_words.Taken.{Taken}
 use Rattle.sgx_types.specs.Pages.{same_page}
 use Rattle.trace_query.specs.inner.WordLists.{changes_in}
-use Rattle.trace_query.specs.inner.Written.{Follows, Takes, Notes, Keeps, noted, added_with, added_in}
+use Rattle.trace_query.specs.inner.Written.{WordsFollow, Takes, NotesWord, WordsStay, noted, added_with, added_in}
 
-pub follows_kept : (old new : PageWords) (past : List Entry) → Keeps old new → Follows old past → Follows new past
+pub follows_kept : (old new : PageWords) (past : List Entry) → WordsStay old new → WordsFollow old past → WordsFollow new past
 follows_kept old new past keeps f = record {
   memory = keeps.memory ∙ f.memory;
   added = λ g. keeps.added g ∙ f.added g;
@@ -34,11 +34,11 @@ pub record Counts (old new : PageWords) : Type 0 where
   pub lists : new.lists ≡ old.lists
   pub len : new.len ≡ old.len + 1
 
-pub follows_more : (old took counted paged one two : PageWords) (e : Entry) (past : List Entry) (taken : Taken) → Follows old past
+pub follows_more : (old took counted paged one two : PageWords) (e : Entry) (past : List Entry) (taken : Taken) → WordsFollow old past
     → Takes old (event_after e.actor e.event (memory_of old.flat)) (touched (memory_of old.flat) e.actor e.event)
     (page_added (memory_of old.flat) e.actor e.event) taken took
-    → Counts took counted → NotesPage counted taken paged → Notes paged taken.writes.first one → Notes one taken.writes.second two
-    → Follows two (e ∷ past)
+    → Counts took counted → NotesPage counted taken paged → NotesWord paged taken.writes.first one → NotesWord one taken.writes.second two
+    → WordsFollow two (e ∷ past)
 follows_more old took counted paged one two e past taken f takes counts page first second =
     let after : memory_of took.flat ≡ flat (e ∷ past) = takes.memory ∙ ap (event_after e.actor e.event) f.memory in
     let paged_memory : memory_of paged.flat ≡ flat (e ∷ past)

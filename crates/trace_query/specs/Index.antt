@@ -7,7 +7,7 @@ use Rattle.trace_query.specs.inner.Seen as spans
 use Rattle.trace_query.specs.inner.Written as words
 
 -- the index is over these entries, the newest first
-pub record Stands (index : Index) (past : List Entry) : Type 0 where
-  pub moves : moves.Follows index.moves past
-  pub spans : spans.Follows index.spans past
-  pub words : words.Follows index.words past
+pub record IndexStands (index : Index) (past : List Entry) : Type 0 where
+  pub moves : moves.MovesFollow index.moves past
+  pub spans : spans.SpansFollow index.spans past
+  pub words : words.WordsFollow index.words past

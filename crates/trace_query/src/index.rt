@@ -4,7 +4,7 @@ ghost use Rattle.std.specs.Prelude.{◌≡◌, ◌<◌, ◌∷◌, [], List, len
 ghost use Rattle.sgx_rules.specs.declared.entries.Entry.{Entry};
 ghost use Rattle.flat_words.specs.Words.{word};
 ghost use Rattle.trace_places.specs.Places.{place_of};
-ghost use Rattle.trace_query.specs.Index.{Stands};
+ghost use Rattle.trace_query.specs.Index.{IndexStands};
 ghost use Rattle.trace_query.specs.Moves.{first_entries, moves};
 ghost use Rattle.trace_query.specs.Spans.{cachers};
 
@@ -33,7 +33,7 @@ pub struct Index {
 impl Index {
     /// No entry was pushed. Takes the room for the words of the job's pages.
     pub fn new(alloc: Global, job: &Job) -> Result<Index, Memory>
-        ensures { IfOk result (λ index. Stands index []) }
+        ensures { IfOk result (λ index. IndexStands index []) }
     {
         Ok(Index {
             moves: PageMoves::new(alloc),
@@ -45,8 +45,8 @@ impl Index {
     /// Takes an entry more. Refused memory leaves all as it was; it is refused to the entry behind 2^64 - 1 others too, since there
     /// is no number for its place.
     pub fn push(&mut self, alloc: Global, entry: &Entry) -> Result<(), Memory>
-        ensures pushed { OnOk result ((past : List Entry) → Stands self.old past → Stands self.new (entry.now ∷ past)) }
-        ensures refused { OnErr result ((past : List Entry) → Stands self.old past → Stands self.new past) }
+        ensures pushed { OnOk result ((past : List Entry) → IndexStands self.old past → IndexStands self.new (entry.now ∷ past)) }
+        ensures refused { OnErr result ((past : List Entry) → IndexStands self.old past → IndexStands self.new past) }
     {
         self.moves.reserve(alloc, entry)?;
         self.spans.reserve(alloc, entry)?;
@@ -58,21 +58,21 @@ impl Index {
 
     /// How many entries were pushed.
     pub fn len(&self) -> u64
-        ensures { (past : List Entry) → Stands self.now past → result ≡ length past }
+        ensures { (past : List Entry) → IndexStands self.now past → result ≡ length past }
     {
         self.moves.len()
     }
 
     /// Where a page was behind the first `n` entries, or behind all where there are fewer.
     pub fn where_is(&self, n: u64, page: Page) -> Where
-        ensures { (past : List Entry) → Stands self.now past → result ≡ place_of (first_entries n past) page }
+        ensures { (past : List Entry) → IndexStands self.now past → result ≡ place_of (first_entries n past) page }
     {
         self.moves.where_is(n, page)
     }
 
     /// The processors that cached a page behind the first `n` entries, or behind all where there are fewer, rising.
     pub fn who_caches(&self, alloc: Global, n: u64, page: Page) -> Result<Vec<Cpu>, Memory>
-        ensures { IfOk result (λ cpus. (past : List Entry) → Stands self.now past → cpus.items ≡ cachers (first_entries n past) page) }
+        ensures { IfOk result (λ cpus. (past : List Entry) → IndexStands self.now past → cpus.items ≡ cachers (first_entries n past) page) }
     {
         self.spans.who_caches(alloc, n, page)
     }
@@ -81,14 +81,14 @@ impl Index {
     /// before. A SECS and a version array page have no words.
     pub fn word_at(&self, n: u64, page: Page, index: u16) -> Option<u64>
         requires { index < 512 }
-        ensures { (past : List Entry) → Stands self.now past → result ≡ word (first_entries n past) page index }
+        ensures { (past : List Entry) → IndexStands self.now past → result ≡ word (first_entries n past) page index }
     {
         self.words.word_at(n, page, index)
     }
 
     /// The moves that a page made, oldest first.
     pub fn moves(&self, alloc: Global, page: Page) -> Result<Vec<Move>, Memory>
-        ensures { IfOk result (λ steps. (past : List Entry) → Stands self.now past → steps.items ≡ moves past page) }
+        ensures { IfOk result (λ steps. (past : List Entry) → IndexStands self.now past → steps.items ≡ moves past page) }
     {
         self.moves.moves(alloc, page)
     }

@@ -4,7 +4,7 @@ ghost use Rattle.std.specs.Prelude.{◌≡◌, ◌≤◌, ◌∷◌, [], List, O
 ghost use Rattle.sgx_rules.specs.declared.entries.Entry.{Entry};
 ghost use Rattle.trace_query.specs.declared.steps.Step.TheVariants as steps;
 ghost use Rattle.trace_query.specs.Spans.{is_entered, is_cached};
-ghost use Rattle.trace_query.specs.inner.Insides.{Follows, Makes};
+ghost use Rattle.trace_query.specs.inner.Insides.{InsidesFollow, InsidesMake};
 
 use crate::processors::Processors;
 use crate::steps::{Step, step_by};
@@ -24,7 +24,7 @@ pub struct Insides {
 impl Insides {
     /// No entry was pushed.
     pub fn new(alloc: Global) -> Insides
-        ensures { Follows result [] }
+        ensures { InsidesFollow result [] }
     {
         Insides {
             processors: Processors::new(alloc),
@@ -34,21 +34,21 @@ impl Insides {
 
     /// Whether a processor is inside an enclave.
     pub fn is_entered(&self, enclave: u16) -> bool
-        ensures { (past : List Entry) → Follows self.now past → result ≡ is_entered past enclave }
+        ensures { (past : List Entry) → InsidesFollow self.now past → result ≡ is_entered past enclave }
     {
         self.processors.is_entered(self.cpus.min(256), enclave)
     }
 
     /// Whether a processor caches a page.
     pub fn is_cached(&self, page: Page) -> bool
-        ensures { (past : List Entry) → Follows self.now past → result ≡ is_cached past page }
+        ensures { (past : List Entry) → InsidesFollow self.now past → result ≡ is_cached past page }
     {
         self.processors.is_cached(self.cpus.min(256), page)
     }
 
     /// Takes an entry more.
     pub fn push(&mut self, alloc: Global, entry: &Entry) -> Result<(), Memory>
-        ensures { OnOk result ((past : List Entry) → Follows self.old past → Follows self.new (entry.now ∷ past)) }
+        ensures { OnOk result ((past : List Entry) → InsidesFollow self.old past → InsidesFollow self.new (entry.now ∷ past)) }
     {
         match step_by(entry) {
             Some(Step::Turns { cpu, to }) => self.turn(alloc, cpu, to),
@@ -58,7 +58,7 @@ impl Insides {
     }
 
     fn turn(&mut self, alloc: Global, cpu: u8, to: Option<u16>) -> Result<(), Memory>
-        ensures { OnOk result (Makes self.old (Some (steps.Turns cpu to)) self.new) }
+        ensures { OnOk result (InsidesMake self.old (Some (steps.Turns cpu to)) self.new) }
     {
         if to.is_some() {
             self.processors.begin(alloc, cpu)?;
@@ -69,7 +69,7 @@ impl Insides {
     }
 
     fn fill(&mut self, cpu: u8, number: u32) -> Result<(), Memory>
-        ensures { OnOk result (Makes self.old (Some (steps.Fills cpu number)) self.new) }
+        ensures { OnOk result (InsidesMake self.old (Some (steps.Fills cpu number)) self.new) }
     {
         if self.processors.enclave(cpu).is_some() {
             self.processors.reserve(cpu)?;

@@ -4,7 +4,7 @@ ghost use Rattle.std.specs.Prelude.{◌≡◌, ◌∷◌, [], List, length, IfOk
 ghost use Rattle.sgx_rules.specs.declared.entries.Entry.{Entry};
 ghost use Rattle.trace_places.specs.Places.{place_of};
 ghost use Rattle.trace_query.specs.Moves.{first_entries, moves};
-ghost use Rattle.trace_query.specs.inner.Kept.{Follows, HasRoom, HasRoomIf, Keeps, Notes, HasRoomToNote};
+ghost use Rattle.trace_query.specs.inner.Kept.{MovesFollow, MovesHaveRoom, MovesHaveRoomIf, MovesStay, NotesMove, MovesHaveRoomToNote};
 
 use crate::move_lists::MoveLists;
 use sgx_rules::entries::Entry;
@@ -32,7 +32,7 @@ pub struct PageMoves {
 impl PageMoves {
     /// No entry was pushed.
     pub fn new(alloc: Global) -> PageMoves
-        ensures { Follows result [] }
+        ensures { MovesFollow result [] }
     {
         PageMoves {
             places: Places::new(alloc),
@@ -44,7 +44,7 @@ impl PageMoves {
     /// How many entries were pushed.
     pub fn len(&self) -> u64
         ensures len { result ≡ self.now.len }
-        ensures entries { (past : List Entry) → Follows self.now past → result ≡ length past }
+        ensures entries { (past : List Entry) → MovesFollow self.now past → result ≡ length past }
     {
         self.len
     }
@@ -52,14 +52,14 @@ impl PageMoves {
     /// Where a page was behind the first `n` entries, or behind all where there are fewer. The SECS of enclave E is asked for as page
     /// 4294967295 of E, and the version array page that was made as the K-th, counted from 0, as page K of enclave 0.
     pub fn where_is(&self, n: u64, page: Page) -> Where
-        ensures { (past : List Entry) → Follows self.now past → result ≡ place_of (first_entries n past) page }
+        ensures { (past : List Entry) → MovesFollow self.now past → result ≡ place_of (first_entries n past) page }
     {
         self.lists.at(n, page)
     }
 
     /// The moves that a page made, oldest first.
     pub fn moves(&self, alloc: Global, page: Page) -> Result<Vec<Move>, Memory>
-        ensures { IfOk result (λ steps. (past : List Entry) → Follows self.now past → steps.items ≡ moves past page) }
+        ensures { IfOk result (λ steps. (past : List Entry) → MovesFollow self.now past → steps.items ≡ moves past page) }
     {
         self.lists.copy(alloc, page)
     }
@@ -67,8 +67,8 @@ impl PageMoves {
     /// Takes an entry more. Refused memory leaves all as it was; it is refused to the entry behind 2^64 - 1 others too, since there
     /// is no number for its place.
     pub fn push(&mut self, alloc: Global, entry: &Entry) -> Result<(), Memory>
-        ensures follows { OnOk result ((past : List Entry) → Follows self.old past → Follows self.new (entry.now ∷ past)) }
-        ensures refused { OnErr result ((past : List Entry) → Follows self.old past → Follows self.new past) }
+        ensures follows { OnOk result ((past : List Entry) → MovesFollow self.old past → MovesFollow self.new (entry.now ∷ past)) }
+        ensures refused { OnErr result ((past : List Entry) → MovesFollow self.old past → MovesFollow self.new past) }
     {
         self.reserve(alloc, entry)?;
         self.push_reserved(entry);
@@ -77,8 +77,8 @@ impl PageMoves {
 
     /// Takes the memory that `push_reserved` needs for this entry. The moves stay as they were.
     pub fn reserve(&mut self, alloc: Global, entry: &Entry) -> Result<(), Memory>
-        ensures same { (past : List Entry) → Follows self.old past → Follows self.new past }
-        ensures room { OnOk result (HasRoom self.new entry.now) }
+        ensures same { (past : List Entry) → MovesFollow self.old past → MovesFollow self.new past }
+        ensures room { OnOk result (MovesHaveRoom self.new entry.now) }
     {
         if self.len == u64::MAX {
             return Err(Memory);
@@ -91,8 +91,8 @@ impl PageMoves {
 
     /// Takes an entry more.
     pub fn push_reserved(&mut self, entry: &Entry)
-        requires room { HasRoom self.old entry.now }
-        ensures { (past : List Entry) → Follows self.old past → Follows self.new (entry.now ∷ past) }
+        requires room { MovesHaveRoom self.old entry.now }
+        ensures { (past : List Entry) → MovesFollow self.old past → MovesFollow self.new (entry.now ∷ past) }
     {
         let moves = self.places.push_reserved(entry);
         self.len += 1;
@@ -102,8 +102,8 @@ impl PageMoves {
 
     // Makes room for two moves more of a page, if it is one.
     fn reserve_for(&mut self, alloc: Global, page: Option<Page>) -> Result<(), Memory>
-        ensures same { Keeps self.old self.new }
-        ensures room { OnOk result (HasRoomIf self.new page 2) }
+        ensures same { MovesStay self.old self.new }
+        ensures room { OnOk result (MovesHaveRoomIf self.new page 2) }
     {
         match page {
             Some(page) => self.lists.reserve(alloc, page),
@@ -113,8 +113,8 @@ impl PageMoves {
 
     // Notes the move of a page, if it is one, at the place behind all entries.
     fn note(&mut self, moved: Option<PageMove>)
-        requires room { HasRoomToNote self.old moved }
-        ensures { Notes self.old moved self.new }
+        requires room { MovesHaveRoomToNote self.old moved }
+        ensures { NotesMove self.old moved self.new }
     {
         if let Some(moved) = moved {
             self.lists.push(

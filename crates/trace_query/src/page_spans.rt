@@ -7,7 +7,7 @@ ghost use Rattle.trace_query.specs.Moves.{first_entries};
 ghost use Rattle.trace_query.specs.Spans.{caches, cachers};
 ghost use Rattle.trace_spans.specs.declared.span_lists.SpanKey.{SpanKey};
 ghost use Rattle.trace_spans.specs.inner.SpanLists.{spans_in, Covers};
-ghost use Rattle.trace_query.specs.inner.Seen.{Follows, HasRoom, HasRoomToStep, Keeps, Makes, ended_if};
+ghost use Rattle.trace_query.specs.inner.Seen.{SpansFollow, SpansHaveRoom, HasRoomToStep, SpansStay, SpansMake, ended_if};
 
 use crate::processors::Processors;
 use crate::steps::{Step, step_by};
@@ -28,7 +28,7 @@ pub struct PageSpans {
 impl PageSpans {
     /// No entry was pushed.
     pub fn new(alloc: Global) -> PageSpans
-        ensures { Follows result [] }
+        ensures { SpansFollow result [] }
     {
         PageSpans {
             processors: Processors::new(alloc),
@@ -40,7 +40,7 @@ impl PageSpans {
     /// How many entries were pushed.
     pub fn len(&self) -> u64
         ensures len { result ≡ self.now.len }
-        ensures entries { (past : List Entry) → Follows self.now past → result ≡ length past }
+        ensures entries { (past : List Entry) → SpansFollow self.now past → result ≡ length past }
     {
         self.len
     }
@@ -48,7 +48,7 @@ impl PageSpans {
     /// The processors that cached a page behind the first `n` entries, or behind all where there are fewer, rising. The SECS of enclave
     /// E is asked for as page 4294967295 of E.
     pub fn who_caches(&self, alloc: Global, n: u64, page: Page) -> Result<Vec<Cpu>, Memory>
-        ensures { IfOk result (λ cpus. (past : List Entry) → Follows self.now past → cpus.items ≡ cachers (first_entries n past) page) }
+        ensures { IfOk result (λ cpus. (past : List Entry) → SpansFollow self.now past → cpus.items ≡ cachers (first_entries n past) page) }
     {
         let mut cpus = Vec::new(alloc);
         for number in 0..self.lists.cpus() {
@@ -62,7 +62,7 @@ impl PageSpans {
 
     // Whether a processor cached a page behind the first `n` entries.
     fn caches(&self, n: u64, cpu: u8, page: Page) -> bool
-        ensures { (past : List Entry) → Follows self.now past → result ≡ caches (first_entries n past) cpu page }
+        ensures { (past : List Entry) → SpansFollow self.now past → result ≡ caches (first_entries n past) cpu page }
     {
         self.lists.at(
             n,
@@ -77,8 +77,8 @@ impl PageSpans {
     /// Takes an entry more. Refused memory leaves all as it was; it is refused to the entry behind 2^64 - 1 others too, since there
     /// is no number for its place.
     pub fn push(&mut self, alloc: Global, entry: &Entry) -> Result<(), Memory>
-        ensures follows { OnOk result ((past : List Entry) → Follows self.old past → Follows self.new (entry.now ∷ past)) }
-        ensures refused { OnErr result ((past : List Entry) → Follows self.old past → Follows self.new past) }
+        ensures follows { OnOk result ((past : List Entry) → SpansFollow self.old past → SpansFollow self.new (entry.now ∷ past)) }
+        ensures refused { OnErr result ((past : List Entry) → SpansFollow self.old past → SpansFollow self.new past) }
     {
         self.reserve(alloc, entry)?;
         self.push_reserved(entry);
@@ -87,8 +87,8 @@ impl PageSpans {
 
     /// Takes the memory that `push_reserved` needs for this entry. What is known stays as it was.
     pub fn reserve(&mut self, alloc: Global, entry: &Entry) -> Result<(), Memory>
-        ensures same { (past : List Entry) → Follows self.old past → Follows self.new past }
-        ensures room { OnOk result (HasRoom self.new entry.now) }
+        ensures same { (past : List Entry) → SpansFollow self.old past → SpansFollow self.new past }
+        ensures room { OnOk result (SpansHaveRoom self.new entry.now) }
     {
         if self.len == u64::MAX {
             return Err(Memory);
@@ -98,15 +98,15 @@ impl PageSpans {
 
     /// Takes an entry more. A processor that leaves takes no memory.
     pub fn push_reserved(&mut self, entry: &Entry)
-        requires room { HasRoom self.old entry.now }
-        ensures { (past : List Entry) → Follows self.old past → Follows self.new (entry.now ∷ past) }
+        requires room { SpansHaveRoom self.old entry.now }
+        ensures { (past : List Entry) → SpansFollow self.old past → SpansFollow self.new (entry.now ∷ past) }
     {
         self.len += 1;
         self.make(step_by(entry));
     }
 
     fn reserve_step(&mut self, alloc: Global, step: Option<Step>) -> Result<(), Memory>
-        ensures same { Keeps self.old self.new }
+        ensures same { SpansStay self.old self.new }
         ensures room { OnOk result (HasRoomToStep self.new step) }
     {
         match step {
@@ -117,7 +117,7 @@ impl PageSpans {
     }
 
     fn reserve_fill(&mut self, alloc: Global, cpu: u8, number: u32) -> Result<(), Memory>
-        ensures same { Keeps self.old self.new }
+        ensures same { SpansStay self.old self.new }
         ensures room { OnOk result (HasRoomToStep self.new (Some (steps.Fills cpu number))) }
     {
         let Some(enclave) = self.processors.enclave(cpu) else {
@@ -137,7 +137,7 @@ impl PageSpans {
     // Makes a step at the place behind all entries.
     fn make(&mut self, step: Option<Step>)
         requires room { HasRoomToStep self.old step }
-        ensures { Makes self.old step self.new }
+        ensures { SpansMake self.old step self.new }
     {
         match step {
             Some(Step::Turns { cpu, to }) => self.turn(cpu, to),
@@ -149,7 +149,7 @@ impl PageSpans {
     // What the processor cached it caches no more, whether it goes in or out.
     fn turn(&mut self, cpu: u8, to: Option<u16>)
         requires room { HasRoomToStep self.old (Some (steps.Turns cpu to)) }
-        ensures { Makes self.old (Some (steps.Turns cpu to)) self.new }
+        ensures { SpansMake self.old (Some (steps.Turns cpu to)) self.new }
     {
         self.processors.close_spans(cpu, &mut self.lists, self.len);
         self.processors.turn(cpu, to);
@@ -157,7 +157,7 @@ impl PageSpans {
 
     fn fill(&mut self, cpu: u8, number: u32)
         requires room { HasRoomToStep self.old (Some (steps.Fills cpu number)) }
-        ensures { Makes self.old (Some (steps.Fills cpu number)) self.new }
+        ensures { SpansMake self.old (Some (steps.Fills cpu number)) self.new }
     {
         if let Some(filled) = self.processors.fill(cpu, number) {
             let enclave = filled.enclave;

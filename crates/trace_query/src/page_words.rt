@@ -11,7 +11,8 @@ ghost use Rattle.flat_words.specs.Words.{word};
 ghost use Rattle.flat_words.specs.Writes.{touched, writes_of, nothing, new_page, page_added};
 ghost use Rattle.trace_query.specs.Moves.{first_entries};
 ghost use Rattle.trace_query.specs.inner.WordLists.{word_at, changes_in, ChangesRise};
-ghost use Rattle.trace_query.specs.inner.Written.{Follows, HasRoomToNote, HasRoomIf, HasRoomForPage, Keeps, Takes, Notes};
+ghost use Rattle.trace_query.specs.inner.Written.{WordsFollow, WordsHaveRoomToNote, WordsHaveRoomIf, HasRoomForPage, WordsStay};
+ghost use Rattle.trace_query.specs.inner.Written.{NotesWord, Takes};
 ghost use Rattle.trace_query.specs.inner.Written.{AreIndices, IsIndexIf, added_in, added_with, is_asked, is_processor, word_by};
 
 use crate::word_lists::{Change, WordLists};
@@ -60,7 +61,7 @@ pub struct PageWords {
 impl PageWords {
     /// No entry was pushed. Takes the room for the words of the job's pages.
     pub fn new(alloc: Global, job: &Job) -> Result<PageWords, Memory>
-        ensures { IfOk result (λ known. Follows known []) }
+        ensures { IfOk result (λ known. WordsFollow known []) }
     {
         Ok(PageWords {
             flat: Flat::new(alloc, job)?,
@@ -73,7 +74,7 @@ impl PageWords {
     /// How many entries were pushed.
     pub fn len(&self) -> u64
         ensures len { result ≡ self.now.len }
-        ensures entries { (past : List Entry) → Follows self.now past → result ≡ length past }
+        ensures entries { (past : List Entry) → WordsFollow self.now past → result ≡ length past }
     {
         self.len
     }
@@ -82,7 +83,7 @@ impl PageWords {
     /// before. A SECS and a version array page have no words.
     pub fn word_at(&self, n: u64, page: Page, index: u16) -> Option<u64>
         requires { index < 512 }
-        ensures { (past : List Entry) → Follows self.now past → result ≡ word (first_entries n past) page index }
+        ensures { (past : List Entry) → WordsFollow self.now past → result ≡ word (first_entries n past) page index }
     {
         let added = self.added.get(&page).copied();
         self.word_by(n, added, page, index)
@@ -109,8 +110,8 @@ impl PageWords {
     /// Takes an entry more. Refused memory leaves all as it was; it is refused to the entry behind 2^64 - 1 others too, since there
     /// is no number for its place.
     pub fn push(&mut self, alloc: Global, entry: &Entry) -> Result<(), Memory>
-        ensures follows { OnOk result ((past : List Entry) → Follows self.old past → Follows self.new (entry.now ∷ past)) }
-        ensures refused { OnErr result ((past : List Entry) → Follows self.old past → Follows self.new past) }
+        ensures follows { OnOk result ((past : List Entry) → WordsFollow self.old past → WordsFollow self.new (entry.now ∷ past)) }
+        ensures refused { OnErr result ((past : List Entry) → WordsFollow self.old past → WordsFollow self.new past) }
     {
         if self.len == u64::MAX {
             return Err(Memory);
@@ -128,9 +129,9 @@ impl PageWords {
         ensures takes { IfOk result (λ taken. Takes self.old (event_after entry.now.actor entry.now.event (memory_of self.old.flat))
             (touched (memory_of self.old.flat) entry.now.actor entry.now.event)
             (page_added (memory_of self.old.flat) entry.now.actor entry.now.event) taken self.new) }
-        ensures room { IfOk result (λ taken. HasRoomToNote self.new taken) }
+        ensures room { IfOk result (λ taken. WordsHaveRoomToNote self.new taken) }
         ensures indices { IfOk result (λ taken. AreIndices taken.writes) }
-        ensures refused { OnErr result (Keeps self.old self.new) }
+        ensures refused { OnErr result (WordsStay self.old self.new) }
     {
         match &entry.event {
             Event::Did { action, .. } => self.take_action(alloc, entry.actor, action),
@@ -142,9 +143,9 @@ impl PageWords {
         ensures takes { IfOk result (λ taken. Takes self.old (step_of (memory_of self.old.flat) actor action.now)
             (if accepts (memory_of self.old.flat) actor action.now then writes_of (memory_of self.old.flat) actor action.now else nothing)
             (if accepts (memory_of self.old.flat) actor action.now then new_page action.now else None) taken self.new) }
-        ensures room { IfOk result (λ taken. HasRoomToNote self.new taken) }
+        ensures room { IfOk result (λ taken. WordsHaveRoomToNote self.new taken) }
         ensures indices { IfOk result (λ taken. AreIndices taken.writes) }
-        ensures refused { OnErr result (Keeps self.old self.new) }
+        ensures refused { OnErr result (WordsStay self.old self.new) }
     {
         if is_asked(actor, action) {
             self.apply(alloc, actor, action)
@@ -159,9 +160,9 @@ impl PageWords {
         ensures takes { IfOk result (λ taken. Takes self.old (step_of (memory_of self.old.flat) actor action.now)
             (if accepts (memory_of self.old.flat) actor action.now then writes_of (memory_of self.old.flat) actor action.now else nothing)
             (if accepts (memory_of self.old.flat) actor action.now then new_page action.now else None) taken self.new) }
-        ensures room { IfOk result (λ taken. HasRoomToNote self.new taken) }
+        ensures room { IfOk result (λ taken. WordsHaveRoomToNote self.new taken) }
         ensures indices { IfOk result (λ taken. AreIndices taken.writes) }
-        ensures refused { OnErr result (Keeps self.old self.new) }
+        ensures refused { OnErr result (WordsStay self.old self.new) }
     {
         let taken = Taken {
             writes: self.flat.writes(actor, action),
@@ -176,9 +177,9 @@ impl PageWords {
 
     // Takes the memory that is needed to note this.
     fn reserve(&mut self, alloc: Global, taken: Taken) -> Result<(), Memory>
-        ensures same { Keeps self.old self.new }
+        ensures same { WordsStay self.old self.new }
         ensures flat { self.new.flat ≡ self.old.flat }
-        ensures room { OnOk result (HasRoomToNote self.new taken) }
+        ensures room { OnOk result (WordsHaveRoomToNote self.new taken) }
     {
         self.reserve_word(alloc, taken.writes.first)?;
         self.reserve_word(alloc, taken.writes.second)?;
@@ -190,9 +191,9 @@ impl PageWords {
 
     // Makes room for two changes more of a word, if it is one.
     fn reserve_word(&mut self, alloc: Global, at: Option<WordAt>) -> Result<(), Memory>
-        ensures same { Keeps self.old self.new }
+        ensures same { WordsStay self.old self.new }
         ensures flat { self.new.flat ≡ self.old.flat }
-        ensures room { OnOk result (HasRoomIf self.new at 2) }
+        ensures room { OnOk result (WordsHaveRoomIf self.new at 2) }
     {
         match at {
             Some(at) => self.lists.reserve(alloc, at),
@@ -227,8 +228,8 @@ impl PageWords {
     // Notes what a word of an added page is now, if it is one, at the place behind all entries.
     fn note_word(&mut self, at: Option<WordAt>)
         requires index { IsIndexIf at }
-        requires room { HasRoomIf self.old at 1 }
-        ensures { Notes self.old at self.new }
+        requires room { WordsHaveRoomIf self.old at 1 }
+        ensures { NotesWord self.old at self.new }
     {
         let Some(at) = at else {
             return;

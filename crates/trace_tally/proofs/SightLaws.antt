@@ -5,7 +5,7 @@ use Rattle.sgx_rules.specs.declared.entries.Entry.{Entry}
 use Rattle.trace_tally.specs.declared.blocks.Blocked.{Blocked}
 use Rattle.trace_tally.specs.declared.blocks.Blocks.{Blocks}
 use Rattle.trace_tally.specs.Tests.{blocked_by, untracked_by, is_frame, is_page_entered, tenant_page, was_entered, untracked}
-use Rattle.trace_tally.specs.inner.Blocks.{blocked_in, blocked_after, Follows}
+use Rattle.trace_tally.specs.inner.Blocks.{blocked_in, blocked_after, BlocksFollow}
 use Rattle.trace_tally.specs.inner.Sights.{is_blocked_entered}
 
 -- ---- frames
@@ -35,9 +35,9 @@ entered_if (Some m) past n is was h = by_test (m == n) refl
     by_test true same = h ∙ ap (λ k. is_page_entered past (tenant_page past k)) (eqb-true m n same)
     by_test false other = refl
 
-pub blocks_more : (old new : Blocks) (e : Entry) (past : List Entry) (is : Bool) → Follows old past
+pub blocks_more : (old new : Blocks) (e : Entry) (past : List Entry) (is : Bool) → BlocksFollow old past
     → is ≡ is_blocked_entered past (blocked_by e.event)
-    → ((n : ℕ) → blocked_in new n ≡ blocked_after e.event is n (blocked_in old n)) → Follows new (e ∷ past)
+    → ((n : ℕ) → blocked_in new n ≡ blocked_after e.event is n (blocked_in old n)) → BlocksFollow new (e ∷ past)
 blocks_more old new e past is f entered after = record {
   entered = λ n.
       ap (λ (b : Blocked). b.entered) (after n)

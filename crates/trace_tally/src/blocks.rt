@@ -2,7 +2,7 @@
 
 ghost use Rattle.std.specs.Prelude.{◌≡◌, ◌==◌, [], ℕ, if◌then◌else◌, OnOk};
 ghost use Rattle.trace_tally.specs.Tests.{blocked_by, untracked_by};
-ghost use Rattle.trace_tally.specs.inner.Blocks.{blocked_in, blocked_after, numbered, Follows};
+ghost use Rattle.trace_tally.specs.inner.Blocks.{blocked_in, blocked_after, numbered, BlocksFollow};
 
 use crate::counts::more;
 use sgx_rules::entries::{Action, Event};
@@ -28,7 +28,7 @@ pub(crate) struct Blocks {
 impl Blocks {
     /// No entry was pushed.
     pub(crate) fn new(alloc: Global) -> Blocks
-        ensures { Follows result [] }
+        ensures { BlocksFollow result [] }
     {
         Blocks {
             frames: HashMap::new(alloc),

@@ -4,7 +4,7 @@ ghost use Rattle.std.specs.Prelude.{◌≡◌, ◌++◌, ◌∷◌, [], List, re
 ghost use Rattle.sgx_rules.specs.declared.entries.Entry.{Entry};
 ghost use Rattle.text_words.specs.Words.{line_text};
 ghost use Rattle.trace_tally.specs.TallyText.{counts_text, driver_words, number_line, refusal_words, refusals_text, tally_text};
-ghost use Rattle.trace_tally.specs.inner.Tally.{Follows};
+ghost use Rattle.trace_tally.specs.inner.Tally.{TallyFollows};
 
 use crate::counts::{Counts, more};
 use crate::refusals::{RefusalCount, push_refusal};
@@ -30,7 +30,7 @@ struct Tally {
 impl Tally {
     // No entry was pushed.
     fn new(alloc: Global) -> Tally
-        ensures { Follows result [] }
+        ensures { TallyFollows result [] }
     {
         Tally {
             sights: Sights::new(alloc),
@@ -43,7 +43,7 @@ impl Tally {
 
     // The entries stand oldest first.
     fn of(alloc: Global, entries: &[Entry]) -> Result<Tally, Memory>
-        ensures { IfOk result (λ tally. Follows tally (reverse entries.now)) }
+        ensures { IfOk result (λ tally. TallyFollows tally (reverse entries.now)) }
     {
         let mut tally = Tally::new(alloc);
         for entry in entries {
@@ -54,7 +54,7 @@ impl Tally {
 
     // Takes an entry more.
     fn push(&mut self, alloc: Global, entry: &Entry) -> Result<(), Memory>
-        ensures { OnOk result ((past : List Entry) → Follows self.old past → Follows self.new (entry.now ∷ past)) }
+        ensures { OnOk result ((past : List Entry) → TallyFollows self.old past → TallyFollows self.new (entry.now ∷ past)) }
     {
         let seen = self.sights.look(&entry.event);
         self.counts = self.counts.with(seen)?;

@@ -17,7 +17,8 @@ ghost use Rattle.worked_driver.specs.inner.KickTrace.{kick_job, kick_trace};
 ghost use Rattle.worked_driver.specs.inner.MeasuredTrace.{measured_job, measured_trace};
 ghost use Rattle.worked_driver.specs.inner.SpentTrace.{spent_job, spent_trace};
 ghost use Rattle.worked_driver.specs.inner.Faults.{first_of};
-ghost use Rattle.worked_driver.specs.inner.Words.{aex, cpu, slot_at};
+ghost use Rattle.worked_driver.specs.inner.Words.{aex, slot_at};
+ghost use Rattle.worked_traces.specs.inner.Traces.{cpu};
 
 pub fn the_builder_waits_for_a_frame()
     ensures makes { builder_due kick_job (first_of 0 kick_trace) ≡ Makes (actions.Epa (frame_at 0)) }

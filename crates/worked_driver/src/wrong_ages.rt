@@ -11,7 +11,8 @@ ghost use Rattle.worked_driver.specs.inner.KickTrace.{kick_job, kick_trace};
 ghost use Rattle.worked_driver.specs.inner.MeasuredTrace.{measured_job, measured_trace};
 ghost use Rattle.worked_driver.specs.inner.PairTrace.{pair_job, pair_trace};
 ghost use Rattle.worked_driver.specs.inner.Faults.{breaks_first, first_of};
-ghost use Rattle.worked_driver.specs.inner.Words.{add_reg, age, block, block_refused, create, epa, kick, measured_init, track};
+ghost use Rattle.worked_driver.specs.inner.Words.{add_reg, age, block, block_refused, create, kick, measured_init, track};
+ghost use Rattle.worked_traces.specs.inner.Traces.{epa};
 ghost use Rattle.worked_driver.specs.inner.Words.{try_refused};
 
 pub fn a_look_names_the_head()

@@ -10,7 +10,8 @@ ghost use Rattle.worked_driver.specs.inner.CrowdTrace.{crowd_job, crowd_trace};
 ghost use Rattle.worked_driver.specs.inner.KickTrace.{kick_job, kick_trace};
 ghost use Rattle.worked_driver.specs.inner.PairTrace.{pair_job, pair_trace};
 ghost use Rattle.worked_driver.specs.inner.Faults.{breaks_first, first_of};
-ghost use Rattle.worked_driver.specs.inner.Words.{aex, busy_out, cpu, kick, other_track, track, track_kept, try_refused};
+ghost use Rattle.worked_driver.specs.inner.Words.{aex, busy_out, kick, other_track, track, track_kept, try_refused};
+ghost use Rattle.worked_traces.specs.inner.Traces.{cpu};
 
 pub fn a_first_refusal_is_answered_by_a_track()
     ensures again { breaks_first rules.Kick bus_job (first_of 10 bus_trace) (try_refused Reclaimer 2 0 1 0) ≡ true }

@@ -12,7 +12,8 @@ ghost use Rattle.worked_driver.specs.inner.MeasuredTrace.{measured_job, measured
 ghost use Rattle.worked_driver.specs.inner.PairTrace.{pair_job, pair_trace};
 ghost use Rattle.worked_driver.specs.inner.SpentTrace.{spent_job, spent_trace};
 ghost use Rattle.worked_driver.specs.inner.Faults.{breaks_first, first_of};
-ghost use Rattle.worked_driver.specs.inner.Words.{add_reg, add_tcs, aex, back, block, bus, cpu, enter, epa, exit, extend, fill};
+ghost use Rattle.worked_driver.specs.inner.Words.{add_reg, add_tcs, aex, back, block, bus, enter, exit, extend, fill};
+ghost use Rattle.worked_traces.specs.inner.Traces.{cpu, epa};
 ghost use Rattle.worked_driver.specs.inner.Words.{init, load, out};
 ghost use Rattle.worked_driver.specs.inner.Words.{resume, set, start_back, track, try_refused, xadd};
 

@@ -34,14 +34,14 @@ pub record CanCheck (m : Parts) (kept : Records) : Type 0 where
 
 -- it keeps the processor's rules, and all stands for the longer list. What its row decides the machine has made, but for what
 -- processors alone may do and another did
-pub record IsTaken (j : JobView) (cpus : ℕ) (past : List Entry) (m : Parts) (e : Entry) (t : Parts) (kept : Records) : Type 0 where
+pub record IsTakenWith (j : JobView) (cpus : ℕ) (past : List Entry) (m : Parts) (e : Entry) (t : Parts) (kept : Records) : Type 0 where
   pub checked : Checked j cpus (e ∷ past) t kept
   pub step : (action : Action) → action_of e.event ≡ Some action → is_commit action ≡ false
       → is_outsiders (length m.cpus) e.actor action ≡ false → IsStep (state_of m) e.actor action e (state_of t)
 
 -- .. or it breaks this one of them first
 abbrev pub IsAnswered : JobView → ℕ → List Entry → Parts → Entry → Parts → Records → Option Rule → Type 0
-IsAnswered j cpus past m e t kept None = IsTaken j cpus past m e t kept
+IsAnswered j cpus past m e t kept None = IsTakenWith j cpus past m e t kept
 IsAnswered j cpus past m e t kept (Some rule) = FailsAmong is_machines j past (Some e) rule
 
 -- ---- a load

@@ -20,7 +20,7 @@ use Rattle.driver_tables.specs.inner.Tables.{ShowsTables}
 use Rattle.history_rules.specs.inner.Histories.{GoesOn}
 use Rattle.due_tables.specs.declared.turns.Turns.{Turns}
 use Rattle.due_tables.specs.inner.Holding.{mode_of}
-use Rattle.due_notes.specs.inner.Arrays.{KeepsArrays}
+use Rattle.due_notes.specs.inner.Arrays.{KeepsKeeper}
 use Rattle.due_notes.specs.inner.Plain.{is_plain}
 use Rattle.audit_tables.specs.inner.Shown.{ShowsTrace}
 
@@ -39,14 +39,14 @@ frame_begun event = None
 
 -- an entry of a trace which keeps each rule with it. Before it the tables showed the trace; `start` is the open start that it ends, or that
 -- it has opened
-pub record CanFollow (t : Turns) (d : Driver) (before : Mode) (start : Option starts.Start) (e : Entry) : Type 0 where
+pub record TablesCanFollow (t : Turns) (d : Driver) (before : Mode) (start : Option starts.Start) (e : Entry) : Type 0 where
   pub j : JobView
   pub past : List Entry
   -- the machine before it and behind it
   pub m : Parts
   pub m' : Parts
   pub trace : ShowsTrace j past d m t
-  pub arrays : KeepsArrays j d.slots past
+  pub arrays : KeepsKeeper j d.slots past
   pub goes_on : GoesOn j (e ∷ past)
   -- the machine made it, where it is an instruction that moves no page
   pub step : (action : Action) → action_of e.event ≡ Some action → is_plain action ≡ true
@@ -61,4 +61,4 @@ pub record IsFollowed (j : JobView) (past : List Entry) (old : Driver) (e : Entr
   pub shows : ShowsTables auditors j new (e ∷ past)
   -- who holds which pages is as before
   pub own : new.active.own ≡ old.active.own
-  pub arrays : KeepsArrays j new.slots (e ∷ past)
+  pub arrays : KeepsKeeper j new.slots (e ∷ past)

@@ -17,7 +17,7 @@ use Rattle.sgx_machine.specs.inner.Parts.{Parts, start_of, state_of}
 use Rattle.history_rules.specs.declared.rules.Rule.{Rule}
 use Rattle.history_rules.specs.Histories.{FailsHere}
 use Rattle.history_rules.specs.inner.Histories.{GoesOn}
-use Rattle.due_notes.specs.inner.Arrays.{KeepsArrays}
+use Rattle.due_notes.specs.inner.Arrays.{KeepsKeeper}
 use Rattle.due_notes.specs.inner.Plain.{is_plain}
 use Rattle.due_tables.specs.inner.Entries.{EntersApart}
 use Rattle.due_tables.specs.inner.Holding.{mode_of}
@@ -33,7 +33,7 @@ use Rattle.audit_trace.specs.declared.auditing.Auditing.{Auditing}
 pub record KeepsAudit (j : JobView) (past : List Entry) (a : Auditing) : Type 0 where
   pub trace : ShowsTrace j past a.driver a.machine a.turns
   -- the keeper of the slots has room for the version array pages that are still to be made
-  pub arrays : KeepsArrays j a.driver.slots past
+  pub arrays : KeepsKeeper j a.driver.slots past
   -- the reclaimer's pass is as far as the entries are
   pub pass : StandsAt j.start_epoch j past a.pass
   -- each page that is outside has the record with which it went out last
@@ -69,7 +69,7 @@ pub record CanFollow (j : JobView) (a : Auditing) (before : Mode) (start : Optio
   pub m : Parts
   pub v : PassView
   pub trace : ShowsTrace j past a.driver m a.turns
-  pub arrays : KeepsArrays j a.driver.slots past
+  pub arrays : KeepsKeeper j a.driver.slots past
   pub taken : IsTaken j past m e a.machine
   pub pass : StandsAt j.start_epoch j past v
   pub gone : a.pass ≡ gone_by a.driver m e.actor e.event v

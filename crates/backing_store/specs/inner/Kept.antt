@@ -32,14 +32,14 @@ pub record Counts (calls : List StoreCall) (rooms gets puts blanks : ℕ) (known
   pub places : (page : Page) (n : ℕ) → place_of known page n ≡ nth n (records_of page calls)
 
 -- there is room for the puts of all blanks and so many calls more
-pub record HasRoom (more : ℕ) (l : Ledger) : Type 0 where
+pub record LedgerHasRoom (more : ℕ) (l : Ledger) : Type 0 where
   pub calls : vec_len l.calls + vec_len l.blanks + more ≤ vec_capacity l.calls
   pub puts : vec_len l.puts + vec_len l.blanks + more ≤ vec_capacity l.puts
   pub known : vec_len l.blanks + more ≤ room_of l.known
 
 pub record IsKept (l : Ledger) : Type 0 where
   pub counted : Counts (reverse l.calls.items) l.rooms l.gets (vec_len l.puts) (vec_len l.blanks) l.known
-  pub room : HasRoom 0 l
+  pub room : LedgerHasRoom 0 l
 
 -- .. and each of its calls was answered by the rules
 pub record IsKeptByRule (l : Ledger) : Type 0 where

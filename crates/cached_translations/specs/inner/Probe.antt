@@ -13,7 +13,7 @@ abbrev pub slot_at : List (Option Slot) → ℕ → Option Slot
 slot_at slots k = get_or slots (k % SLOTS) None
 
 -- a page stands at a place
-pub record IsOfPage (slots : List (Option Slot)) (at number : ℕ) : Type 0 where
+pub record IsSlotOf (slots : List (Option Slot)) (at number : ℕ) : Type 0 where
   pub slot : Slot
   pub within : at < SLOTS
   pub here : get_or slots at None ≡ Some slot

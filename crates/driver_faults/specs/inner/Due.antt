@@ -48,32 +48,32 @@ IsAnswer j past cpu page asked (answers.Slot e) = (is_here (place past page) ≡
     × IsNext (fetch_of j past page) e.event × (last_of (e ∷ past) cpu.0 ≡ Fails asked reasons.Slot)
 
 -- the entry of an answer can move its page, and loads only what is away
-abbrev pub Keeps : List Entry → FaultAnswer → Type 0
-Keeps past (answers.Started e work) = CanMove past e.event × LoadsAwayRule past e
-Keeps past (answers.Slot e) = CanMove past e.event × LoadsAwayRule past e
-Keeps past answer = Unit {0}
+abbrev pub KeepsFault : List Entry → FaultAnswer → Type 0
+KeepsFault past (answers.Started e work) = CanMove past e.event × LoadsAwayRule past e
+KeepsFault past (answers.Slot e) = CanMove past e.event × LoadsAwayRule past e
+KeepsFault past answer = Unit {0}
 
 -- the tables behind an answer's entry, and behind the bus that follows a refused start
-abbrev pub ShowsAfter : JobView → List Entry → Cpu → Page → FaultAnswer → Driver → Type 0
-ShowsAfter j past cpu asked (answers.Started e work) d = ShowsTables (drivers j) j d (e ∷ past)
-ShowsAfter j past cpu asked (answers.Bus why) d =
+abbrev pub ShowsAfterFault : JobView → List Entry → Cpu → Page → FaultAnswer → Driver → Type 0
+ShowsAfterFault j past cpu asked (answers.Started e work) d = ShowsTables (drivers j) j d (e ∷ past)
+ShowsAfterFault j past cpu asked (answers.Bus why) d =
     ShowsTables (drivers j) j d (record { actor = actors.Cpu cpu; event = Bus asked why } ∷ past)
-ShowsAfter j past cpu asked (answers.Slot e) d =
+ShowsAfterFault j past cpu asked (answers.Slot e) d =
     ShowsTables (drivers j) j d (e ∷ past)
     × ShowsTables (drivers j) j d (record { actor = actors.Cpu cpu; event = Bus asked reasons.Slot } ∷ e ∷ past)
-ShowsAfter j past cpu asked answer d = ShowsTables (drivers j) j d past
+ShowsAfterFault j past cpu asked answer d = ShowsTables (drivers j) j d past
 
 -- an answer by the rules: it is what is due, its entry can move its page, and the tables show that entry too, where this processor has no
 -- load to end
 pub record IsRight (j : JobView) (past : List Entry) (cpu : Cpu) (page asked : Page) (answer : FaultAnswer) (d : Driver) : Type 0 where
   pub due : IsAnswer j past cpu page asked answer
-  pub kept : Keeps past answer
-  pub shows : loaded_by (last_of past cpu.0) ≡ None → ShowsAfter j past cpu asked answer d
+  pub kept : KeepsFault past answer
+  pub shows : loaded_by (last_of past cpu.0) ≡ None → ShowsAfterFault j past cpu asked answer d
 
 -- the end of a load by the rules: a load that is back, or a refusal by which the bus is due next
-abbrev pub IsEnd : List Entry → Cpu → Page → Frame → Entry → Loaded → Type 0
-IsEnd past cpu page frame e (ends.Here entry) = (entry ≡ e) × (is_refused e.event ≡ false)
-IsEnd past cpu page frame e (ends.Bus entry why) = (entry ≡ e) × (last_of (e ∷ past) cpu.0 ≡ Fails page why)
+abbrev pub EndsLoadAt : List Entry → Cpu → Page → Frame → Entry → Loaded → Type 0
+EndsLoadAt past cpu page frame e (ends.Here entry) = (entry ≡ e) × (is_refused e.event ≡ false)
+EndsLoadAt past cpu page frame e (ends.Bus entry why) = (entry ≡ e) × (last_of (e ∷ past) cpu.0 ≡ Fails page why)
 
 -- the tables behind its entry, and behind the bus that follows a refusal
 abbrev pub ShowsEnd : JobView → List Entry → Cpu → Page → Loaded → Driver → Type 0
@@ -87,6 +87,6 @@ pub record IsRightEnd (j : JobView) (past : List Entry) (cpu : Cpu) (page : Page
   pub entry : Entry
   pub actor : entry.actor ≡ actors.Cpu cpu
   pub due : IsNext (Ends (Eld frame)) entry.event
-  pub end : IsEnd past cpu page frame entry loaded
+  pub end : EndsLoadAt past cpu page frame entry loaded
   pub kept : CanMove past entry.event
   pub shows : ShowsEnd j past cpu page loaded d

@@ -20,7 +20,7 @@ use Rattle.sgx_rules.specs.Table.{is_loading}
 use Rattle.seal_record.specs.Records.{Given, Made, Unforged}
 use Rattle.machine_laws.specs.inner.Columns.{HasAllVersions}
 use Rattle.machine_laws.specs.inner.Histories.{BringsArrayIn, BringsIn, StandsWithAllRules, looked_at}
-use Rattle.machine_laws.specs.inner.Notes.{IsDone}
+use Rattle.machine_laws.specs.inner.Notes.{IsDidEvent}
 use Rattle.machine_laws.specs.inner.Shape.{FitsApart, ShapeWithRules}
 use Rattle.machine_laws.specs.inner.State.{State, making_of}
 use Rattle.machine_laws.specs.inner.Steps.{CanBring, IsReloaded}
@@ -80,11 +80,11 @@ pub record CarriesLoad (s : State) (f : ℕ) (rec : Sealed) (e : Entry) (t : Sta
   pub history : (making : Making) (past : List Entry) (records : List Made) (given : List Given) → StandsWithAllRules making s past records
       → Unforged making.key records (given ++ looked_at s f records rec) → StandsWithAllRules making t (e ∷ past) records
   pub back : (making : Making) (past : List Entry) (records : List Made) → StandsWithAllRules making s past records
-      → (IsDone e.event → BringsIn making.key past s f rec) → StandsWithAllRules making t (e ∷ past) records
+      → (IsDidEvent e.event → BringsIn making.key past s f rec) → StandsWithAllRules making t (e ∷ past) records
   -- the slots of version array pages go on to have the versions that the entries say, where a page that comes back brings the slots with
   -- which it went out
   pub arrays : (making : Making) (past : List Entry) → ShapeWithRules making s past → HasAllVersions s past
-      → (IsDone e.event → BringsArrayIn making.key past s f rec) → HasAllVersions t (e ∷ past)
+      → (IsDidEvent e.event → BringsArrayIn making.key past s f rec) → HasAllVersions t (e ∷ past)
   pub making : making_of t ≡ making_of s
 
 -- the load ends by the kept record, which is kept no longer

@@ -123,11 +123,11 @@ pub record IsSilent (said : FaultAnswer) (d : Driver) (m : Parts) (told : Option
   pub does : IsSaid said d m answer d' m'
 
 -- a page that is away is asked for where a frame is free, to be loaded by its slot
-abbrev pub IsFetch : Cpu → Page → VaSlot → Option SlotAt → Option ℕ → Driver → Parts → Option (List Call) → FaultAnswer → Driver → Parts
+abbrev pub FetchesPage : Cpu → Page → VaSlot → Option SlotAt → Option ℕ → Driver → Parts → Option (List Call) → FaultAnswer → Driver → Parts
     → Option (List Call) → Type 0
-IsFetch cpu page slot None free d m told answer d' m' told' = ⊥
-IsFetch cpu page slot (Some at) None d m told answer d' m' told' = IsSilent (answers.Again waits.NoFrame) d m told answer d' m' told'
-IsFetch cpu page slot (Some at) (Some f) d m told answer d' m' told' = IsAsked cpu page slot at (frame_at f) d m told answer d' m' told'
+FetchesPage cpu page slot None free d m told answer d' m' told' = ⊥
+FetchesPage cpu page slot (Some at) None d m told answer d' m' told' = IsSilent (answers.Again waits.NoFrame) d m told answer d' m' told'
+FetchesPage cpu page slot (Some at) (Some f) d m told answer d' m' told' = IsAsked cpu page slot at (frame_at f) d m told answer d' m' told'
 
 -- by what became of the page that is asked for
 abbrev pub IsResolved : Cpu → Page → PageState → Driver → Parts → Option (List Call) → FaultAnswer → Driver → Parts → Option (List Call)
@@ -135,5 +135,5 @@ abbrev pub IsResolved : Cpu → Page → PageState → Driver → Parts → Opti
 IsResolved cpu page (states.Here f) d m told answer d' m' told' = IsSilent answers.Here d m told answer d' m' told'
 IsResolved cpu page (states.Lost slot) d m told answer d' m' told' = IsSilent (answers.Bus reasons.PutFailed) d m told answer d' m' told'
 IsResolved cpu page (states.Away slot) d m told answer d' m' told' =
-    IsFetch cpu page slot (slot_here_in d slot) (least_free (state_of m).frames (state_of m).content) d m told answer d' m' told'
+    FetchesPage cpu page slot (slot_here_in d slot) (least_free (state_of m).frames (state_of m).content) d m told answer d' m' told'
 IsResolved cpu page _ d m told answer d' m' told' = IsSilent (answers.Again (waits.Busy page)) d m told answer d' m' told'

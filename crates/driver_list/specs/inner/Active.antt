@@ -38,7 +38,7 @@ abbrev pub with_touch : ActiveList → Page → ActiveList
 with_touch list page = record list { pages = map (touched page) list.pages }
 
 -- the head off the list
-pub record Removes (old : ActiveList) (page : Page) (new : ActiveList) : Type 0 where
+pub record RemovesActive (old : ActiveList) (page : Page) (new : ActiveList) : Type 0 where
   pub young : Bool
   pub pages : old.pages ≡ record { page = page; young = young } ∷ new.pages
   pub counts : new.counts ≡ old.counts

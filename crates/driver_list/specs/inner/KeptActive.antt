@@ -15,6 +15,6 @@ abbrev pub unheld_in : List (List Page) → List Page → ℕ
 unheld_in own pages = count_by (λ page. not (is_held own page)) pages
 
 -- the holds are of the same job, and the listed pages that nobody holds are counted
-pub record IsKept (a : Inside) : Type 0 where
+pub record IsActiveKept (a : Inside) : Type 0 where
   pub counts : a.holds.counts ≡ a.list.counts
   pub unheld : a.unheld ≡ unheld_in a.holds.own (pages_of a.list.pages)

@@ -29,6 +29,6 @@ abbrev pub holds_of : Inside → HoldTable
 holds_of k = record { counts = k.places; own = map pages_in k.own.items }
 
 -- the holds are kept so, and each actor has room for eleven pages
-pub record IsKept (k : Inside) : Type 0 where
+pub record AreHoldsKept (k : Inside) : Type 0 where
   pub holds : IsHolds k.held.items k.places (map pages_in k.own.items)
   pub room : All (λ (v : Vec Page). 11 ≤ vec_capacity v) k.own.items

@@ -37,7 +37,8 @@ pub record IsTable (nodes : Slab Node) (keys : List (Option ℕ)) (counts : Page
   pub keyed : (key : ℕ) (page : Page) → IsPlaced counts page → key_of keys counts page ≡ Some key → IsKeyed nodes pages key page
 
 -- the nodes and the table make this list
-pub record IsWhole (nodes : Slab Node) (last : Option ℕ) (keys : List (Option ℕ)) (counts : PageCounts) (pages : List Listed) : Type 0 where
+pub record IsWholeRing (nodes : Slab Node) (last : Option ℕ) (keys : List (Option ℕ)) (counts : PageCounts)
+    (pages : List Listed) : Type 0 where
   pub ring : IsRing nodes last pages
   pub table : IsTable nodes keys counts pages
 
@@ -46,5 +47,5 @@ abbrev pub list_of : Inside → Listing
 list_of a = record { pages = around a.nodes a.last; counts = a.places }
 
 -- nodes and table make the list that is round the ring
-abbrev pub IsKept : Inside → Type 0
-IsKept a = IsWhole a.nodes a.last a.keys.items a.places (around a.nodes a.last)
+abbrev pub IsListKept : Inside → Type 0
+IsListKept a = IsWholeRing a.nodes a.last a.keys.items a.places (around a.nodes a.last)

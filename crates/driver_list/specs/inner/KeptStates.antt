@@ -9,5 +9,5 @@ abbrev pub table_of : Inside → StateTable
 table_of s = record { counts = s.places; states = s.states.items }
 
 -- each page has its place
-abbrev pub IsKept : Inside → Type 0
-IsKept s = length s.states.items ≡ total s.places
+abbrev pub AreStatesKept : Inside → Type 0
+AreStatesKept s = length s.states.items ≡ total s.places

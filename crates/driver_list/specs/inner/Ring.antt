@@ -36,13 +36,13 @@ pub record IsClosed (nodes : Slab Node) (last : ℕ) (pages : List Listed) : Typ
   pub closes : get nodes last ≡ Some (record { listed = end; next = first })
 
 -- no node is the last exactly where there are no pages
-abbrev pub IsEnd : Slab Node → Option ℕ → List Listed → Type 0
-IsEnd nodes None pages = pages ≡ []
-IsEnd nodes (Some last) pages = IsClosed nodes last pages
+abbrev pub IsLastNode : Slab Node → Option ℕ → List Listed → Type 0
+IsLastNode nodes None pages = pages ≡ []
+IsLastNode nodes (Some last) pages = IsClosed nodes last pages
 
 -- the nodes make this list, which has each page once
 pub record IsRing (nodes : Slab Node) (last : Option ℕ) (pages : List Listed) : Type 0 where
-  pub ends : IsEnd nodes last pages
+  pub ends : IsLastNode nodes last pages
   pub distinct : IsDistinct same_page (pages_of pages)
 
 -- what leads on from a node

@@ -43,7 +43,7 @@ abbrev pub bits_of : List ℕ → ℕ
 bits_of ps = bits_from (λ p. list_any (λ q. q == p) ps) 0 16
 
 -- a look at a page, which tells of it what is so
-pub record IsLookAt (page : Page) (held young : Bool) (turn : PassTurn) : Type 0 where
+pub record AnswersLook (page : Page) (held young : Bool) (turn : PassTurn) : Type 0 where
   pub look : Look
   pub right : is_look held young look ≡ true
   pub told : turn ≡ turns.One (by_reclaimer (Age page look))
@@ -71,7 +71,7 @@ try_turn made past f at version =
     (by_reclaimer (Refused (EwbStart (frame_at f) at) (why.NotTracked (epoch_in made.first_epoch past f) (kept_back past f))))
 
 -- .. into the least slot that is not out
-pub record IsTry (made : Making) (past : List Entry) (slots : Keeper) (f : ℕ) (turn : PassTurn) : Type 0 where
+pub record AnswersTry (made : Making) (past : List Entry) (slots : Keeper) (f : ℕ) (turn : PassTurn) : Type 0 where
   pub slot : VaSlot
   pub ours : is_ours slots slot ≡ true
   pub free : is_out slots slot ≡ false
@@ -88,13 +88,13 @@ pub record IsStart (made : Making) (j : JobView) (past : List Entry) (g : Page) 
   pub told : turn ≡ start_turn made past f at
 
 abbrev pub IsTryOut : Making → JobView → List Entry → Keeper → Page → ℕ → Bool → PassTurn → Type 0
-IsTryOut made j past slots g f true turn = IsTry made past slots f turn ⊎ (AllOut slots × (turn ≡ turns.Again waits.NoSlot))
+IsTryOut made j past slots g f true turn = AnswersTry made past slots f turn ⊎ (AllOut slots × (turn ≡ turns.Again waits.NoSlot))
 IsTryOut made j past slots g f false turn = IsStart made j past g f turn
 
 -- the turn is what is due
 abbrev pub IsTurn : Making → JobView → List Entry → Keeper → Due → PassTurn → Type 0
 IsTurn made j past slots (Waits why) turn = turn ≡ turns.Again why
-IsTurn made j past slots (LooksAt page held young) turn = IsLookAt page held young turn
+IsTurn made j past slots (LooksAt page held young) turn = AnswersLook page held young turn
 IsTurn made j past slots (Makes (Block f)) turn = turn ≡ turns.One (by_reclaimer (Did (Block f) answers.Plain))
 IsTurn made j past slots (Makes (Track enclave)) turn = turn ≡ track_turn made.first_epoch past enclave
 IsTurn made j past slots (TriesOut g f) turn = IsTryOut made j past slots g f (is_own_page g) turn

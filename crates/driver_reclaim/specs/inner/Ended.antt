@@ -8,12 +8,12 @@ use Rattle.driver_rules.specs.inner.Reclaims.{going_due}
 use Rattle.driver_tables.specs.declared.driver.Driver.{Driver}
 use Rattle.driver_pass.specs.inner.Viewed.{PassView}
 use Rattle.driver_reclaim.specs.inner.After.{StandsBehind}
-use Rattle.driver_reclaim.specs.inner.Kept.{Keeps}
+use Rattle.driver_reclaim.specs.inner.Kept.{KeepsReclaim}
 use Rattle.driver_reclaim.specs.inner.Shown.{ShowsEntry}
 
-pub record IsEnded (first : ℕ) (j : JobView) (past : List Entry) (old : Driver) (e : Entry) (v : PassView) (new : Driver) : Type 0 where
+pub record IsEndedOut (first : ℕ) (j : JobView) (past : List Entry) (old : Driver) (e : Entry) (v : PassView) (new : Driver) : Type 0 where
   pub due : IsNext (going_due j past (outs_kept j past) false) e.event
-  pub kept : Keeps first j past e.event
+  pub kept : KeepsReclaim first j past e.event
   -- .. before it is decided whether it works
   pub stands : StandsBehind first j past e v
   pub shows : ShowsEntry j past e old new

@@ -16,7 +16,7 @@ use Rattle.driver_reclaim.specs.inner.Answers.{by_reclaimer}
 
 -- an event of the reclaimer by the rules Age and Kick, which can move its page, tells of a try what is so, and names a slot as the driver
 -- does
-pub record Keeps (first : ℕ) (j : JobView) (past : List Entry) (event : Event) : Type 0 where
+pub record KeepsReclaim (first : ℕ) (j : JobView) (past : List Entry) (event : Event) : Type 0 where
   pub age : KeptAgeRule j past (by_reclaimer event)
   pub form : FormOf past (pass j past) actors.Reclaimer event
   pub can : CanMove past event
@@ -25,7 +25,7 @@ pub record Keeps (first : ℕ) (j : JobView) (past : List Entry) (event : Event)
   pub slot : SlotTells j past event
 
 abbrev pub TurnKeeps : ℕ → JobView → List Entry → PassTurn → Type 0
-TurnKeeps first j past (turns.One e) = Keeps first j past e.event
-TurnKeeps first j past (turns.Seal e) = Keeps first j past e.event
-TurnKeeps first j past (turns.Spent e) = Keeps first j past e.event
+TurnKeeps first j past (turns.One e) = KeepsReclaim first j past e.event
+TurnKeeps first j past (turns.Seal e) = KeepsReclaim first j past e.event
+TurnKeeps first j past (turns.Spent e) = KeepsReclaim first j past e.event
 TurnKeeps first j past _ = Unit {0}

@@ -31,8 +31,8 @@ pub record StartsOut (one : Taken) (s : State) (counts : PageCounts) : Type 0 wh
   pub opened : s.start one.frame.0 ≡ Some start
   pub placed : IsPlaced counts one.page
 
-abbrev pub IsStarted : PassView → State → PageCounts → Type 0
-IsStarted v s counts = IsSomeAnd (sealing_in v) (λ one. StartsOut one s counts)
+abbrev pub IsStartedPass : PassView → State → PageCounts → Type 0
+IsStartedPass v s counts = IsSomeAnd (sealing_in v) (λ one. StartsOut one s counts)
 
 abbrev pub IsOpen : PassView → State → Type 0
 IsOpen v s = IsSomeAnd (sealing_in v) (λ one. s.is_sealing one.frame.0 ≡ true)

@@ -42,7 +42,7 @@ pub record IsTried (s : State) (old : Driver) (frame : Frame) (e : Entry) (new :
   pub others : new ≡ record old { slots = new.slots }
 
 -- the start of a SECS or a version array page, into its own slot
-pub record IsStarted (s : State) (d : Driver) (one : Taken) (e : Entry) (t : State) : Type 0 where
+pub record IsTriedStart (s : State) (d : Driver) (one : Taken) (e : Entry) (t : State) : Type 0 where
   pub at : SlotAt
   pub named : slot_here_in d (fixed_in d one.page) ≡ Some at
   pub step : IsStep s actors.Reclaimer (EwbStart one.frame at) e t

@@ -35,7 +35,7 @@ use Rattle.driver_pass.specs.inner.Viewed.{PassView, taken_at}
 use Rattle.driver_reclaim.specs.declared.turns.PassTurn.{PassTurn}
 use Rattle.driver_reclaim.specs.declared.turns.PassTurn.TheVariants as turns
 use Rattle.driver_reclaim.specs.inner.Answers.{bits_of, by_reclaimer}
-use Rattle.driver_reclaim.specs.inner.Tried.{IsStarted, IsTried}
+use Rattle.driver_reclaim.specs.inner.Tried.{IsTriedStart, IsTried}
 
 -- ---- instructions
 
@@ -67,7 +67,7 @@ IsTryTurn one v old s turn v' new t = IsTriedTurn one v old s turn v' new t ⊎ 
 
 pub record IsAsideTurn (one : Taken) (v : PassView) (d : Driver) (s : State) (turn : PassTurn) (v' : PassView) (t : State) : Type 0 where
   pub entry : Entry
-  pub started : IsStarted s d one entry t
+  pub started : IsTriedStart s d one entry t
   pub told : turn ≡ turn_of entry entry.event
   pub to : v' ≡ instructed entry.event v
 

@@ -32,8 +32,8 @@ use Rattle.sgx_rules.specs.declared.entries.Look.TheVariants as looks
 use Rattle.sgx_rules.specs.declared.refusals.Refusal.TheVariants as why
 
 -- a test passes exactly where something is so
-abbrev pub Tells : Bool → Type 0 → Type 0
-Tells test Is = (test ≡ true → Is) × (Is → test ≡ true)
+abbrev pub TellsIf : Bool → Type 0 → Type 0
+TellsIf test Is = (test ≡ true → Is) × (Is → test ≡ true)
 
 -- ---- Age
 

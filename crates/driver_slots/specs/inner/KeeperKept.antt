@@ -12,8 +12,8 @@ abbrev pub IsArrayKept : one.Inside → Type 0
 IsArrayKept a = IsArray (array_of a)
 
 -- no two places have one page
-abbrev pub AreApart : List ArrayView → Type 0
-AreApart arrays = (i k : ℕ) (d : ArrayView) → i < length arrays → k < length arrays
+abbrev pub ArraysAreApart : List ArrayView → Type 0
+ArraysAreApart arrays = (i k : ℕ) (d : ArrayView) → i < length arrays → k < length arrays
     → (get_or arrays i d).va ≡ (get_or arrays k d).va → i ≡ k
 
 abbrev pub keeper_of : Inside → Keeper
@@ -23,8 +23,8 @@ abbrev pub IsAllFree : List Bool → Type 0
 IsAllFree map = map ≡ all_free
 
 -- each page was added once, and there is a map of all slots for each page that can still be added
-pub record IsKept (k : Inside) : Type 0 where
-  pub apart : AreApart k.arrays.items
+pub record IsKeeperKept (k : Inside) : Type 0 where
+  pub apart : ArraysAreApart k.arrays.items
   pub arrays : All IsArray k.arrays.items
   pub maps : All IsAllFree k.maps.items
   pub fits : length k.arrays.items + length k.maps.items ≤ vec_capacity k.arrays

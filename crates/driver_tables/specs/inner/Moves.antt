@@ -8,7 +8,7 @@ use Rattle.sgx_types.specs.Pages.{va_page}
 use Rattle.sgx_types.specs.Sealed.{Sealed}
 use Rattle.sgx_rules.specs.declared.entries.Look.{Look}
 use Rattle.sgx_rules.specs.declared.entries.Look.TheVariants as looks
-use Rattle.driver_list.specs.inner.Active.{Removes, pushed, turned}
+use Rattle.driver_list.specs.inner.Active.{RemovesActive, pushed, turned}
 use Rattle.driver_list.specs.inner.Keeping.{keeping}
 use Rattle.driver_list.specs.inner.States.{state_of, with_state}
 use Rattle.driver_list.specs.declared.page_states.PageState.{PageState}
@@ -45,12 +45,12 @@ abbrev pub with_leaving : Driver → Page → Driver
 with_leaving d page = record d { states = with_state d.states page (leaving_of (state_of d.states page)) }
 
 -- .. from the head of the list
-pub record IsTaken (old : Driver) (page : Page) (new : Driver) : Type 0 where
-  pub list : Removes old.active page new.active
+pub record IsTakenOff (old : Driver) (page : Page) (new : Driver) : Type 0 where
+  pub list : RemovesActive old.active page new.active
   pub others : new ≡ record old { active = new.active; states = with_state old.states page (leaving_of (state_of old.states page)) }
 
 abbrev pub IsLooked : Driver → Page → Look → Driver → Type 0
-IsLooked old page looks.Taken new = IsTaken old page new
+IsLooked old page looks.Taken new = IsTakenOff old page new
 IsLooked old page _ new = new ≡ record old { active = turned old.active }
 
 -- a SECS or a version array page was looked at, which no list has

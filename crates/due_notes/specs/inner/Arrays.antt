@@ -10,7 +10,7 @@ use Rattle.job_grammar.specs.Jobs.{JobView, va_pages}
 use Rattle.driver_laws.specs.inner.Agrees.{has_pages}
 use Rattle.driver_laws.specs.inner.Keeps.{ArraysAreBuilt}
 
-pub record HasRoom (j : JobView) (keeper : Keeper) (past : List Entry) : Type 0 where
+pub record KeeperHasRoom (j : JobView) (keeper : Keeper) (past : List Entry) : Type 0 where
   -- as many version array pages were made as the builder's steps till now make, and the keeper has as many
   pub built : ArraysAreBuilt j past
   pub pages : length keeper.arrays ≡ vas_made past
@@ -18,8 +18,8 @@ pub record HasRoom (j : JobView) (keeper : Keeper) (past : List Entry) : Type 0 
   pub room : keeper.room ≡ va_pages j
 
 -- .. as long as no TCS or REG page was added: none is made behind the first
-abbrev pub KeepsArrays : JobView → Keeper → List Entry → Type 0
-KeepsArrays j keeper past = has_pages past ≡ false → HasRoom j keeper past
+abbrev pub KeepsKeeper : JobView → Keeper → List Entry → Type 0
+KeepsKeeper j keeper past = has_pages past ≡ false → KeeperHasRoom j keeper past
 
 -- the keeper has as many version array pages, and room for as many
 pub record HasAsMany (old new : Keeper) : Type 0 where

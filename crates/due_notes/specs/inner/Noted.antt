@@ -25,7 +25,7 @@ use Rattle.due_tables.specs.declared.turns.Turns.{Turns}
 use Rattle.due_tables.specs.inner.Due.{IsOrderly, IsShown}
 use Rattle.due_tables.specs.inner.Holding.{mode_of}
 use Rattle.due_tables.specs.inner.Shown.{ShowsTurns}
-use Rattle.due_notes.specs.inner.Arrays.{KeepsArrays}
+use Rattle.due_notes.specs.inner.Arrays.{KeepsKeeper}
 use Rattle.due_notes.specs.inner.Noting.{first_slot}
 use Rattle.due_notes.specs.inner.Plain.{is_plain, is_reclaimer}
 
@@ -61,7 +61,7 @@ pub record CanNoteTables (t : Turns) (d : Driver) (first : ℕ) (before : Mode) 
   pub stand : VersionsStand past
   pub shows : ShowsTurns j past t
   pub orderly : IsOrderly j past
-  pub arrays : KeepsArrays j d.slots past
+  pub arrays : KeepsKeeper j d.slots past
 
 -- the tables behind the entry
 pub record AreNoted (k : Keeping) (j : JobView) (past : List Entry) (old : Driver) (e : Entry) (new : Driver) : Type 0 where
@@ -72,4 +72,4 @@ pub record AreNoted (k : Keeping) (j : JobView) (past : List Entry) (old : Drive
   pub own : new.active.own ≡ old.active.own
   -- no record is kept or dropped, and no page is lost or found, whatever calls of the store it comes with
   pub moves : (calls : List Call) → StoreMoves e calls old new
-  pub arrays : KeepsArrays j new.slots (e ∷ past)
+  pub arrays : KeepsKeeper j new.slots (e ∷ past)

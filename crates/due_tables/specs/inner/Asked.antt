@@ -260,7 +260,7 @@ is_last_by p (Some actor) = is_by p actor
 -- ---- what the code asks
 
 -- the tables have the driver's places, and both and the machine this processor
-pub record CanAsk (d : Driver) (m : Parts) (t : Turns) (p : ℕ) : Type 0 where
+pub record CanAskDue (d : Driver) (m : Parts) (t : Turns) (p : ℕ) : Type 0 where
   pub places : map length t.tcs ≡ rows d.states.counts
   pub turn : p < length t.cpus
   pub cpu : p < length m.cpus

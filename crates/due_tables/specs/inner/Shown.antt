@@ -9,7 +9,7 @@ use Rattle.job_grammar.specs.inner.Valid.{IsValid}
 use Rattle.script_rules.specs.inner.Cursor.{IsCursor, left}
 use Rattle.script_rules.specs.Script.{build_of, built, is_initialised, replied, saved_frames}
 use Rattle.driver_rules.specs.Needs.{interruption}
-use Rattle.driver_rules.specs.Stops.{is_bus, is_spent}
+use Rattle.driver_rules.specs.Stops.{is_bus, is_spent, has_loss}
 use Rattle.driver_rules.specs.Turns.{is_kicked, last_of}
 use Rattle.driver_tables.specs.inner.Counts.{page_counts}
 use Rattle.due_tables.specs.declared.cpu_turns.CpuTurn.{CpuTurn}

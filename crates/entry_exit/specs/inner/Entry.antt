@@ -60,9 +60,9 @@ ssa_page entries.Resume fields = fields.ossa + fields.cssa - 1
 -- ---- what an entry needs
 
 -- a page of the enclave that a frame holds is one of its added pages
-abbrev pub IsAdded : Content → SecsState → Type 0
-IsAdded (Holds page kind perm) secs = page.enclave ≡ secs.enclave → IsSome (added_at secs page.number)
-IsAdded _ secs = Unit {0}
+abbrev pub IsAddedIn : Content → SecsState → Type 0
+IsAddedIn (Holds page kind perm) secs = page.enclave ≡ secs.enclave → IsSome (added_at secs page.number)
+IsAddedIn _ secs = Unit {0}
 
 -- ---- what an entry leaves
 

@@ -9,7 +9,7 @@ abbrev pub epc_of : Inside → List EpcFrame
 epc_of e = frames_of e.entries.items e.pages.items
 
 -- at most 4096 frames, each with a page, and the free ones marked
-pub record IsKept (e : Inside) : Type 0 where
+pub record IsEpcKept (e : Inside) : Type 0 where
   pub small : length e.entries.items ≤ 4096
   pub paged : length e.pages.items ≡ length e.entries.items
   pub pages : All IsPage e.pages.items

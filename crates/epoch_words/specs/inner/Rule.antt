@@ -27,7 +27,7 @@ abbrev pub pass : List Seen → View
 pass all = record { is_hardware = false; seen = all }
 
 -- what holds of the view of one seat
-pub record Fits (owner : ℕ) (now : List Seen) (seat : ℕ) (v : View) : Type 0 where
+pub record SeatFits (owner : ℕ) (now : List Seen) (seat : ℕ) (v : View) : Type 0 where
   -- no other seat is the hardware seat
   pub alone : v.is_hardware ≡ true → seat ≡ owner
   -- it has seen something of each enclave
@@ -35,7 +35,7 @@ pub record Fits (owner : ℕ) (now : List Seen) (seat : ℕ) (v : View) : Type 0
   -- and nothing of it is ahead
   pub not_ahead : (i : ℕ) → IsNotAhead (at v.seen i) (at now i)
 
-pub record IsKept (table : Shared) : Type 0 where
+pub record AreWordsKept (table : Shared) : Type 0 where
   -- the hardware seat, and what it knows
   pub owner : ℕ
   pub now : List Seen
@@ -43,7 +43,7 @@ pub record IsKept (table : Shared) : Type 0 where
   pub lawful : (i : ℕ) → IsLawful (at now i)
   -- that is what the words say
   pub words : table.words ≡ map word_of now
-  pub each : (seat : ℕ) (v : View) → get_elem? table.views seat ≡ some v → Fits owner now seat v
+  pub each : (seat : ℕ) (v : View) → get_elem? table.views seat ≡ some v → SeatFits owner now seat v
 
 -- ---- the kinds of step
 

@@ -14,7 +14,7 @@ page_count None = 0
 page_count (Some x) = x.size / 4096
 
 -- a place for each enclave from 1 to 8, with one for each of its pages, and 16 processors
-pub record IsWhole (m : Inside) : Type 0 where
+pub record IsWholeMemory (m : Inside) : Type 0 where
   pub enclaves_len : length m.enclaves.items ≡ 9
   pub tables_len : length m.tables.items ≡ 9
   pub cpus_len : length m.cpus.items ≡ PROCESSORS

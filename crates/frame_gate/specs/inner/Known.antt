@@ -45,8 +45,8 @@ StepsAtMost most before after = after.steps ≤ before.steps + most
 abbrev pub IsOutside : ProcKnown → Type 0
 IsOutside p = p.visit.epoch ≡ None
 
-abbrev pub IsInside : ProcKnown → Type 0
-IsInside p = p.visit.epoch ≢ None
+abbrev pub IsProcInside : ProcKnown → Type 0
+IsProcInside p = p.visit.epoch ≢ None
 
 abbrev pub HoldsFrame : ProcKnown → ℕ → Type 0
 HoldsFrame p f = generation_of p.pairs f ≢ None

@@ -120,9 +120,9 @@ AreHeld count frames (Some e) ps =
     (f generation : ℕ) → generation_of ps f ≡ Some generation → (f < count) × CanHold e generation (written_of frames f)
 
 -- what holds of the view of one seat. One alone is the pager's
-abbrev pub Fits : ℕ → ℕ → Ledger → List Written → ℕ → ℕ → Role → Type 0
-Fits count pager l frames before seat (Pager m gs) = (seat ≡ pager) × (m ≡ l) × (gs ≡ frames)
-Fits count pager l frames before seat (Processor p ps) =
+abbrev pub RoleFits : ℕ → ℕ → Ledger → List Written → ℕ → ℕ → Role → Type 0
+RoleFits count pager l frames before seat (Pager m gs) = (seat ≡ pager) × (m ≡ l) × (gs ≡ frames)
+RoleFits count pager l frames before seat (Processor p ps) =
     (p.entries ≤ MOST_ENTRIES) × HasEpoch l.epoch before p.epoch × AreHeld count frames p.epoch ps
 
 -- who is inside entered after each epoch through which the pager has a frame drained, and does not hold that frame
@@ -133,7 +133,7 @@ IsPastDrained l frames (Processor p ps) =
 
 -- ---- the rule, for a gate with so many frames
 
-pub record IsKept (count : ℕ) (table : Shared) : Type 0 where
+pub record AreFramesKept (count : ℕ) (table : Shared) : Type 0 where
   -- the pager's seat, and what it knows
   pub pager : ℕ
   pub ledger : Ledger
@@ -144,7 +144,7 @@ pub record IsKept (count : ℕ) (table : Shared) : Type 0 where
   pub there : (x : View) × (get_elem? table.views pager ≡ some x) × (x.role ≡ Pager ledger frames)
   pub counted : AreCounted ledger before entries table.words table.views
   pub written : AreWritten count ledger.epoch frames table.words
-  pub each : (seat : ℕ) (v : View) → get_elem? table.views seat ≡ some v → Fits count pager ledger frames before seat v.role
+  pub each : (seat : ℕ) (v : View) → get_elem? table.views seat ≡ some v → RoleFits count pager ledger frames before seat v.role
   pub drained : (seat : ℕ) (v : View) → get_elem? table.views seat ≡ some v → IsPastDrained ledger frames v.role
 
 -- ---- the kinds of step

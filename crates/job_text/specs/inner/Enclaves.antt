@@ -8,7 +8,7 @@ abbrev pub view_of : Inside → EnclaveView
 view_of e = record { base = e.base; size = e.size; lines = e.lines.items; expect = e.expect }
 
 -- the table is that of the lines, and has a place for each page that the enclave can have
-pub record IsKept (e : Inside) : Type 0 where
+pub record IsEnclaveKept (e : Inside) : Type 0 where
   pub small : e.size ≤ 2 ^ 24
   pub sized : vec_len e.table ≡ e.size / 4096
   pub tells : Tells e.table.items e.lines.items

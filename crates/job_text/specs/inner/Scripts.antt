@@ -27,7 +27,7 @@ AreSmall (Resume enclave tcs) = (enclave ≤ 8) × (tcs < 4096)
 AreSmall _ = Unit {0}
 
 -- the table tells of each page the script that names it first
-pub record IsKept (s : Inside) : Type 0 where
+pub record AreScriptsKept (s : Inside) : Type 0 where
   pub sized : vec_len s.owners ≡ 9 * 4096
   pub few : length (script_ops s.scripts.items) ≤ 16
   pub tells : (enclave number : ℕ) → enclave ≤ 8 → number < 4096

@@ -4,5 +4,5 @@ use Rattle.sgx_types.specs.declared.names.Page.{Page}
 use Rattle.least_reloads.specs.Plans.{PlanView, IsLawful}
 
 -- every lawful plan for these accesses and frames makes at least as many loads
-abbrev pub IsLeast : List Page → ℕ → PlanView → Type 0
-IsLeast accesses frames plan = (other : PlanView) → IsLawful accesses frames other → plan.loads ≤ other.loads
+abbrev pub IsLeastPlan : List Page → ℕ → PlanView → Type 0
+IsLeastPlan accesses frames plan = (other : PlanView) → IsLawful accesses frames other → plan.loads ≤ other.loads

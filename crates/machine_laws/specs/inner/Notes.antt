@@ -11,9 +11,9 @@ IsNote (Kick cpu) = Unit {0}
 IsNote (Bus page why) = Unit {0}
 
 -- an instruction was done
-abbrev pub IsDone : Event → Type 0
-IsDone (Did action answer) = Unit {0}
-IsDone (Refused action why) = ⊥
-IsDone (Age page look) = ⊥
-IsDone (Kick cpu) = ⊥
-IsDone (Bus page why) = ⊥
+abbrev pub IsDidEvent : Event → Type 0
+IsDidEvent (Did action answer) = Unit {0}
+IsDidEvent (Refused action why) = ⊥
+IsDidEvent (Age page look) = ⊥
+IsDidEvent (Kick cpu) = ⊥
+IsDidEvent (Bus page why) = ⊥

@@ -16,7 +16,7 @@ use Rattle.due_tables.specs.declared.cpu_turns.CpuTurn.{CpuTurn}
 use Rattle.due_tables.specs.declared.cpu_turns.Last.{Last}
 use Rattle.due_tables.specs.declared.cpu_turns.Last.TheVariants as ways
 use Rattle.due_tables.specs.inner.Ending.{EndsAreTold, NoneFails}
-use Rattle.due_notes.specs.inner.Arrays.{KeepsArrays}
+use Rattle.due_notes.specs.inner.Arrays.{KeepsKeeper}
 use Rattle.run_laws.specs.inner.Books.{KeepsBook}
 use Rattle.run_course.specs.declared.course.Course.{Course}
 use Rattle.driver_rules.specs.Spent.{SpentRule}
@@ -58,7 +58,7 @@ pub record KeepsCourse (c : Course) (told : Option (List Call)) (spare : ℕ) : 
   pub first : HasFirst (past_of c)
   pub places : still_out c.pass ≤ spare
   -- the keeper of the slots has room for the version array pages that are still to be made
-  pub arrays : KeepsArrays c.job c.driver.slots (past_of c)
+  pub arrays : KeepsKeeper c.job c.driver.slots (past_of c)
   -- who was ended was told why
   pub ends : EndsAreTold (past_of c)
   pub clear : IsClear c.job (past_of c)

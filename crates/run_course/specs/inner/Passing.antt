@@ -20,7 +20,7 @@ use Rattle.due_tables.specs.declared.dues.CpuDue.{CpuDue}
 use Rattle.due_tables.specs.declared.dues.CpuDue.TheVariants as dues
 use Rattle.due_tables.specs.inner.Ending.{EndsAreTold}
 use Rattle.due_tables.specs.inner.Noting.{with_kick}
-use Rattle.due_notes.specs.inner.Arrays.{KeepsArrays}
+use Rattle.due_notes.specs.inner.Arrays.{KeepsKeeper}
 use Rattle.run_course.specs.declared.course.Course.{Course}
 use Rattle.run_course.specs.declared.turn.Turn.{Turn}
 use Rattle.run_course.specs.declared.turn.Turn.TheVariants as turns
@@ -38,7 +38,7 @@ pub record IsOwnEntry (c : Course) (e : Entry) (longer : Option (List Call)) (sp
   pub actor : e.actor ≡ actors.Reclaimer
   pub first : HasFirst (e ∷ past_of c)
   pub places : still_out c.pass ≤ spare
-  pub arrays : KeepsArrays c.job c.driver.slots (e ∷ past_of c)
+  pub arrays : KeepsKeeper c.job c.driver.slots (e ∷ past_of c)
   pub ends : EndsAreTold (e ∷ past_of c)
   pub clear : IsClear c.job (e ∷ past_of c)
   -- the entry, and the ends of the starts that are open behind it
@@ -59,7 +59,7 @@ pub record IsOwnKicks (c : Course) (bits : ℕ) (longer : Option (List Call)) (s
   pub whole : is_amid c.pass ≡ false
   pub first : HasFirst (past_of c)
   pub places : still_out c.pass ≤ spare
-  pub arrays : KeepsArrays c.job c.driver.slots (past_of c)
+  pub arrays : KeepsKeeper c.job c.driver.slots (past_of c)
   pub ends : EndsAreTold (past_of c)
   pub clear : IsClear c.job (past_of c)
   pub room : vec_len c.entries + 64 ≤ vec_capacity c.entries

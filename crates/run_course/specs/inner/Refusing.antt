@@ -16,7 +16,7 @@ use Rattle.history_rules.specs.Honest.{IsHonest}
 use Rattle.driver_reclaim.specs.inner.Ready.{HasFirst}
 use Rattle.run_laws.specs.inner.Books.{AreTold}
 use Rattle.driver_pass.specs.inner.Viewed.{is_sealing, still_out}
-use Rattle.due_notes.specs.inner.Arrays.{KeepsArrays}
+use Rattle.due_notes.specs.inner.Arrays.{KeepsKeeper}
 use Rattle.due_tables.specs.inner.Ending.{EndsAreTold}
 use Rattle.due_tables.specs.declared.turns.Turns.{Turns}
 use Rattle.due_tables.specs.inner.Noting.{IsNoted}
@@ -38,7 +38,7 @@ pub record CanRefuse (c : Course) (cpu : Cpu) (page : Page) (before : Mode) (e :
   pub never : IfSome take.can.longer (λ calls. IsHonest calls → ⊥)
   pub first : HasFirst (e ∷ past_of c)
   pub places : still_out c.pass ≤ spare
-  pub arrays : KeepsArrays c.job c.driver.slots (bus_of cpu page why ∷ e ∷ past_of c)
+  pub arrays : KeepsKeeper c.job c.driver.slots (bus_of cpu page why ∷ e ∷ past_of c)
   pub ends : EndsAreTold (past_of c)
   pub clear : IsClear c.job (past_of c)
   -- both entries, and the ends of the starts that are open behind them

@@ -1,6 +1,6 @@
 -- What the book keeps over an honest store, also where version array pages were out: the slots of those that are back are what the
 -- entries say.
-use Rattle.std.specs.Prelude.{ℕ, ◌≡◌, true, List, [], ◌∷◌, Some, is_some}
+use Rattle.std.specs.Prelude.{ℕ, ◌≡◌, true, List, [], ◌∷◌, Some, is_some, false}
 use Rattle.sgx_rules.specs.declared.entries.Action.TheVariants.{Ewb}
 use Rattle.sgx_rules.specs.declared.entries.Answer.TheVariants.{Moved}
 use Rattle.sgx_rules.specs.declared.entries.Entry.{Entry}

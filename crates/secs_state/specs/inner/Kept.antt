@@ -14,5 +14,5 @@ secs_of s = record {
   frame = s.frame;
 }
 
-abbrev pub IsKept : Inside → Type 0
-IsKept s = IsSecs (secs_of s)
+abbrev pub IsSecsKept : Inside → Type 0
+IsSecsKept s = IsSecs (secs_of s)

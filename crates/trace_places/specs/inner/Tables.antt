@@ -49,8 +49,8 @@ pub record HasRoomToMake (known : Places) (change : Option Change) : Type 0 wher
   pub list : HasListRoom known change
 
 -- .. which an entry makes
-abbrev pub HasRoom : Places → Entry → Type 0
-HasRoom known e = HasRoomToMake known (change_by e.event known.next_va)
+abbrev pub PlacesHaveRoom : Places → Entry → Type 0
+PlacesHaveRoom known e = HasRoomToMake known (change_by e.event known.next_va)
 
 -- ---- what a change does to the tables
 
@@ -61,7 +61,7 @@ frames_with change former t before =
     then put_in (frame_changed change) before
     else (if is_tenant former t then take_out (frame_changed change) before else before)
 
-pub record Makes (old : Places) (change : Change) (new : Places) : Type 0 where
+pub record MakesChange (old : Places) (change : Change) (new : Places) : Type 0 where
   pub tenants : (n : ℕ) → tenant_in new n ≡ tenant_after (Some change) n (tenant_in old n)
   pub frames : (t : Tenant) → frames_in new.frames t
       ≡ frames_with change (tenant_in old (frame_changed change)) t (frames_in old.frames t)

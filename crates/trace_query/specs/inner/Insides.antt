@@ -29,13 +29,13 @@ abbrev pub AreOutside : ℕ → Processors → Type 0
 AreOutside k known = (p : ℕ) → k ≤ p → sight_in known p ≡ outside
 
 -- what is kept is that of these entries
-pub record Follows (known : Insides) (past : List Entry) : Type 0 where
+pub record InsidesFollow (known : Insides) (past : List Entry) : Type 0 where
   pub sights : (p : ℕ) → sight_in known.processors p ≡ sight past p
   pub most : known.cpus ≤ 256
   pub outside : AreOutside known.cpus known.processors
 
 -- a step is made
-pub record Makes (old : Insides) (step : Option Step) (new : Insides) : Type 0 where
+pub record InsidesMake (old : Insides) (step : Option Step) (new : Insides) : Type 0 where
   pub sights : (p : ℕ) → sight_in new.processors p ≡ sight_after step p (sight_in old.processors p)
   pub most : old.cpus ≤ 256 → new.cpus ≤ 256
   pub outside : AreOutside old.cpus old.processors → AreOutside new.cpus new.processors

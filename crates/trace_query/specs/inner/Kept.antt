@@ -11,7 +11,7 @@ use Rattle.trace_query.specs.Moves.{moves, moves_at}
 use Rattle.trace_query.specs.inner.Lists.{moves_in, HasMoveRoom}
 
 -- the moves are those of these entries
-pub record Follows (known : PageMoves) (past : List Entry) : Type 0 where
+pub record MovesFollow (known : PageMoves) (past : List Entry) : Type 0 where
   pub places : Stands known.places past
   pub lists : (g : Page) → moves_in known.lists g ≡ moves past g
   pub len : known.len ≡ length past
@@ -19,33 +19,33 @@ pub record Follows (known : PageMoves) (past : List Entry) : Type 0 where
 -- ---- room
 
 -- so many moves more of a page need no memory, if it is one
-abbrev pub HasRoomIf : PageMoves → Option Page → ℕ → Type 0
-HasRoomIf known None k = Unit {0}
-HasRoomIf known (Some g) k = HasMoveRoom known.lists g k
+abbrev pub MovesHaveRoomIf : PageMoves → Option Page → ℕ → Type 0
+MovesHaveRoomIf known None k = Unit {0}
+MovesHaveRoomIf known (Some g) k = HasMoveRoom known.lists g k
 
 -- the next entry needs no memory
-pub record HasRoom (known : PageMoves) (e : Entry) : Type 0 where
-  pub places : places.HasRoom known.places e
-  pub former : HasRoomIf known (may_move known.places e).former 2
-  pub named : HasRoomIf known (may_move known.places e).named 2
+pub record MovesHaveRoom (known : PageMoves) (e : Entry) : Type 0 where
+  pub places : places.PlacesHaveRoom known.places e
+  pub former : MovesHaveRoomIf known (may_move known.places e).former 2
+  pub named : MovesHaveRoomIf known (may_move known.places e).named 2
   pub place : known.len + 1 < 2 ^ 64
 
 -- a move needs no memory, if it is one
-abbrev pub HasRoomToNote : PageMoves → Option PageMove → Type 0
-HasRoomToNote known None = Unit {0}
-HasRoomToNote known (Some move) = HasMoveRoom known.lists move.page 1
+abbrev pub MovesHaveRoomToNote : PageMoves → Option PageMove → Type 0
+MovesHaveRoomToNote known None = Unit {0}
+MovesHaveRoomToNote known (Some move) = HasMoveRoom known.lists move.page 1
 
 -- ---- what changes
 
 -- the same is known, and no room is lost
-pub record Keeps (old new : PageMoves) : Type 0 where
+pub record MovesStay (old new : PageMoves) : Type 0 where
   pub places : new.places ≡ old.places
   pub lists : (g : Page) → moves_in new.lists g ≡ moves_in old.lists g
   pub room : (g : Page) (k : ℕ) → HasMoveRoom old.lists g k → HasMoveRoom new.lists g k
   pub len : new.len ≡ old.len
 
 -- a move is noted behind all entries, if it is one
-pub record Notes (old : PageMoves) (move : Option PageMove) (new : PageMoves) : Type 0 where
+pub record NotesMove (old : PageMoves) (move : Option PageMove) (new : PageMoves) : Type 0 where
   pub places : new.places ≡ old.places
   pub lists : (g : Page) → moves_in new.lists g ≡ moves_in old.lists g ++ moves_at old.len (move_of move g)
   pub room : (g : Page) (k : ℕ) → HasMoveRoom old.lists g (k + 1) → HasMoveRoom new.lists g k

@@ -26,7 +26,7 @@ spans [] q = []
 spans (e ∷ past) q = settled (caches (e ∷ past) q.cpu (page_at q.enclave q.number)) (length past + 1) (spans past q)
 
 -- what is kept is that of these entries
-pub record Follows (known : PageSpans) (past : List Entry) : Type 0 where
+pub record SpansFollow (known : PageSpans) (past : List Entry) : Type 0 where
   pub sights : (p : ℕ) → sight_in known.processors p ≡ sight past p
   pub lists : (q : SpanKey) → spans_in known.lists q ≡ spans past q
   pub covers : Covers known.lists
@@ -45,14 +45,14 @@ HasRoomToStep known (Some (Turns p (Some enclave))) = HasPlace known.processors 
 HasRoomToStep known (Some (Fills p n)) = HasRoomInside known p (sight_in known.processors p).enclave n
 
 -- the next entry needs no memory
-pub record HasRoom (known : PageSpans) (e : Entry) : Type 0 where
+pub record SpansHaveRoom (known : PageSpans) (e : Entry) : Type 0 where
   pub step : HasRoomToStep known (step_by e.actor e.event)
   pub place : known.len + 1 < 2 ^ 64
 
 -- ---- what changes
 
 -- the same is known
-pub record Keeps (old new : PageSpans) : Type 0 where
+pub record SpansStay (old new : PageSpans) : Type 0 where
   pub sights : (p : ℕ) → sight_in new.processors p ≡ sight_in old.processors p
   pub lists : (q : SpanKey) → spans_in new.lists q ≡ spans_in old.lists q
   pub covers : Covers old.lists → Covers new.lists
@@ -75,7 +75,7 @@ spans_after (Some (Turns p to)) place seen q before = ended_of (seen p).enclave 
 spans_after (Some (Fills p n)) place seen q before = spans_filled (filled (seen p) n) place p n q before
 
 -- a step is made at the place behind all entries
-pub record Makes (old : PageSpans) (step : Option Step) (new : PageSpans) : Type 0 where
+pub record SpansMake (old : PageSpans) (step : Option Step) (new : PageSpans) : Type 0 where
   pub sights : (p : ℕ) → sight_in new.processors p ≡ sight_after step p (sight_in old.processors p)
   pub lists : (q : SpanKey) → spans_in new.lists q ≡ spans_after step old.len (sight_in old.processors) q (spans_in old.lists q)
   pub covers : Covers old.lists → Covers new.lists

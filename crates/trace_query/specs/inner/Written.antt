@@ -20,7 +20,6 @@ use Rattle.trace_query.specs.declared.word_lists.Change.{Change}
 use Rattle.trace_query.specs.declared.page_words.Added.{Added}
 use Rattle.trace_query.specs.declared.page_words.Taken.{Taken}
 use Rattle.trace_query.specs.declared.page_words.PageWords.{PageWords}
-use Rattle.sgx_types.specs.Pages.{same_page}
 use Rattle.trace_query.specs.inner.WordLists.{same_word, changes_in, value_at, HasWordRoom}
 
 -- ---- which instructions flat memory is asked for
@@ -75,7 +74,7 @@ word_by None changes n k = None
 word_by (Some new) changes n k = if nat_le new.place n then Some (value_at (slice_index (first_words new.init) k) changes n) else None
 
 -- what is kept is that of these entries
-pub record Follows (known : PageWords) (past : List Entry) : Type 0 where
+pub record WordsFollow (known : PageWords) (past : List Entry) : Type 0 where
   pub memory : memory_of known.flat ≡ flat past
   pub added : (g : Page) → added_in known g ≡ added past g
   pub lists : (w : WordAt) → changes_in known.lists w ≡ changes past w
@@ -83,18 +82,18 @@ pub record Follows (known : PageWords) (past : List Entry) : Type 0 where
 
 -- ---- room
 
-abbrev pub HasRoomIf : PageWords → Option WordAt → ℕ → Type 0
-HasRoomIf known None k = Unit {0}
-HasRoomIf known (Some at) k = HasWordRoom known.lists at k
+abbrev pub WordsHaveRoomIf : PageWords → Option WordAt → ℕ → Type 0
+WordsHaveRoomIf known None k = Unit {0}
+WordsHaveRoomIf known (Some at) k = HasWordRoom known.lists at k
 
 abbrev pub HasRoomForPage : PageWords → Option NewPage → Type 0
 HasRoomForPage known None = Unit {0}
 HasRoomForPage known (Some x) = 1 ≤ spare known.added
 
 -- what was taken can be noted without memory
-pub record HasRoomToNote (known : PageWords) (taken : Taken) : Type 0 where
-  pub first : HasRoomIf known taken.writes.first 2
-  pub second : HasRoomIf known taken.writes.second 2
+pub record WordsHaveRoomToNote (known : PageWords) (taken : Taken) : Type 0 where
+  pub first : WordsHaveRoomIf known taken.writes.first 2
+  pub second : WordsHaveRoomIf known taken.writes.second 2
   pub page : HasRoomForPage known taken.page
 
 abbrev pub IsIndexIf : Option WordAt → Type 0
@@ -109,7 +108,7 @@ pub record AreIndices (writes : Writes) : Type 0 where
 -- ---- what changes
 
 -- the same is known, and no room is lost
-pub record Keeps (old new : PageWords) : Type 0 where
+pub record WordsStay (old new : PageWords) : Type 0 where
   pub memory : memory_of new.flat ≡ memory_of old.flat
   pub added : (g : Page) → added_in new g ≡ added_in old g
   pub lists : (w : WordAt) → changes_in new.lists w ≡ changes_in old.lists w
@@ -127,7 +126,7 @@ pub record Takes (old : PageWords) (after : FlatMemory) (written : Writes) (grow
   pub len : new.len ≡ old.len
 
 -- what a word is now is noted at the place behind all entries, if it is one
-pub record Notes (old : PageWords) (at : Option WordAt) (new : PageWords) : Type 0 where
+pub record NotesWord (old : PageWords) (at : Option WordAt) (new : PageWords) : Type 0 where
   pub memory : new.flat ≡ old.flat
   pub added : new.added ≡ old.added
   pub lists : (w : WordAt) → changes_in new.lists w ≡ changes_in old.lists w ++ noted old.len (memory_of old.flat) at w

@@ -20,7 +20,7 @@ abbrev pub blocked_in : Blocks → ℕ → Blocked
 blocked_in known n = blocked_or (get nat_eq known.frames n)
 
 -- what is kept is that of these entries
-pub record Follows (known : Blocks) (past : List Entry) : Type 0 where
+pub record BlocksFollow (known : Blocks) (past : List Entry) : Type 0 where
   pub entered : (n : ℕ) → (blocked_in known n).entered ≡ was_entered past n
   pub untracked : (n : ℕ) → (blocked_in known n).untracked ≡ untracked past n
 

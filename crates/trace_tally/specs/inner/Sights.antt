@@ -14,8 +14,8 @@ use Rattle.trace_tally.specs.inner.Blocks as blocks
 
 pub record Knows (known : Sights) (past : List Entry) : Type 0 where
   pub places : Stands known.places past
-  pub insides : insides.Follows known.insides past
-  pub blocks : blocks.Follows known.blocks past
+  pub insides : insides.InsidesFollow known.insides past
+  pub blocks : blocks.BlocksFollow known.blocks past
   pub back : (g : Page) → has known.back g ≡ was_back past g
 
 -- a processor is inside the enclave of the page of the frame that is blocked, if one is

@@ -16,7 +16,7 @@ counts_with seen before = record {
   again = more_if seen.again before.again;
 }
 
-pub record Follows (known : Tally) (past : List Entry) : Type 0 where
+pub record TallyFollows (known : Tally) (past : List Entry) : Type 0 where
   pub sights : Knows known.sights past
   pub len : known.len ≡ length past
   pub counts : known.counts ≡ counts past

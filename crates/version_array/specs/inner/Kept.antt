@@ -27,7 +27,7 @@ arrays_of t = record { pages = pages_of t.pages; made = t.made }
 
 -- each page has its slots, each that was made is in a frame or spare, and there is room for all of them among the spare ones; from the
 -- first one on each frame has its place
-pub record IsKept (pages : List (Option (List SlotState))) (spare : List (List SlotState)) (made capacity : ℕ) : Type 0 where
+pub record AreArraysKept (pages : List (Option (List SlotState))) (spare : List (List SlotState)) (made capacity : ℕ) : Type 0 where
   pub sized : IsVaTable pages
   pub spared : All (λ page. length page ≡ 512) spare
   pub counted : pages_made pages + length spare ≡ made
@@ -36,4 +36,4 @@ pub record IsKept (pages : List (Option (List SlotState))) (spare : List (List S
   pub places : 0 < made → length pages ≡ MOST_FRAMES
 
 abbrev pub IsCounted : Inside → Type 0
-IsCounted t = IsKept (pages_of t.pages) (spare_of t.spare) t.made (room_of t.spare)
+IsCounted t = AreArraysKept (pages_of t.pages) (spare_of t.spare) t.made (room_of t.spare)

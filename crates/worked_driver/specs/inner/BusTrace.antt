@@ -4,7 +4,7 @@ use Rattle.sgx_rules.specs.declared.entries.BusWhy.TheVariants as reasons
 use Rattle.sgx_rules.specs.declared.entries.Entry.{Entry}
 use Rattle.job_grammar.specs.Jobs.{JobView}
 use Rattle.worked_driver.specs.inner.TightJob.{loads_page, reads_page, tight_job}
-use Rattle.worked_driver.specs.inner.Words.{back, back_refused, bus}
+use Rattle.worked_driver.specs.inner.Words.{back_refused, bus}
 use Rattle.worked_traces.specs.inner.Traces.{cpu}
 
 -- seven frames; the record of page 2 comes back with bit 192 inverted, which no rule here looks at

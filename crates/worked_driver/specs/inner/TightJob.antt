@@ -9,7 +9,7 @@ use Rattle.job_grammar.specs.declared.jobs.Op.TheVariants as ops
 use Rattle.job_grammar.specs.declared.jobs.PageLine.TheVariants as lines
 use Rattle.job_grammar.specs.Jobs.{JobView, default_marks}
 use Rattle.worked_driver.specs.inner.Words.{add_reg, add_tcs, aex, age, back, block, create, enter, init}
-use Rattle.worked_driver.specs.inner.Words.{load, out, refused, start_back, start_out, track, try_refused}
+use Rattle.worked_driver.specs.inner.Words.{out, start_back, start_out, track, try_refused}
 use Rattle.worked_traces.specs.inner.Traces.{cpu, epa, rw_perm}
 
 -- one enclave of a TCS page and seven others in seven frames, and one processor

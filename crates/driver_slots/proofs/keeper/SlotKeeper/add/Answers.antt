@@ -3,7 +3,7 @@ use Rattle.std.specs.List.{All}
 use Rattle.std.proofs.lemmas.List.{length_push}
 use Rattle.std.proofs.lemmas.List.Elements.{All-push}
 use Rattle.driver_slots.specs.inner.Keeper.{ArrayView, is_added, IsArray, Keeper}
-use Rattle.driver_slots.specs.inner.KeeperKept.{AreApart, keeper_of}
+use Rattle.driver_slots.specs.inner.KeeperKept.{ArraysAreApart, keeper_of}
 use Rattle.driver_slots.proofs.ArrayLaws.{array_from}
 use Rattle.driver_slots.proofs.KeeperLaws.{adds}
 use Rattle.driver_slots.proofs.WriteLaws.{all_but_last, apart_more, with_arrays}
@@ -21,7 +21,7 @@ invariant_of-self c =
     let xs : List ArrayView = c.self.inside.arrays.items in
     let p = c.push_reserved.ensures in
     record {
-      apart = subst AreApart (sym p.items) (apart_more xs c.args.va c.new.result c.self.invariant.apart c.new.ensures.va (fresh c));
+      apart = subst ArraysAreApart (sym p.items) (apart_more xs c.args.va c.new.result c.self.invariant.apart c.new.ensures.va (fresh c));
       arrays = subst (All IsArray) (sym p.items) (All-push IsArray xs c.new.result c.self.invariant.arrays (fits c));
       maps = all_but_last c.self.inside.maps.items c.pop.new.self.items c.in-Some.all c.in-Some.ensures.items c.self.invariant.maps;
       fits = omega (

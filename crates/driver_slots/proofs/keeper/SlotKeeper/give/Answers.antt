@@ -2,7 +2,7 @@ use Rattle.std.proofs.Common.{◌≡◌, ◌∙◌, ◌<◌, ◌+◌, ℕ, subst
 use Rattle.std.specs.List.{All, find}
 use Rattle.std.proofs.lemmas.List.{length-set}
 use Rattle.driver_slots.specs.inner.Keeper.{ArrayView, Gives, is_free_at, is_in, is_of, is_out, IsArray, va_slot}
-use Rattle.driver_slots.specs.inner.KeeperKept.{AreApart, keeper_of}
+use Rattle.driver_slots.specs.inner.KeeperKept.{ArraysAreApart, keeper_of}
 use Rattle.driver_slots.proofs.ArrayLaws.{gives_array}
 use Rattle.driver_slots.proofs.KeeperLaws.{gives}
 use Rattle.driver_slots.proofs.WriteLaws.{apart_still, arrays_still, fits_there, found_is, in_from, in_low, IsFound, IsPlace}
@@ -46,7 +46,7 @@ fits c = gives_array (page c) c.args.at.index (fits_there c.self.inside.arrays.i
 
 pub invariant_of-self : goal.invariant_of-self
 invariant_of-self c = record {
-  apart = subst (λ y. AreApart (set c.self.inside.arrays.items c.place_of-place.result y)) (sym c.give.ensures)
+  apart = subst (λ y. ArraysAreApart (set c.self.inside.arrays.items c.place_of-place.result y)) (sym c.give.ensures)
       (apart_still c.self.inside.arrays.items c.place_of-place.result (page c) (behind c) (there c) refl);
   arrays = subst (λ y. All IsArray (set c.self.inside.arrays.items c.place_of-place.result y)) (sym c.give.ensures)
       (arrays_still c.self.inside.arrays.items c.place_of-place.result (page c) (behind c) (there c) refl refl (fits c));

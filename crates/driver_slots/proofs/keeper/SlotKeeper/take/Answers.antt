@@ -2,7 +2,7 @@ use Rattle.std.proofs.Common.{◌≡◌, ◌∙◌, ◌<◌, ℕ, ap, subst, sym
 use Rattle.std.specs.List.{All}
 use Rattle.std.proofs.lemmas.List.{length-set}
 use Rattle.driver_slots.specs.inner.Keeper.{AllOut, ArrayView, IsArray, IsLeast, Takes, va_slot}
-use Rattle.driver_slots.specs.inner.KeeperKept.{AreApart, keeper_of}
+use Rattle.driver_slots.specs.inner.KeeperKept.{ArraysAreApart, keeper_of}
 use Rattle.driver_slots.specs.inner.Least.{is_full_at, IsLeastAt}
 use Rattle.driver_slots.proofs.ArrayLaws.{least_passes, takes_array}
 use Rattle.driver_slots.proofs.KeeperLaws.{all_out, is_least, no_array, takes}
@@ -43,7 +43,7 @@ fits c = takes_array (page c) c.take_least-index.result (fits_there c.self.insid
 
 pub invariant_of-self : goal.invariant_of-self
 invariant_of-self c = record {
-  apart = subst (λ y. AreApart (set c.self.inside.arrays.items c.in_ok-place.place y)) (sym c.take_least-index.ensures.new)
+  apart = subst (λ y. ArraysAreApart (set c.self.inside.arrays.items c.in_ok-place.place y)) (sym c.take_least-index.ensures.new)
       (apart_still c.self.inside.arrays.items c.in_ok-place.place (page c) (behind c) (there c) refl);
   arrays = subst (λ y. All IsArray (set c.self.inside.arrays.items c.in_ok-place.place y)) (sym c.take_least-index.ensures.new)
       (arrays_still c.self.inside.arrays.items c.in_ok-place.place (page c) (behind c) (there c) refl refl (fits c));

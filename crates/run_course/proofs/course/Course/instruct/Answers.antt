@@ -2,7 +2,7 @@ use Rattle.std.proofs.Common.{◌≡◌, false, reverse, ◌≤◌, ◌∷◌, s
 use Rattle.driver_tables.specs.inner.Carried.{Carries}
 use Rattle.driver_tables.specs.declared.driver.Driver.{Driver}
 use Rattle.sgx_machine.specs.inner.Parts.{state_of}
-use Rattle.due_notes.specs.inner.Arrays.{KeepsArrays}
+use Rattle.due_notes.specs.inner.Arrays.{KeepsKeeper}
 use Rattle.run_course.specs.declared.course.Course.{Course}
 use Rattle.run_course.specs.inner.Courses.{past_of}
 use Rattle.run_course.proofs.EndedLaws.{ends_told, none_fail}
@@ -66,7 +66,7 @@ returns-clause-more c = λ can.
     })
     (first_behind s can.told can.spare e can.keeps enters.made.next.age)
     (subst (λ n. n ≤ can.spare) (sym c.take_in.ensures.places) can.keeps.places)
-    (subst (λ k. KeepsArrays s.job k (e ∷ past_of s)) (sym (ap (λ (d : Driver). d.slots) c.take_in.ensures.driver)) noted.arrays)
+    (subst (λ k. KeepsKeeper s.job k (e ∷ past_of s)) (sym (ap (λ (d : Driver). d.slots) c.take_in.ensures.driver)) noted.arrays)
     (ends_told (past_of s) e quiet can.keeps.ends)
     (record {
       none = none_fail (past_of s) e quiet can.keeps.clear.none;

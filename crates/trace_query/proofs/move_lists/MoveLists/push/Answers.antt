@@ -19,7 +19,8 @@ returns-in-Some-clause-moves c = λ g.
     let here : get same_page c.args.self.now.lists c.args.page ≡ Some c.in-Some.list.now = sym c.in-Some.ensures.value in
     let changes = (c.get_mut.follows.holds c.add.new.list).3 (search here) in
     written same_page items_of (λ xs. xs ++ c.args.step ∷ []) c.args.page g (get same_page c.args.self.now.lists)
-    (get same_page (c.get_mut.follows.lender c.add.new.list)) c.in-Some.list.now c.add.new.list same_pages here c.add.ensures.items changes.0
+    (get same_page (c.get_mut.follows.lender c.add.new.list)) c.in-Some.list.now c.add.new.list same_pages here
+    c.add.ensures.items changes.0
 
 pub returns-in-Some-clause-room : goal.returns-in-Some-clause-room
 returns-in-Some-clause-room c = λ g k.
